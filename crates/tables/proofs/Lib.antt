@@ -1,0 +1,10 @@
+pub mod Laws
+pub mod TextLaws
+pub mod PageLaws
+pub mod NumberLaws
+pub mod LetterLaws
+pub mod TableLaws
+pub mod Digits
+pub mod Pins
+pub mod RowLaws
+pub mod Rows

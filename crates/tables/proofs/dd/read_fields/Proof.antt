@@ -1,0 +1,79 @@
+use borrow.Author.Needs.{needs}
+use borrow.Author.Tests.{lt-ltb, le-ltb}
+use Rattle.tables.specs.Tables.{fieldsRow}
+use Rattle.tables.proofs.dd.read_fields.Statement.{statement}
+use Rattle.tables.proofs.dd.read_fields.Tie as tie
+use Rattle.tables.proofs.dd.read_fields.Reads as reads
+use Rattle.tables.proofs.dd.read_fields.Lts as lts
+use Rattle.tables.proofs.dd.cell_of.Reads as cell-of-reads
+use Rattle.tables.proofs.letters.seat_of.Reads as seat-of-reads
+use Rattle.tables.proofs.letters.strain_of.Reads as strain-of-reads
+use Rattle.tables.proofs.numbers.read_number.Reads as read-number-reads
+use Rattle.tables.proofs.text.first_character.Reads as first-character-reads
+
+first-character-requires : tie.Need-first-character-requires
+first-character-requires c κs = search needs
+
+seat-of-requires : tie.Need-seat-of-requires
+seat-of-requires c κs = search needs
+
+returns : tie.Need-returns
+unfolding fieldsRow
+returns c =
+    rw (← c .before .before .first-character .ensures, ← c .before .seat-of .ensures .0, lt-ltb _ _ (c .if1 .taken))
+
+strain-of-requires : tie.Need-strain-of-requires
+strain-of-requires c κs = search needs
+
+returns-2 : tie.Need-returns-2
+unfolding fieldsRow
+returns-2 c =
+    rw (← c .before .before .before .before .first-character .ensures, ← c .before .before .before .seat-of .ensures .0, le-ltb _ _ (c .before .before .if1 .left), ← c .before .strain-of .ensures .0, lt-ltb _ _ (c .if2 .taken))
+
+read-number-requires : tie.Need-read-number-requires
+read-number-requires c κs = search needs
+
+enum-known-v : tie.Need-enum-known-v
+enum-known-v c = search needs
+
+enum-told : tie.Need-enum-told
+enum-told c = search needs
+
+returns-3 : tie.Need-returns-3
+unfolding fieldsRow
+returns-3 c =
+    rw (← c .before .before .before .before .before .before .before .first-character .ensures, ← c .before .before .before .before .before .before .seat-of .ensures .0, le-ltb _ _ (c .before .before .before .before .before .if1 .left), ← c .before .before .before .before .strain-of .ensures .0, le-ltb _ _ (c .before .before .before .if2 .left), ← c .before .before .read-number .ensures .0, c .enum-told .given .1)
+
+returns-4 : tie.Need-returns-4
+unfolding fieldsRow
+returns-4 c =
+    rw (← c .before .before .before .before .before .before .before .before .before .first-character .ensures, ← c .before .before .before .before .before .before .before .before .seat-of .ensures .0, le-ltb _ _ (c .before .before .before .before .before .before .before .if1 .left), ← c .before .before .before .before .before .before .strain-of .ensures .0, le-ltb _ _ (c .before .before .before .before .before .if2 .left), ← c .before .before .before .before .read-number .ensures .0, c .before .before .v .given .1, lt-ltb _ _ (c .if3 .taken))
+
+cell-of-requires : tie.Need-cell-of-requires
+cell-of-requires c κs = search needs
+
+cast-t9 : tie.Need-cast-t9
+cast-t9 c = search needs
+
+returns-5 : tie.Need-returns-5
+unfolding fieldsRow
+returns-5 c =
+    rw (← c .before .before .before .before .before .before .before .before .before .before .first-character .ensures, ← c .before .before .before .before .before .before .before .before .before .seat-of .ensures .0, le-ltb _ _ (c .before .before .before .before .before .before .before .before .if1 .left), ← c .before .before .before .before .before .before .before .strain-of .ensures .0, le-ltb _ _ (c .before .before .before .before .before .before .if2 .left), ← c .before .before .before .before .before .read-number .ensures .0, c .before .before .before .v .given .1, le-ltb _ _ (c .before .if3 .left), ← c .cell-of .ensures)
+
+pub read-fields-spec : {M : Type 1} → statement M
+read-fields-spec =
+    tie.close
+    (tie.spec
+    first-character-requires
+    seat-of-requires
+    returns
+    strain-of-requires
+    returns-2
+    read-number-requires
+    enum-known-v
+    enum-told
+    returns-3
+    returns-4
+    cell-of-requires
+    cast-t9
+    returns-5)

@@ -1,0 +1,44 @@
+use Rattle.tables.proofs.NumberLaws.{number-is}
+use borrow.Author.Tests.{eq-eqb, ne-eqb}
+use denote.Ref.{now}
+use borrow.Author.Needs.{needs}
+use Rattle.tables.proofs.numbers.read_number.Statement.{statement}
+use Rattle.tables.proofs.numbers.read_number.Tie as tie
+use Rattle.tables.proofs.numbers.read_number.Reads as reads
+use Rattle.tables.proofs.numbers.read_number.Lts as lts
+use Rattle.tables.proofs.numbers.some_digits.Reads as some-digits-reads
+use Rattle.tables.proofs.text.byte_at.Reads as byte-at-reads
+use Rattle.tables.proofs.text.from.Reads as from-reads
+
+byte-at-requires : tie.Need-byte-at-requires
+byte-at-requires c κs = search needs
+
+from-requires : tie.Need-from-requires
+from-requires c κs = search needs
+
+some-digits-requires : tie.Need-some-digits-requires
+some-digits-requires c κs = search needs
+
+returns : tie.Need-returns
+returns c =
+    let a = c .before .before .before .before .before .args in
+    (rw (number-is (a .limit) (now (a .s)), ← c .before .before .before .byte-at .ensures, eq-eqb _ _ (c .before .before .if1 .taken), ← c .before .from .ensures) (c .some-digits .ensures .0), c .some-digits .ensures .1)
+
+some-digits-requires-2 : tie.Need-some-digits-requires-2
+some-digits-requires-2 c κs = search needs
+
+returns-2 : tie.Need-returns-2
+returns-2 c =
+    let a = c .before .before .before .before .args in
+    (rw (number-is (a .limit) (now (a .s)), ← c .before .before .byte-at .ensures, ne-eqb _ _ (c .before .if1 .left)) (c .some-digits2 .ensures .0), c .some-digits2 .ensures .1)
+
+pub read-number-spec : {M : Type 1} → statement M
+read-number-spec =
+    tie.close
+    (tie.spec
+    byte-at-requires
+    from-requires
+    some-digits-requires
+    returns
+    some-digits-requires-2
+    returns-2)

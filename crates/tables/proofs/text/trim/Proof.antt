@@ -1,0 +1,21 @@
+use Rattle.tables.specs.Text.{trimmed}
+use borrow.Author.Needs.{needs}
+use Rattle.tables.proofs.text.trim.Statement.{statement}
+use Rattle.tables.proofs.text.trim.Tie as tie
+use Rattle.tables.proofs.text.trim.Reads as reads
+use Rattle.tables.proofs.text.trim.Lts as lts
+use Rattle.tables.proofs.text.trim_end.Reads as trim-end-reads
+use Rattle.tables.proofs.text.trim_start.Reads as trim-start-reads
+
+trim-start-requires : tie.Need-trim-start-requires
+trim-start-requires c κs = search needs
+
+trim-end-requires : tie.Need-trim-end-requires
+trim-end-requires c κs = search needs
+
+returns : tie.Need-returns
+unfolding trimmed
+returns c = rw (← c .before .trim-start .ensures) (c .trim-end .ensures)
+
+pub trim-spec : {M : Type 1} → statement M
+trim-spec = tie.close (tie.spec trim-start-requires trim-end-requires returns)

@@ -1,0 +1,66 @@
+//! Compares the product, called through `libgolavimes.a`, with the original
+//! Rust, and records the Rust's answers.
+
+mod guard;
+mod model;
+mod rng;
+mod shrink;
+mod tables;
+
+use std::process::ExitCode;
+
+const USAGE: &str = "\
+usage: compare tables [--seed N]
+       compare record tables PATH [--seed N]";
+
+/// The seed of every run that names no other.
+const SEED: u64 = 20_240_501;
+
+fn main() -> ExitCode {
+    let mut words: Vec<String> = std::env::args().skip(1).collect();
+    let seed = match take_seed(&mut words) {
+        Ok(seed) => seed,
+        Err(error) => return bad_usage(&error),
+    };
+    let words: Vec<&str> = words.iter().map(String::as_str).collect();
+    match words[..] {
+        ["tables"] => exit(tables::run(seed)),
+        ["record", "tables", path] => match tables::record::run(seed, path.as_ref()) {
+            Ok(()) => ExitCode::SUCCESS,
+            Err(error) => {
+                eprintln!("compare: {path}: {error}");
+                ExitCode::from(2)
+            }
+        },
+        _ => bad_usage(""),
+    }
+}
+
+/// Takes `--seed N` out of the words.
+fn take_seed(words: &mut Vec<String>) -> Result<u64, String> {
+    let Some(at) = words.iter().position(|word| word == "--seed") else {
+        return Ok(SEED);
+    };
+    let seed = words
+        .get(at + 1)
+        .and_then(|word| word.parse().ok())
+        .ok_or("--seed wants a number")?;
+    words.drain(at..at + 2);
+    Ok(seed)
+}
+
+fn exit(agreed: bool) -> ExitCode {
+    if agreed {
+        ExitCode::SUCCESS
+    } else {
+        ExitCode::from(1)
+    }
+}
+
+fn bad_usage(error: &str) -> ExitCode {
+    if !error.is_empty() {
+        eprintln!("compare: {error}");
+    }
+    eprintln!("{USAGE}");
+    ExitCode::from(2)
+}

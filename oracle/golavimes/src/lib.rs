@@ -1,0 +1,118 @@
+//! Safe functions over the C functions of `libgolavimes.a`.
+//!
+//! Every function fills the answer array and returns its first number:
+//! `answer[0]` is the refusal (0 none), `answer[1]` the edition (0 here),
+//! `answer[2]` the number a refusal carries; a writer adds `answer[3]`, the
+//! bytes written. Slices and arrays of the right length are all that the C
+//! functions ask for, so nothing here needs a test before the call.
+//!
+//! Nothing checks these declarations against the library: keep them in step
+//! with its sources.
+
+/// A table: 20 bytes, cells N, S, E, W, each NT, S, H, D, C.
+pub type Table = [u8; 20];
+
+mod c {
+    extern "C" {
+        pub fn golavimes_dd_table_to_pbn(
+            table: *const u8,
+            page: *mut u8,
+            page_len: usize,
+            answer: *mut u64,
+        ) -> u64;
+        pub fn golavimes_optimum_result_table_header(
+            table: *const u8,
+            page: *mut u8,
+            page_len: usize,
+            answer: *mut u64,
+        ) -> u64;
+        pub fn golavimes_optimum_result_table_rows(
+            table: *const u8,
+            page: *mut u8,
+            page_len: usize,
+            answer: *mut u64,
+        ) -> u64;
+        pub fn golavimes_dd_table_from_pbn(
+            value: *const u8,
+            value_len: usize,
+            table: *mut u8,
+            answer: *mut u64,
+        ) -> u64;
+        pub fn golavimes_optimum_result_table_from_rows(
+            rows: *const u8,
+            rows_len: usize,
+            table: *mut u8,
+            answer: *mut u64,
+        ) -> u64;
+    }
+}
+
+/// Writes the table as twenty digits.
+pub fn dd_table_to_pbn(table: &Table, page: &mut [u8], answer: &mut [u64; 4]) -> u64 {
+    // SAFETY: every pointer comes from a live reference, the lengths are
+    // theirs, and the references that are written through are unique.
+    unsafe {
+        c::golavimes_dd_table_to_pbn(
+            table.as_ptr(),
+            page.as_mut_ptr(),
+            page.len(),
+            answer.as_mut_ptr(),
+        )
+    }
+}
+
+/// Writes the header value of the table's OptimumResultTable section.
+pub fn optimum_result_table_header(table: &Table, page: &mut [u8], answer: &mut [u64; 4]) -> u64 {
+    // SAFETY: as in dd_table_to_pbn.
+    unsafe {
+        c::golavimes_optimum_result_table_header(
+            table.as_ptr(),
+            page.as_mut_ptr(),
+            page.len(),
+            answer.as_mut_ptr(),
+        )
+    }
+}
+
+/// Writes the table's twenty rows, an LF after each.
+pub fn optimum_result_table_rows(table: &Table, page: &mut [u8], answer: &mut [u64; 4]) -> u64 {
+    // SAFETY: as in dd_table_to_pbn.
+    unsafe {
+        c::golavimes_optimum_result_table_rows(
+            table.as_ptr(),
+            page.as_mut_ptr(),
+            page.len(),
+            answer.as_mut_ptr(),
+        )
+    }
+}
+
+/// Reads a value of twenty digits.
+pub fn dd_table_from_pbn(value: &[u8], table: &mut Table, answer: &mut [u64; 3]) -> u64 {
+    // SAFETY: as in dd_table_to_pbn.
+    unsafe {
+        c::golavimes_dd_table_from_pbn(
+            value.as_ptr(),
+            value.len(),
+            table.as_mut_ptr(),
+            answer.as_mut_ptr(),
+        )
+    }
+}
+
+/// Reads rows, cut at LF.
+pub fn optimum_result_table_from_rows(
+    rows: &[u8],
+    table: &mut Table,
+    answer: &mut [u64; 3],
+) -> u64 {
+    // SAFETY: as in dd_table_to_pbn.
+    unsafe {
+        c::golavimes_optimum_result_table_from_rows(
+            rows.as_ptr(),
+            rows.len(),
+            table.as_mut_ptr(),
+            answer.as_mut_ptr(),
+        )
+    }
+}
