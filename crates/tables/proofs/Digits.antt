@@ -7,11 +7,12 @@ use mathlib.Core.Option.{none}
 use native.Mathlib.Omega.{arith}
 use lib.Dec.{leb, ltb, eqb}
 use lib.ListN.{length, length-map}
-use borrow.Author.Tests.{eqb-true, eqb-false, eq-eqb, ne-eqb, le-ltb, ltb-true, leb-true, le-leb, lt-leb}
+use borrow.Author.Tests.{eqb-true, eqb-false, eq-eqb, le-ltb, ltb-true, leb-true, lt-leb}
 use Rattle.tables.specs.Text.{isWhite, trimEnd, trimmed, isInside, single, starts, characters}
 use Rattle.tables.specs.Letters.{every}
 use Rattle.tables.specs.Tables.{holds, digitByte, digitOf, digitsText, firstBad, digitsReading, tableOfDigits}
 use Rattle.tables.proofs.Laws.{by-cases, both}
+use Rattle.tables.proofs.TextLaws.{above-white}
 
 -- A finite check: a test that holds for every number below n.
 abbrev pub below : (ℕ → Bool) → ℕ → Bool
@@ -25,6 +26,12 @@ at-each p (suc n) e k h =
     by-cases (eqb k n)
     (λ t. rw (eqb-true k n t) (g .0))
     (λ t. at-each p n (g .1) k (omega (arith, eqb-false k n t)))
+
+-- The first cell is at most 13, and so are the others.
+pub small-cells : (t : ℕ) (ts : List ℕ) → every (λ t. leb t 13) (t ∷ ts) ≡ true → (t ≤ 13) × (every (λ t. leb t 13) ts ≡ true)
+small-cells t ts e =
+    let h = both (leb t 13) (every (λ t. leb t 13) ts) e in
+    (leb-true t 13 (h .0), h .1)
 
 -- ---- a digit
 
@@ -43,10 +50,7 @@ digit-range t =
 
 -- A digit is no white space and stands inside no character.
 digit-word : (t : ℕ) → isWhite (digitByte t) ≡ false
-unfolding isWhite
-digit-word t =
-    let h = digit-range t in
-    rw (le-leb 9 (digitByte t) (omega arith), lt-leb (digitByte t) 13 (omega arith), ne-eqb (digitByte t) 32 (λ e. omega arith))
+digit-word t = above-white (digitByte t) (omega (arith, digit-range t .0))
 
 digit-alone : (t : ℕ) → isInside (digitByte t) ≡ false
 unfolding isInside
@@ -79,15 +83,14 @@ digits-characters (t ∷ ts) = rw (digit-single t ts, digits-starts ts)
 digits-good : (ts : List ℕ) (i : ℕ) → every (λ t. leb t 13) ts ≡ true → firstBad (digitsText ts) i ≡ none
 digits-good [] i e = refl
 digits-good (t ∷ ts) i e =
-    let h = both (leb t 13) (every (λ t. leb t 13) ts) e in
-    let l = leb-true t 13 (h .0) in
-    rw (digit-back t l, le-ltb 13 t l) (digits-good ts (i + 1) (h .1))
+    let h = small-cells t ts e in
+    rw (digit-back t (h .0), le-ltb 13 t (h .0)) (digits-good ts (i + 1) (h .1))
 
 digits-values : (ts : List ℕ) → every (λ t. leb t 13) ts ≡ true → map digitOf (digitsText ts) ≡ ts
 digits-values [] e = refl
 digits-values (t ∷ ts) e =
-    let h = both (leb t 13) (every (λ t. leb t 13) ts) e in
-    rw (digit-back t (leb-true t 13 (h .0)), digits-values ts (h .1))
+    let h = small-cells t ts e in
+    rw (digit-back t (h .0), digits-values ts (h .1))
 
 -- ---- the theorems
 

@@ -1,7 +1,7 @@
 -- Laws of letters: what is written is read back, in either case, by every accepted set of letters.
 use Prim.Native.Nat.{ℕ, zero, suc, _+_, _-_, _≤_, _<_}
-use mathlib.Core.Path.{_≡_, refl, sym, ap, _∙_}
-use mathlib.Core.Bool.{Bool, true, false, cond, not, _&&_, _||_}
+use mathlib.Core.Path.{_≡_, refl, sym, ap}
+use mathlib.Core.Bool.{Bool, true, false, cond, not, _&&_}
 use mathlib.Core.List.{List, [], _∷_}
 use native.Mathlib.Omega.{arith}
 use lib.Dec.{leb, ltb, eqb}
@@ -9,9 +9,9 @@ use lib.ListN.{length, take, drop, getD, length-take, length-drop}
 use lib.Seq.{getD-take, getD-drop}
 use borrow.Author.Tests.{eqb-true, eqb-false, eq-eqb, ne-eqb, lt-ltb, le-ltb, ltb-true, ltb-false, leb-true, le-leb, lt-leb, not-true}
 use Rattle.tables.specs.declared.letters.Conventions.{Conventions}
-use Rattle.tables.specs.Text.{isWhite, before}
-use Rattle.tables.specs.Letters.{Accepted, builtIn, isCapital, capital, indexIn, seatOf, suitOf, honourOf, rankOf, strainOf, suitStrain, seatLetter, suitLetter, strainToken, rankLetter, seatLetters, suitLetters, honourLetters, every, among, distinct, isPlain}
+use Rattle.tables.specs.Letters.{Accepted, builtIn, isCapital, capital, indexIn, seatOf, suitOf, honourOf, rankOf, strainOf, suitStrain, seatLetter, suitLetter, strainToken, rankLetter, suitLetters, every, among, distinct, isPlain}
 use Rattle.tables.proofs.Laws.{by-cases, both, neither}
+use Rattle.tables.proofs.TextLaws.{above-white}
 
 -- ---- tokens of one and two bytes
 
@@ -56,10 +56,10 @@ capital-small b e =
     rw (le-ltb (b + 32) 97 (omega arith), le-ltb 122 (b + 32) (omega arith), d)
 
 pub capital-plain : (b : ℕ) → isCapital b ≡ true → isPlain b ≡ true
-unfolding isPlain isWhite
+unfolding isPlain
 capital-plain b e =
     let h = capital-range b e in
-    rw (le-leb 9 b (omega arith), lt-leb b 13 (omega arith), ne-eqb b 32 (λ k. omega arith), ne-eqb b 34 (λ k. omega arith), ne-eqb b 91 (λ k. omega arith), ne-eqb b 93 (λ k. omega arith), ne-eqb b 58 (λ k. omega arith), ne-eqb b 46 (λ k. omega arith), le-leb 48 b (omega arith), lt-leb b 57 (omega arith))
+    rw (above-white b (omega arith), ne-eqb b 34 (λ k. omega arith), ne-eqb b 91 (λ k. omega arith), ne-eqb b 93 (λ k. omega arith), ne-eqb b 58 (λ k. omega arith), ne-eqb b 46 (λ k. omega arith), le-leb 48 b (omega arith), lt-leb b 57 (omega arith))
 
 -- ---- places in a list
 

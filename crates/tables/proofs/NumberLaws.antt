@@ -1,14 +1,13 @@
 -- Laws of numbers in a text.
 use Prim.Native.Nat.{ℕ, zero, suc, _+_, _-_, _*_, _/_, _%_, _^_, _≤_, _<_}
-use mathlib.Core.Path.{_≡_, refl, sym, ap, _∙_}
-use mathlib.Core.Bool.{Bool, true, false, cond}
+use mathlib.Core.Path.{_≡_, refl, ap, _∙_}
+use mathlib.Core.Bool.{cond}
 use mathlib.Core.List.{List, [], _∷_}
 use native.Mathlib.Omega.{arith}
-use native.Mathlib.Nat.{pow-succ', pow-zero}
+use native.Mathlib.Nat.{pow-succ'}
 use lib.Dec.{ltb, eqb}
 use lib.ListN.{length, drop, getD}
 use borrow.Author.Tests.{ltb-true, ltb-false, le-ltb, ne-eqb}
-use Rattle.tables.specs.declared.numbers.Number.{Number}
 use Rattle.tables.specs.declared.numbers.Number.the-variants.{Value, Bad}
 use Rattle.tables.specs.Numbers.{digitsFrom, someDigits, numberOf, signedOf, raised, lowered, digits, decimal}
 use Rattle.tables.proofs.Laws.{by-cases}
@@ -61,17 +60,17 @@ pub record Starts (s : List ℕ) : Type 0 where
   pub low : 48 ≤ first
   pub high : first ≤ 57
 
-digits-start : (f n : ℕ) (acc : List ℕ) → Starts (digits f n acc)
+digits-begin : (f n : ℕ) (acc : List ℕ) → Starts (digits f n acc)
 unfolding digits
-digits-start zero n acc = record { first = 48 + n % 10; others = acc; is = refl; low = omega arith; high = omega arith }
-digits-start (suc f) n acc =
+digits-begin zero n acc = record { first = 48 + n % 10; others = acc; is = refl; low = omega arith; high = omega arith }
+digits-begin (suc f) n acc =
     by-cases (ltb n 10)
     (λ t. rw t (record { first = 48 + n % 10; others = acc; is = refl; low = omega arith; high = omega arith }))
-    (λ t. rw t (digits-start f (n / 10) ((48 + n % 10) ∷ acc)))
+    (λ t. rw t (digits-begin f (n / 10) ((48 + n % 10) ∷ acc)))
 
 pub decimal-starts : (n : ℕ) → Starts (decimal n)
 unfolding decimal
-decimal-starts n = digits-start 9 n []
+decimal-starts n = digits-begin 9 n []
 
 number-digits : (limit : ℕ) (s : List ℕ) → Starts s → numberOf limit s ≡ digitsFrom limit s 0
 number-digits limit s t =

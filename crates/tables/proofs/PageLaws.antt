@@ -1,13 +1,13 @@
 -- Laws of texts put one after the other on a page.
-use Prim.Native.Nat.{ℕ, zero, suc, _+_, _-_, _*_, _/_, _%_, _≤_, _<_}
+use Prim.Native.Nat.{ℕ, zero, suc, _+_, _-_, _/_, _%_, _≤_, _<_}
 use mathlib.Core.Path.{_≡_, refl, sym, ap, _∙_}
-use mathlib.Core.Bool.{Bool, true, false, cond}
+use mathlib.Core.Bool.{cond}
 use mathlib.Core.List.{List, [], _∷_, _++_, append-assoc, append-nil}
 use native.Mathlib.Nat.{add-zero, le-of-eq}
 use native.Mathlib.Numerals.{add-one}
 use native.Mathlib.Omega.{arith}
 use lib.Dec.{ltb, leb}
-use lib.ListN.{length, drop, take, getD, set, replicate, length-append, length-replicate, length-set, length-drop, drop-of-length-le}
+use lib.ListN.{length, drop, take, set, replicate, length-append, length-replicate, length-set, length-drop, drop-of-length-le}
 use lib.Seq.{sets, sets-eq, length-sets, drop-cons, take-append-seam, getD-set-same, drop-set-lt, take-suc-set, take-all}
 use borrow.Author.Tests.{leb-true, lt-ltb, le-ltb}
 use Rattle.tables.specs.declared.page.Written.{Written}
@@ -94,12 +94,10 @@ digits-on n k m d buf z hk el inv h ed =
 digits-few : (k m : ℕ) (acc : List ℕ) → length (digits k m acc) ≤ suc k + length acc
 unfolding digits
 digits-few zero m acc = omega arith
-digits-few (suc k) m acc = go (ltb m 10) (digits-few k (m / 10) ((48 + m % 10) ∷ acc))
-  where
-    go : (b : Bool) → length (digits k (m / 10) ((48 + m % 10) ∷ acc)) ≤ suc k + suc (length acc)
-        → length (cond b ((48 + m % 10) ∷ acc) (digits k (m / 10) ((48 + m % 10) ∷ acc))) ≤ suc (suc k) + length acc
-    go true h = omega arith
-    go false h = omega arith
+digits-few (suc k) m acc =
+    by-cases (ltb m 10)
+    (λ t. rw t (omega arith))
+    (λ t. rw t (omega (arith, digits-few k (m / 10) ((48 + m % 10) ∷ acc))))
 
 pub decimal-few : (n : ℕ) → length (decimal n) ≤ 10
 unfolding decimal

@@ -7,7 +7,7 @@ use native.Mathlib.Omega.{arith}
 use lib.Dec.{leb, ltb, eqb}
 use lib.ListN.{length, getD, replicate, length-set}
 use lib.Seq.{getD-set-other}
-use borrow.Author.Tests.{eqb-true, eqb-false, eq-eqb, ne-eqb, ltb-true, leb-true, not-true}
+use borrow.Author.Tests.{eqb-true, eqb-false, eq-eqb, ne-eqb, ltb-true, not-true}
 use Rattle.tables.specs.declared.dd.Row.{Row}
 use Rattle.tables.specs.declared.dd.Row.the-variants.{Blank, Cell, Fault}
 use Rattle.tables.specs.declared.refusal.Refusal.{Refusal}
@@ -21,9 +21,10 @@ use Rattle.tables.specs.Letters.{Accepted, every, isPlain, seatOf, strai
 use Rattle.tables.specs.Page.{right}
 use Rattle.tables.specs.Tables.{Reading, holds, rowOrder, cellOf, columnText, rowText, resultRow, fieldsRow, rowWith, rowOf, storedRow, missing, gathered, unless}
 use Rattle.tables.proofs.Laws.{by-cases, both, clash, neither}
+use Rattle.tables.proofs.TextLaws.{above-white}
 use Rattle.tables.proofs.LetterLaws.{letter-plain}
 use Rattle.tables.proofs.NumberLaws.{decimal-starts}
-use Rattle.tables.proofs.Digits.{at-each}
+use Rattle.tables.proofs.Digits.{at-each, small-cells}
 
 -- ---- tests on every byte
 
@@ -92,8 +93,7 @@ unfolding isPlain
 plain-word b e = rw (neither (isWhite b) _ (not-true _ e) .0)
 
 digit-is-word : (d : ℕ) → d < 10 → isWord (48 + d) ≡ true
-unfolding isWhite
-digit-is-word d h = at-each (λ k. isWord (48 + k)) 10 refl d h
+digit-is-word d h = rw (above-white (48 + d) (omega arith))
 
 -- A number to the right is one field, its digits.
 pub right-field : (w n : ℕ) → fields (right w (decimal n)) ≡ decimal n ∷ []
@@ -209,13 +209,13 @@ gathered-holds cells e = by-cases (eqb (missing cells) 0) (λ t. let h = rw t at
 none-missing : (cells : List ℕ) → every (λ t. leb t 13) cells ≡ true → missing cells ≡ 0
 none-missing [] e = refl
 none-missing (t ∷ ts) e =
-    let h = both (leb t 13) (every (λ t. leb t 13) ts) e in
-    rw (ne-eqb t 255 (λ k. omega (arith, leb-true t 13 (h .0)))) (none-missing ts (h .1))
+    let h = small-cells t ts e in
+    rw (ne-eqb t 255 (λ k. omega (arith, h .0))) (none-missing ts (h .1))
 
 pub cell-small : (cells : List ℕ) (k : ℕ) → every (λ t. leb t 13) cells ≡ true → getD cells k 0 ≤ 13
 cell-small [] k e = omega arith
-cell-small (t ∷ ts) zero e = leb-true t 13 (both (leb t 13) (every (λ t. leb t 13) ts) e .0)
-cell-small (t ∷ ts) (suc k) e = cell-small ts k (both (leb t 13) (every (λ t. leb t 13) ts) e .1)
+cell-small (t ∷ ts) zero e = small-cells t ts e .0
+cell-small (t ∷ ts) (suc k) e = cell-small ts k (small-cells t ts e .1)
 
 -- A full table of cells 0 to 13 is the answer.
 pub gathered-full : (cells : List ℕ) → every (λ t. leb t 13) cells ≡ true → gathered cells ≡ holds cells

@@ -1,12 +1,12 @@
 -- Laws of tables that the proofs of functions use.
-use Prim.Native.Nat.{ℕ, zero, suc, _+_, _-_, _*_, _/_, _%_, _≤_, _<_}
+use Prim.Native.Nat.{ℕ, _+_, _*_, _%_, _≤_, _<_}
 use mathlib.Core.Path.{_≡_, refl, sym, ap, _∙_}
-use mathlib.Core.Bool.{Bool, true, false, cond, not}
+use mathlib.Core.Bool.{true, cond, not}
 use mathlib.Core.List.{List, [], _∷_, _++_, map, append-assoc, append-nil}
-use mathlib.Core.Option.{Option, none, some}
+use mathlib.Core.Option.{some}
 use native.Mathlib.Numerals.{add-one}
 use native.Mathlib.Omega.{arith}
-use lib.Dec.{ltb, eqb}
+use lib.Dec.{eqb}
 use lib.ListN.{length, drop, take, getD, set, replicate, length-append, length-set, length-drop}
 use lib.Seq.{take-suc-set, take-all, drop-drop}
 use borrow.Author.Tests.{eqb-true, eqb-false, lt-ltb, le-ltb}
@@ -14,10 +14,8 @@ use Rattle.tables.specs.declared.letters.Conventions.{Conventions}
 use Rattle.tables.specs.declared.refusal.Refusal.{Refusal}
 use Rattle.tables.specs.declared.refusal.Refusal.the-variants.{Digit, Fields}
 use Rattle.tables.specs.declared.dd.Row.{Row}
-use Rattle.tables.specs.declared.dd.Row.the-variants.{Blank, Cell, Fault}
+use Rattle.tables.specs.declared.dd.Row.the-variants.{Blank, Fault}
 use Rattle.tables.specs.Text.{isInside, single, characters, firstCharacter, fields, word, pastWord, trimStart, lines, before, differs}
-use Rattle.tables.specs.Numbers.{decimal}
-use Rattle.tables.specs.Page.{right}
 use Rattle.tables.specs.Tables.{Reading, holds, refuses, digitOf, firstBad, digitsReading, columnText, rowText, rowsFrom, fieldsRow, rowOf, storedRow, unless, gather, gathered, missing}
 use Rattle.tables.proofs.Laws.{step, stop, by-cases}
 use Rattle.tables.proofs.TextLaws.{first-is, characters-next, length-zero, fields-none, fields-some, lines-step, take-front}
@@ -27,11 +25,7 @@ use Rattle.tables.proofs.PageLaws.{right-few}
 
 pub column-two : (c : Conventions) (k : ℕ) → length (columnText c k) ≡ 2
 unfolding columnText
-column-two c k = go (eqb k 0)
-  where
-    go : (b : Bool) → length {A = ℕ} (cond b (78 ∷ 84 ∷ []) (32 ∷ getD (c .letters) (7 - (4 - k)) 0 ∷ [])) ≡ 2
-    go true = refl
-    go false = refl
+column-two c k = by-cases (eqb k 0) (λ t. rw t) (λ t. rw t)
 
 pub row-few : (c : Conventions) (w cell t : ℕ) → length (rowText c w cell t) ≤ w + 15
 unfolding rowText

@@ -1,20 +1,24 @@
 -- Laws of fronts, trimming, fields, lines and characters.
 use Prim.Native.Nat.{ℕ, zero, suc, _+_, _-_, _≤_, _<_}
-use mathlib.Core.Path.{_≡_, refl, sym, ap, _∙_}
-use mathlib.Core.Bool.{Bool, true, false, cond, not}
+use mathlib.Core.Path.{_≡_, refl, ap, _∙_}
+use mathlib.Core.Bool.{Bool, true, false, cond}
 use mathlib.Core.List.{List, [], _∷_, _++_}
-use native.Mathlib.Numerals.{add-one}
 use native.Mathlib.Omega.{arith}
 use lib.Dec.{eqb}
-use lib.ListN.{length, drop, take, getD, length-append}
-use lib.Seq.{take-suc, take-all}
-use lib.ListN.{length-drop}
-use Rattle.tables.specs.Text.{isWhite, front, beyond, trimStart, keepEnd, trimEnd, trimmed, prepend, fields, word, pastWord, lines, before, isInside, single, starts, characters, firstCharacter}
+use lib.ListN.{length, drop, take, getD}
+use lib.Seq.{take-suc}
+use borrow.Author.Tests.{le-leb, lt-leb, ne-eqb}
+use Rattle.tables.specs.Text.{isWhite, front, beyond, trimStart, keepEnd, trimEnd, prepend, fields, word, pastWord, lines, before, isInside, starts, characters, firstCharacter}
 use Rattle.tables.proofs.Laws.{step, stop, by-cases}
 
 pub length-zero : (s : List ℕ) → length s ≡ 0 → s ≡ []
 length-zero [] h = refl
 length-zero (b ∷ bs) h = absurd (omega arith)
+
+-- A byte above 32 is no white space.
+pub above-white : (b : ℕ) → 32 < b → isWhite b ≡ false
+unfolding isWhite
+above-white b h = rw (le-leb 9 b (omega arith), lt-leb b 13 (omega arith), ne-eqb b 32 (λ e. omega arith))
 
 -- ---- fronts
 
@@ -59,12 +63,8 @@ kept-less s e z h w = rw (last-of s e z h) (trim-white (take (e - 1) s) (getD s 
 pub kept-stop : (s : List ℕ) (e : ℕ) → 0 < e → e ≤ length s → isWhite (getD s (e - 1) 0) ≡ false → trimEnd (take e s) ≡ take e s
 kept-stop s e z h w = rw (last-of s e z h) (trim-last (take (e - 1) s) (getD s (e - 1) 0) w)
 
-take-kept-one : (b : ℕ) (w : Bool) (bs : List ℕ) → take (length (cond w [] (b ∷ []))) (b ∷ bs) ≡ cond w [] (b ∷ [])
-take-kept-one b true bs = refl
-take-kept-one b false bs = refl
-
 take-kept-more : (b : ℕ) (l bs : List ℕ) → take (length l) bs ≡ l → take (length (keepEnd b l)) (b ∷ bs) ≡ keepEnd b l
-take-kept-more b [] bs h = take-kept-one b (isWhite b) bs
+take-kept-more b [] bs h = by-cases (isWhite b) (λ e. rw e) (λ e. rw e)
 take-kept-more b (c ∷ cs) bs h = ap (λ (l : List ℕ). b ∷ l) h
 
 pub take-kept : (s : List ℕ) → take (length (trimEnd s)) s ≡ trimEnd s

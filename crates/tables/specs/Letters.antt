@@ -1,6 +1,6 @@
 -- The letters of seats, suits, strains and ranks, read in either case (ASCII alone) and written. Seats N E S W are 0 to 3
 -- and 4 none; suits C D H S are 0 to 3 and 4 none; strains C D H S NT are 0 to 4 and 5 none; rank 2 is 0, the ace 12 and 13 none.
-use Prim.Native.Nat.{ℕ, suc, _+_, _-_}
+use Prim.Native.Nat.{ℕ, _+_, _-_}
 use mathlib.Core.Path.{_≡_}
 use mathlib.Core.List.{List, [], _∷_}
 use mathlib.Core.Bool.{Bool, true, false, _&&_, _||_, cond, not}

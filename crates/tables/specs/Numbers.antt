@@ -1,7 +1,7 @@
 -- Numbers in a text: an optional `+`, then one or more digits and no more, within a limit. Signed ones also take `-`.
 use Prim.Native.Nat.{ℕ, zero, suc, _+_, _-_, _*_, _/_, _%_, _≤_}
 use mathlib.Core.List.{List, [], _∷_}
-use mathlib.Core.Bool.{Bool, cond}
+use mathlib.Core.Bool.{cond}
 use lib.Dec.{ltb, eqb}
 use Rattle.tables.specs.declared.numbers.Number.{Number}
 use Rattle.tables.specs.declared.numbers.Number.the-variants.{Value, Bad}

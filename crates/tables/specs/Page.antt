@@ -1,14 +1,13 @@
 -- Text put on a lent page, with a count that goes on past the page's end.
 use Prim.Native.Nat.{ℕ, _+_, _-_, _≤_}
 use mathlib.Core.Path.{_≡_}
-use mathlib.Core.Bool.{Bool, cond}
-use mathlib.Core.List.{List, [], _∷_, _++_}
+use mathlib.Core.Bool.{cond}
+use mathlib.Core.List.{List, _++_}
 use lib.Dec.{leb}
 use lib.ListN.{length, replicate, take, drop}
 use lib.Seq.{sets}
 use Rattle.tables.specs.declared.page.Written.{Written}
 use Rattle.tables.specs.declared.page.Written.the-variants.{Bytes, Refused}
-use Rattle.tables.specs.declared.refusal.Refusal.{Refusal}
 use Rattle.tables.specs.declared.refusal.Refusal.the-variants.{PageFull}
 use Rattle.tables.specs.Numbers.{decimal}
 

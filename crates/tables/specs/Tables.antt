@@ -1,13 +1,12 @@
 -- The two PBN forms of a double-dummy table. A table is 20 numbers of tricks, its cells in the order N, S, E, W, each NT, S, H, D, C.
 use Prim.Native.Nat.{ℕ, suc, _+_, _-_, _*_, _/_, _%_}
 use mathlib.Core.List.{List, [], _∷_, _++_, map}
-use mathlib.Core.Bool.{Bool, true, false, cond}
+use mathlib.Core.Bool.{cond}
 use mathlib.Core.Option.{Option, none, some}
 use lib.Dec.{ltb, eqb}
 use lib.ListN.{length, set, replicate}
 use Rattle.tables.specs.declared.refusal.Refusal.{Refusal}
 use Rattle.tables.specs.declared.refusal.Refusal.the-variants.{Length, Digit, Fields, Declarer, Denomination, Outcome, Over, Missing}
-use Rattle.tables.specs.declared.dd.Decoded.{Decoded}
 use Rattle.tables.specs.declared.dd.Decoded.the-variants.{Table, Refused}
 use Rattle.tables.specs.declared.dd.TableRead.{TableRead}
 use Rattle.tables.specs.declared.dd.Row.{Row}

@@ -1,7 +1,7 @@
 -- White space, trimming, fields, lines and characters of a text, which is a list of bytes.
-use Prim.Native.Nat.{ℕ, suc, _+_, _<_}
-use mathlib.Core.List.{List, [], _∷_, _++_}
-use mathlib.Core.Bool.{Bool, true, false, _&&_, _||_, cond, not}
+use Prim.Native.Nat.{ℕ}
+use mathlib.Core.List.{List, [], _∷_}
+use mathlib.Core.Bool.{Bool, _&&_, _||_, cond, not}
 use lib.Dec.{leb, eqb}
 use Prim.Native.Char.{code}
 use Prim.Native.String as S

@@ -106,6 +106,7 @@ pub fn strain_of(c: Conventions, token: &[u8]) -> u8
     5
 }
 
+// The letter of a seat 0 to 3. A caller never asks for another; the answer is then another letter, or 0.
 pub fn seat_letter(c: Conventions, seat: u8) -> u8
     ensures { λ r. ⌜ r ≡ seatLetter c seat ⌝ }
 {

@@ -45,7 +45,7 @@ impl Call {
         }
     }
 
-    /// The code of document 01: Pass 0, bids 1 to 35, X 36, XX 37, `+` 38,
+    /// The code on a card: Pass 0, bids 1 to 35, X 36, XX 37, `+` 38,
     /// underscores 39 to 46.
     pub fn code(&self) -> u32 {
         match self {

@@ -1,4 +1,4 @@
-//! The meanings of the stand-ins, as document 01 gives them.
+//! The meanings of the stand-ins, as docs/FORMAT.md gives them.
 
 use bridge_types::*;
 

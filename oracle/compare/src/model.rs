@@ -1,4 +1,4 @@
-//! The tables read and written as document 01 says, in plain Rust of its own.
+//! The tables read and written as docs/FORMAT.md says, in plain Rust of its own.
 //!
 //! It judges what the Rust cannot be asked: bytes that are no UTF-8 and texts
 //! outside the domain. On every other input it is held to the Rust's answer.

@@ -1,11 +1,7 @@
-use Rattle.golavimes.proofs.Laws.{read-out}
 use borrow.Author.Needs.{needs}
+use Rattle.golavimes.proofs.Laws.{read-out}
 use Rattle.golavimes.proofs.golavimes_dd_table_from_pbn.Statement.{statement}
 use Rattle.golavimes.proofs.golavimes_dd_table_from_pbn.Tie as tie
-use Rattle.golavimes.proofs.golavimes_dd_table_from_pbn.Reads as reads
-use Rattle.golavimes.proofs.golavimes_dd_table_from_pbn.Lts as lts
-use Rattle.golavimes.proofs.hand_out.Reads as hand-out-reads
-use Rattle.tables.proofs.dd.dd_table_from_pbn.Reads as dd-table-from-pbn-reads
 
 dd-table-from-pbn-requires : tie.Need-dd-table-from-pbn-requires
 dd-table-from-pbn-requires c κs = search needs

@@ -1,11 +1,7 @@
-use Rattle.golavimes.proofs.Laws.{wrote-out}
 use borrow.Author.Needs.{needs}
+use Rattle.golavimes.proofs.Laws.{wrote-out}
 use Rattle.golavimes.proofs.golavimes_dd_table_to_pbn.Statement.{statement}
 use Rattle.golavimes.proofs.golavimes_dd_table_to_pbn.Tie as tie
-use Rattle.golavimes.proofs.golavimes_dd_table_to_pbn.Reads as reads
-use Rattle.golavimes.proofs.golavimes_dd_table_to_pbn.Lts as lts
-use Rattle.golavimes.proofs.written_numbers.Reads as written-numbers-reads
-use Rattle.tables.proofs.dd.dd_table_to_pbn.Reads as dd-table-to-pbn-reads
 
 dd-table-to-pbn-requires : tie.Need-dd-table-to-pbn-requires
 dd-table-to-pbn-requires c κs = search needs

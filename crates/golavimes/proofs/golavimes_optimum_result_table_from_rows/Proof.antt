@@ -1,11 +1,7 @@
-use Rattle.golavimes.proofs.Laws.{read-out}
 use borrow.Author.Needs.{needs}
+use Rattle.golavimes.proofs.Laws.{read-out}
 use Rattle.golavimes.proofs.golavimes_optimum_result_table_from_rows.Statement.{statement}
 use Rattle.golavimes.proofs.golavimes_optimum_result_table_from_rows.Tie as tie
-use Rattle.golavimes.proofs.golavimes_optimum_result_table_from_rows.Reads as reads
-use Rattle.golavimes.proofs.golavimes_optimum_result_table_from_rows.Lts as lts
-use Rattle.golavimes.proofs.hand_out.Reads as hand-out-reads
-use Rattle.tables.proofs.dd.optimum_result_table_from_rows.Reads as optimum-result-table-from-rows-reads
 
 optimum-result-table-from-rows-requires : tie.Need-optimum-result-table-from-rows-requires
 optimum-result-table-from-rows-requires c κs = search needs

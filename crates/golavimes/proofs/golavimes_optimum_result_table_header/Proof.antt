@@ -1,11 +1,7 @@
-use Rattle.golavimes.proofs.Laws.{wrote-out}
 use borrow.Author.Needs.{needs}
+use Rattle.golavimes.proofs.Laws.{wrote-out}
 use Rattle.golavimes.proofs.golavimes_optimum_result_table_header.Statement.{statement}
 use Rattle.golavimes.proofs.golavimes_optimum_result_table_header.Tie as tie
-use Rattle.golavimes.proofs.golavimes_optimum_result_table_header.Reads as reads
-use Rattle.golavimes.proofs.golavimes_optimum_result_table_header.Lts as lts
-use Rattle.golavimes.proofs.written_numbers.Reads as written-numbers-reads
-use Rattle.tables.proofs.dd.optimum_result_table_header.Reads as optimum-result-table-header-reads
 
 optimum-result-table-header-requires : tie.Need-optimum-result-table-header-requires
 optimum-result-table-header-requires c κs = search needs

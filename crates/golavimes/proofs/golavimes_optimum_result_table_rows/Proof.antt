@@ -1,11 +1,7 @@
-use Rattle.golavimes.proofs.Laws.{wrote-out}
 use borrow.Author.Needs.{needs}
+use Rattle.golavimes.proofs.Laws.{wrote-out}
 use Rattle.golavimes.proofs.golavimes_optimum_result_table_rows.Statement.{statement}
 use Rattle.golavimes.proofs.golavimes_optimum_result_table_rows.Tie as tie
-use Rattle.golavimes.proofs.golavimes_optimum_result_table_rows.Reads as reads
-use Rattle.golavimes.proofs.golavimes_optimum_result_table_rows.Lts as lts
-use Rattle.golavimes.proofs.written_numbers.Reads as written-numbers-reads
-use Rattle.tables.proofs.dd.optimum_result_table_rows.Reads as optimum-result-table-rows-reads
 
 optimum-result-table-rows-requires : tie.Need-optimum-result-table-rows-requires
 optimum-result-table-rows-requires c κs = search needs

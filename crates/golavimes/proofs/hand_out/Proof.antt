@@ -1,13 +1,10 @@
+use Prim.Native.Nat.{ℕ}
 use mathlib.Core.Path.{ap}
 use mathlib.Core.List.{List}
 use lib.ListN.{getD}
-use Prim.Native.Nat.{ℕ}
 use borrow.Author.Needs.{needs}
 use Rattle.golavimes.proofs.hand_out.Statement.{statement}
 use Rattle.golavimes.proofs.hand_out.Tie as tie
-use Rattle.golavimes.proofs.hand_out.Reads as reads
-use Rattle.golavimes.proofs.hand_out.Lts as lts
-use Rattle.golavimes.proofs.decoded_numbers.Reads as decoded-numbers-reads
 
 decoded-numbers-requires : tie.Need-decoded-numbers-requires
 decoded-numbers-requires c κs = search needs

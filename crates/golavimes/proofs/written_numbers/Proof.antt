@@ -1,10 +1,6 @@
 use borrow.Author.Needs.{needs}
 use Rattle.golavimes.proofs.written_numbers.Statement.{statement}
 use Rattle.golavimes.proofs.written_numbers.Tie as tie
-use Rattle.golavimes.proofs.written_numbers.Reads as reads
-use Rattle.golavimes.proofs.written_numbers.Lts as lts
-use Rattle.tables.proofs.refusal.carried.Reads as carried-reads
-use Rattle.tables.proofs.refusal.number.Reads as number-reads
 
 enum-known-w : tie.Need-enum-known-w
 enum-known-w c = search needs

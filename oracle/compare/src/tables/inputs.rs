@@ -155,7 +155,7 @@ const GOOD_DIGITS: [&str; 6] = [
 
 // ---- Named cases ----
 
-/// Document 01's cases for tables and others that a porter slips on.
+/// The specification's cases for tables and others that a porter slips on.
 fn named(_: &mut Rng, out: &mut Out) {
     for table in [
         [0; 20],

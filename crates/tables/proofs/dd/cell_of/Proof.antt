@@ -2,9 +2,6 @@ use borrow.Author.Needs.{needs}
 use Rattle.tables.specs.Tables.{cellOf}
 use Rattle.tables.proofs.dd.cell_of.Statement.{statement}
 use Rattle.tables.proofs.dd.cell_of.Tie as tie
-use Rattle.tables.proofs.dd.cell_of.Reads as reads
-use Rattle.tables.proofs.dd.cell_of.Lts as lts
-use Rattle.tables.proofs.dd.row_order.Reads as row-order-reads
 
 row-order-requires : tie.Need-row-order-requires
 row-order-requires c κs = search needs

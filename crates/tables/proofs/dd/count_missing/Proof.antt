@@ -1,19 +1,15 @@
+-- The invariant: the missing cells are the `n` counted and those among the cells that are left.
+use Prim.Native.Nat.{_+_, _-_, _≤_}
+use mathlib.Core.Path.{_∙_, _≡_}
+use native.Mathlib.Omega.{arith}
+use denote.Ref.{now}
+use lib.ListN.{length, drop}
+use borrow.Author.Needs.{needs}
 use Rattle.tables.specs.Tables.{missing}
 use Rattle.tables.proofs.Laws.{stop}
 use Rattle.tables.proofs.TableLaws.{missing-turn}
-use native.Mathlib.Omega.{arith}
-use mathlib.Core.Path.{_∙_}
-use denote.Ref.{now}
-use Prim.Native.Nat.{_+_}
-use Prim.Native.Nat.{_-_, _≤_}
-use mathlib.Core.Path.{_≡_}
-use lib.ListN.{length, drop}
-use borrow.Author.Needs.{needs}
 use Rattle.tables.proofs.dd.count_missing.Statement.{statement}
 use Rattle.tables.proofs.dd.count_missing.Tie as tie
-use Rattle.tables.proofs.dd.count_missing.Reads as reads
-use Rattle.tables.proofs.dd.count_missing.Lts as lts
-use Rattle.tables.proofs.text.one_more_unless.Reads as one-more-unless-reads
 
 abbrev Inv-loop : tie.InvT-loop
 Inv-loop cells n₀ i₀ n i = (missing cells ≡ n + missing (drop i cells)) × (n ≤ i) × (i ≤ length cells)

@@ -1,14 +1,8 @@
-use Rattle.tables.specs.Tables.{tableOfDigits, digitsReading}
 use borrow.Author.Needs.{needs}
-use borrow.Author.Tests.{eq-eqb, ne-eqb}
+use borrow.Author.Tests.{ne-eqb}
+use Rattle.tables.specs.Tables.{tableOfDigits, digitsReading}
 use Rattle.tables.proofs.dd.dd_table_from_pbn.Statement.{statement}
 use Rattle.tables.proofs.dd.dd_table_from_pbn.Tie as tie
-use Rattle.tables.proofs.dd.dd_table_from_pbn.Reads as reads
-use Rattle.tables.proofs.dd.dd_table_from_pbn.Lts as lts
-use Rattle.tables.proofs.dd.digits_read.Reads as digits-read-reads
-use Rattle.tables.proofs.dd.refused.Reads as refused-reads
-use Rattle.tables.proofs.text.count_characters.Reads as count-characters-reads
-use Rattle.tables.proofs.text.trim.Reads as trim-reads
 
 trim-requires : tie.Need-trim-requires
 trim-requires c κs = search needs

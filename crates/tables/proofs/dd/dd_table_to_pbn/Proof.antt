@@ -1,11 +1,7 @@
-use Rattle.tables.proofs.PageLaws.{finished}
 use borrow.Author.Needs.{needs}
+use Rattle.tables.proofs.PageLaws.{finished}
 use Rattle.tables.proofs.dd.dd_table_to_pbn.Statement.{statement}
 use Rattle.tables.proofs.dd.dd_table_to_pbn.Tie as tie
-use Rattle.tables.proofs.dd.dd_table_to_pbn.Reads as reads
-use Rattle.tables.proofs.dd.dd_table_to_pbn.Lts as lts
-use Rattle.tables.proofs.dd.put_digits.Reads as put-digits-reads
-use Rattle.tables.proofs.page.finish.Reads as finish-reads
 
 put-digits-requires : tie.Need-put-digits-requires
 put-digits-requires c κs = search needs

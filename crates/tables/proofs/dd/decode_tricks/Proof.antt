@@ -1,10 +1,9 @@
+-- One answer for each range of the `match`, in the order of the definition.
 use borrow.Author.Needs.{needs}
 use borrow.Author.Tests.{lt-ltb, le-ltb}
 use Rattle.tables.specs.Tables.{digitOf}
 use Rattle.tables.proofs.dd.decode_tricks.Statement.{statement}
 use Rattle.tables.proofs.dd.decode_tricks.Tie as tie
-use Rattle.tables.proofs.dd.decode_tricks.Reads as reads
-use Rattle.tables.proofs.dd.decode_tricks.Lts as lts
 
 sub-result : tie.Need-sub-result
 sub-result c = search needs

@@ -1,23 +1,14 @@
-use Rattle.tables.proofs.TableLaws.{Decoding, decoding, decoding-next, decoding-bad, decoding-done}
-use Rattle.tables.specs.Tables.{digitOf, tableRead, Reading}
-use Rattle.tables.specs.Text.{firstCharacter}
-use mathlib.Core.Path.{refl, sym, ap, _∙_}
-use native.Mathlib.Omega.{arith}
+-- The invariant is Decoding: the first `i` characters are digits, and their values stand in the table.
+use Prim.Native.Nat.{_-_}
+use mathlib.Core.Path.{refl, ap, _∙_, _≡_}
 use denote.Ref.{now}
-use lib.ListN.{replicate}
-use Prim.Native.Nat.{_<_, _+_}
-use Prim.Native.Nat.{_-_, _≤_}
-use mathlib.Core.Path.{_≡_}
-use lib.ListN.{length, drop}
+use lib.ListN.{drop}
 use borrow.Author.Needs.{needs}
+use Rattle.tables.specs.Tables.{digitOf, tableRead}
+use Rattle.tables.specs.Text.{firstCharacter}
+use Rattle.tables.proofs.TableLaws.{Decoding, decoding, decoding-next, decoding-bad, decoding-done}
 use Rattle.tables.proofs.dd.digits_read.Statement.{statement}
 use Rattle.tables.proofs.dd.digits_read.Tie as tie
-use Rattle.tables.proofs.dd.digits_read.Reads as reads
-use Rattle.tables.proofs.dd.digits_read.Lts as lts
-use Rattle.tables.proofs.dd.decode_tricks.Reads as decode-tricks-reads
-use Rattle.tables.proofs.dd.refused.Reads as refused-reads
-use Rattle.tables.proofs.text.first_character.Reads as first-character-reads
-use Rattle.tables.proofs.text.from.Reads as from-reads
 
 abbrev Inv-loop : tie.InvT-loop
 Inv-loop value table₀ i₀ table i = Decoding value table i

@@ -3,8 +3,6 @@ use borrow.Author.Tests.{lt-ltb, le-ltb}
 use Rattle.tables.specs.Tables.{digitByte}
 use Rattle.tables.proofs.dd.encode_tricks.Statement.{statement}
 use Rattle.tables.proofs.dd.encode_tricks.Tie as tie
-use Rattle.tables.proofs.dd.encode_tricks.Reads as reads
-use Rattle.tables.proofs.dd.encode_tricks.Lts as lts
 
 add-result : tie.Need-add-result
 add-result c = search needs

@@ -1,12 +1,8 @@
-use Rattle.tables.specs.Tables.{gathered}
 use borrow.Author.Needs.{needs}
 use borrow.Author.Tests.{eq-eqb, ne-eqb}
+use Rattle.tables.specs.Tables.{gathered}
 use Rattle.tables.proofs.dd.gathered_table.Statement.{statement}
 use Rattle.tables.proofs.dd.gathered_table.Tie as tie
-use Rattle.tables.proofs.dd.gathered_table.Reads as reads
-use Rattle.tables.proofs.dd.gathered_table.Lts as lts
-use Rattle.tables.proofs.dd.count_missing.Reads as count-missing-reads
-use Rattle.tables.proofs.dd.refused.Reads as refused-reads
 
 slice-aggregate-count-missing : tie.Need-slice-aggregate-count-missing
 slice-aggregate-count-missing c = search needs

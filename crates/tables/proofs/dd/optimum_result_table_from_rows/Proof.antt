@@ -1,10 +1,6 @@
 use borrow.Author.Needs.{needs}
 use Rattle.tables.proofs.dd.optimum_result_table_from_rows.Statement.{statement}
 use Rattle.tables.proofs.dd.optimum_result_table_from_rows.Tie as tie
-use Rattle.tables.proofs.dd.optimum_result_table_from_rows.Reads as reads
-use Rattle.tables.proofs.dd.optimum_result_table_from_rows.Lts as lts
-use Rattle.tables.proofs.dd.table_from_rows.Reads as table-from-rows-reads
-use Rattle.tables.proofs.letters.built_in.Reads as built-in-reads
 
 built-in-requires : tie.Need-built-in-requires
 built-in-requires c κs = search needs

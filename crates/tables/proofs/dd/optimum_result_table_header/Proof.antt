@@ -1,14 +1,9 @@
+-- Three texts put one after the other, and the end of the page.
+use borrow.Author.Needs.{needs}
 use Rattle.tables.specs.Tables.{headerText}
 use Rattle.tables.proofs.PageLaws.{finished, put-then}
-use borrow.Author.Needs.{needs}
 use Rattle.tables.proofs.dd.optimum_result_table_header.Statement.{statement}
 use Rattle.tables.proofs.dd.optimum_result_table_header.Tie as tie
-use Rattle.tables.proofs.dd.optimum_result_table_header.Reads as reads
-use Rattle.tables.proofs.dd.optimum_result_table_header.Lts as lts
-use Rattle.tables.proofs.dd.result_width.Reads as result-width-reads
-use Rattle.tables.proofs.page.finish.Reads as finish-reads
-use Rattle.tables.proofs.page.put_byte.Reads as put-byte-reads
-use Rattle.tables.proofs.page.put_text.Reads as put-text-reads
 
 result-width-requires : tie.Need-result-width-requires
 result-width-requires c κs = search needs

@@ -1,14 +1,8 @@
+use borrow.Author.Needs.{needs}
 use Rattle.tables.specs.Tables.{rowsText}
 use Rattle.tables.proofs.PageLaws.{finished}
-use borrow.Author.Needs.{needs}
 use Rattle.tables.proofs.dd.optimum_result_table_rows.Statement.{statement}
 use Rattle.tables.proofs.dd.optimum_result_table_rows.Tie as tie
-use Rattle.tables.proofs.dd.optimum_result_table_rows.Reads as reads
-use Rattle.tables.proofs.dd.optimum_result_table_rows.Lts as lts
-use Rattle.tables.proofs.dd.put_rows.Reads as put-rows-reads
-use Rattle.tables.proofs.dd.result_width.Reads as result-width-reads
-use Rattle.tables.proofs.letters.built_in.Reads as built-in-reads
-use Rattle.tables.proofs.page.finish.Reads as finish-reads
 
 result-width-requires : tie.Need-result-width-requires
 result-width-requires c κs = search needs

@@ -1,14 +1,9 @@
-use Rattle.tables.specs.Tables.{columnText}
-use Rattle.tables.proofs.PageLaws.{put-then}
 use borrow.Author.Tests.{eq-eqb, ne-eqb}
 use borrow.Author.Needs.{needs}
+use Rattle.tables.specs.Tables.{columnText}
+use Rattle.tables.proofs.PageLaws.{put-then}
 use Rattle.tables.proofs.dd.put_column.Statement.{statement}
 use Rattle.tables.proofs.dd.put_column.Tie as tie
-use Rattle.tables.proofs.dd.put_column.Reads as reads
-use Rattle.tables.proofs.dd.put_column.Lts as lts
-use Rattle.tables.proofs.letters.suit_letter.Reads as suit-letter-reads
-use Rattle.tables.proofs.page.put_byte.Reads as put-byte-reads
-use Rattle.tables.proofs.page.put_text.Reads as put-text-reads
 
 slice-aggregate-put-text : tie.Need-slice-aggregate-put-text
 slice-aggregate-put-text c = search needs

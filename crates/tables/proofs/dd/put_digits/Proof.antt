@@ -1,20 +1,14 @@
+-- The invariant: putting the digits of the cells that are left at `k` comes to putting all of them at `at`.
+use Prim.Native.Nat.{_-_, _≤_}
+use mathlib.Core.List.{_∷_, []}
 use native.Mathlib.Omega.{arith}
-use denote.Ref.{now}
-use lib.ListN.{length-map, length-drop}
+use lib.ListN.{length-map, length-drop, length, drop}
+use borrow.Author.Needs.{needs}
 use Rattle.tables.specs.Tables.{digitsText}
 use Rattle.tables.proofs.Laws.{step, stop}
 use Rattle.tables.proofs.PageLaws.{ToPut, to-put, putting, put-all}
-use mathlib.Core.List.{_∷_, []}
-use Prim.Native.Nat.{_-_, _≤_}
-use mathlib.Core.Path.{_≡_}
-use lib.ListN.{length, drop}
-use borrow.Author.Needs.{needs}
 use Rattle.tables.proofs.dd.put_digits.Statement.{statement}
 use Rattle.tables.proofs.dd.put_digits.Tie as tie
-use Rattle.tables.proofs.dd.put_digits.Reads as reads
-use Rattle.tables.proofs.dd.put_digits.Lts as lts
-use Rattle.tables.proofs.dd.encode_tricks.Reads as encode-tricks-reads
-use Rattle.tables.proofs.page.put_byte.Reads as put-byte-reads
 
 abbrev Inv-loop : tie.InvT-loop
 Inv-loop page₀ at table k₀ i₀ page k i = (i ≤ length table) × ToPut page₀ at (digitsText table) page k (digitsText (drop i table))

@@ -1,18 +1,12 @@
-use native.Mathlib.Omega.{arith}
+-- Five texts put one after the other.
 use Prim.Native.Nat.{_%_}
+use native.Mathlib.Omega.{arith}
+use borrow.Author.Needs.{needs}
 use Rattle.tables.specs.Tables.{rowText}
 use Rattle.tables.proofs.PageLaws.{put-then}
 use Rattle.tables.proofs.TableLaws.{column-two}
-use borrow.Author.Needs.{needs}
 use Rattle.tables.proofs.dd.put_row.Statement.{statement}
 use Rattle.tables.proofs.dd.put_row.Tie as tie
-use Rattle.tables.proofs.dd.put_row.Reads as reads
-use Rattle.tables.proofs.dd.put_row.Lts as lts
-use Rattle.tables.proofs.dd.put_column.Reads as put-column-reads
-use Rattle.tables.proofs.dd.row_order.Reads as row-order-reads
-use Rattle.tables.proofs.letters.seat_letter.Reads as seat-letter-reads
-use Rattle.tables.proofs.page.put_byte.Reads as put-byte-reads
-use Rattle.tables.proofs.page.put_right.Reads as put-right-reads
 
 row-order-requires : tie.Need-row-order-requires
 row-order-requires c κs = search needs

@@ -1,20 +1,15 @@
+-- The invariant: putting the rows of the cells that are left at `k` comes to putting all of them at `at`.
+use Prim.Native.Nat.{_-_, _≤_}
 use native.Mathlib.Omega.{arith}
 use denote.Ref.{now}
+use lib.ListN.{getD, length, drop}
+use borrow.Author.Needs.{needs}
 use Rattle.tables.specs.Tables.{rowsFrom}
 use Rattle.tables.proofs.Laws.{step, stop}
 use Rattle.tables.proofs.PageLaws.{ToPut, to-put, putting, put-all, put-then}
 use Rattle.tables.proofs.TableLaws.{rows-few, row-few}
-use lib.ListN.{getD}
-use Prim.Native.Nat.{_-_, _≤_}
-use mathlib.Core.Path.{_≡_}
-use lib.ListN.{length, drop}
-use borrow.Author.Needs.{needs}
 use Rattle.tables.proofs.dd.put_rows.Statement.{statement}
 use Rattle.tables.proofs.dd.put_rows.Tie as tie
-use Rattle.tables.proofs.dd.put_rows.Reads as reads
-use Rattle.tables.proofs.dd.put_rows.Lts as lts
-use Rattle.tables.proofs.dd.put_row.Reads as put-row-reads
-use Rattle.tables.proofs.page.put_byte.Reads as put-byte-reads
 
 abbrev Inv-loop : tie.InvT-loop
 Inv-loop page₀ at c w table k₀ i₀ page k i = (i ≤ length table) × ToPut page₀ at (rowsFrom c w 0 table) page k (rowsFrom c w i (drop i table))

@@ -3,13 +3,6 @@ use borrow.Author.Tests.{lt-ltb, le-ltb}
 use Rattle.tables.specs.Tables.{fieldsRow}
 use Rattle.tables.proofs.dd.read_fields.Statement.{statement}
 use Rattle.tables.proofs.dd.read_fields.Tie as tie
-use Rattle.tables.proofs.dd.read_fields.Reads as reads
-use Rattle.tables.proofs.dd.read_fields.Lts as lts
-use Rattle.tables.proofs.dd.cell_of.Reads as cell-of-reads
-use Rattle.tables.proofs.letters.seat_of.Reads as seat-of-reads
-use Rattle.tables.proofs.letters.strain_of.Reads as strain-of-reads
-use Rattle.tables.proofs.numbers.read_number.Reads as read-number-reads
-use Rattle.tables.proofs.text.first_character.Reads as first-character-reads
 
 first-character-requires : tie.Need-first-character-requires
 first-character-requires c κs = search needs
@@ -47,7 +40,7 @@ returns-3 c =
 returns-4 : tie.Need-returns-4
 unfolding fieldsRow
 returns-4 c =
-    rw (← c .before .before .before .before .before .before .before .before .before .first-character .ensures, ← c .before .before .before .before .before .before .before .before .seat-of .ensures .0, le-ltb _ _ (c .before .before .before .before .before .before .before .if1 .left), ← c .before .before .before .before .before .before .strain-of .ensures .0, le-ltb _ _ (c .before .before .before .before .before .if2 .left), ← c .before .before .before .before .read-number .ensures .0, c .before .before .v .given .1, lt-ltb _ _ (c .if3 .taken))
+    rw (← c .before .before .before .before .before .before .before .before .before .first-character .ensures, ← c .before .before .before .before .before .before .before .before .seat-of .ensures .0, le-ltb _ _ (c .before .before .before .before .before .before .before .if1 .left), ← c .before .before .before .before .before .before .strain-of .ensures .0, le-ltb _ _ (c .before .before .before .before .before .if2 .left), ← c .before .before .before .before .read-number .ensures .0, c .before .before .v .given .1, lt-ltb 13 _ (c .if3 .taken))
 
 cell-of-requires : tie.Need-cell-of-requires
 cell-of-requires c κs = search needs
@@ -58,7 +51,7 @@ cast-t9 c = search needs
 returns-5 : tie.Need-returns-5
 unfolding fieldsRow
 returns-5 c =
-    rw (← c .before .before .before .before .before .before .before .before .before .before .first-character .ensures, ← c .before .before .before .before .before .before .before .before .before .seat-of .ensures .0, le-ltb _ _ (c .before .before .before .before .before .before .before .before .if1 .left), ← c .before .before .before .before .before .before .before .strain-of .ensures .0, le-ltb _ _ (c .before .before .before .before .before .before .if2 .left), ← c .before .before .before .before .before .read-number .ensures .0, c .before .before .before .v .given .1, le-ltb _ _ (c .before .if3 .left), ← c .cell-of .ensures)
+    rw (← c .before .before .before .before .before .before .before .before .before .before .first-character .ensures, ← c .before .before .before .before .before .before .before .before .before .seat-of .ensures .0, le-ltb _ _ (c .before .before .before .before .before .before .before .before .if1 .left), ← c .before .before .before .before .before .before .before .strain-of .ensures .0, le-ltb _ _ (c .before .before .before .before .before .before .if2 .left), ← c .before .before .before .before .before .read-number .ensures .0, c .before .before .before .v .given .1, le-ltb 13 _ (c .before .if3 .left), ← c .cell-of .ensures)
 
 pub read-fields-spec : {M : Type 1} → statement M
 read-fields-spec =

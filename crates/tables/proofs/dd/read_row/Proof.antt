@@ -1,18 +1,10 @@
-use Rattle.tables.proofs.TableLaws.{row-blank, row-short, row-long, row-three}
-use Rattle.tables.specs.Text.{trimStart, pastWord}
-use mathlib.Core.Path.{_≡_, sym, ap, _∙_}
-use Prim.Native.Nat.{_<_, _≤_}
-use lib.ListN.{length}
+-- Blank where no field is left at the start; else three fields exactly where a third begins and no fourth.
+use mathlib.Core.Path.{_∙_}
 use denote.Ref.{now}
 use borrow.Author.Needs.{needs}
+use Rattle.tables.proofs.TableLaws.{row-blank, row-short, row-long, row-three}
 use Rattle.tables.proofs.dd.read_row.Statement.{statement}
 use Rattle.tables.proofs.dd.read_row.Tie as tie
-use Rattle.tables.proofs.dd.read_row.Reads as reads
-use Rattle.tables.proofs.dd.read_row.Lts as lts
-use Rattle.tables.proofs.dd.read_fields.Reads as read-fields-reads
-use Rattle.tables.proofs.text.first_word.Reads as first-word-reads
-use Rattle.tables.proofs.text.next_words.Reads as next-words-reads
-use Rattle.tables.proofs.text.trim_start.Reads as trim-start-reads
 
 trim-start-requires : tie.Need-trim-start-requires
 trim-start-requires c κs = search needs

@@ -1,14 +1,13 @@
-use Prim.Native.Nat.{_-_, _≤_}
+-- The invariant: the width of the table is that of the cells that are left.
+use Prim.Native.Nat.{_-_}
 use mathlib.Core.Path.{_≡_}
 use lib.ListN.{length, drop}
 use borrow.Author.Needs.{needs}
 use borrow.Author.Tests.{lt-ltb, le-ltb}
-use Rattle.tables.proofs.Laws.{step, stop}
 use Rattle.tables.specs.Tables.{widthOf}
+use Rattle.tables.proofs.Laws.{step, stop}
 use Rattle.tables.proofs.dd.result_width.Statement.{statement}
 use Rattle.tables.proofs.dd.result_width.Tie as tie
-use Rattle.tables.proofs.dd.result_width.Reads as reads
-use Rattle.tables.proofs.dd.result_width.Lts as lts
 
 abbrev Inv-loop : tie.InvT-loop
 Inv-loop table i₀ i = widthOf table ≡ widthOf (drop i table)

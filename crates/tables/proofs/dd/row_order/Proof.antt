@@ -1,11 +1,8 @@
 use native.Mathlib.Omega.{arith}
 use borrow.Author.Tests.{ne-eqb}
-use borrow.Author.Needs.{needs}
 use Rattle.tables.specs.Tables.{rowOrder}
 use Rattle.tables.proofs.dd.row_order.Statement.{statement}
 use Rattle.tables.proofs.dd.row_order.Tie as tie
-use Rattle.tables.proofs.dd.row_order.Reads as reads
-use Rattle.tables.proofs.dd.row_order.Lts as lts
 
 returns : tie.Need-returns
 unfolding rowOrder

@@ -1,14 +1,10 @@
-use lib.Seq.{set-out}
 use mathlib.Core.Path.{_≡_, sym}
-use Prim.Native.Nat.{_≤_}
-use lib.ListN.{length}
 use native.Mathlib.Omega.{arith}
+use lib.Seq.{set-out}
+use lib.ListN.{length}
 use borrow.Author.Needs.{needs}
-use borrow.Author.Tests.{lt-ltb, le-ltb}
 use Rattle.tables.proofs.dd.stored_row.Statement.{statement}
 use Rattle.tables.proofs.dd.stored_row.Tie as tie
-use Rattle.tables.proofs.dd.stored_row.Reads as reads
-use Rattle.tables.proofs.dd.stored_row.Lts as lts
 
 enum-told : tie.Need-enum-told
 enum-told c = search needs

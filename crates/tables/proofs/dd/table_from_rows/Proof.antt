@@ -1,38 +1,27 @@
+-- The invariant is Gathering: what is left of the text, gathered into the cells so far, is what the whole text comes to.
+use Prim.Native.Nat.{_+_, _-_}
 use mathlib.Core.Logic.{⊎-elim}
-use Rattle.tables.proofs.TableLaws.{Gathering, gathering, gathering-done, row-fault, row-on}
-use Rattle.tables.specs.Tables.{tableRead, tableOfRows, unless, Reading}
-use Rattle.tables.specs.declared.dd.Row.{Row}
-use Rattle.tables.specs.declared.dd.Row.the-variants.{Blank, Cell, Fault}
-use Rattle.tables.proofs.dd.Row as row-type
-use denote.Enum.Declared.{tagOf}
-use types.Run.{OneOf}
 use mathlib.Core.List.{[], _∷_}
-use mathlib.Core.Path.{refl, sym, ap, _∙_}
+use mathlib.Core.Path.{ap, _∙_, _≡_}
 use native.Mathlib.Omega.{arith}
+use denote.Enum.Declared.{tagOf}
 use denote.Ref.{now}
-use Prim.Native.Nat.{_+_}
-use Prim.Native.Nat.{_-_, _≤_}
-use mathlib.Core.Path.{_≡_}
-use lib.ListN.{length, drop}
+use lib.ListN.{length}
 use borrow.Author.Needs.{needs}
+use Rattle.tables.specs.declared.dd.Row.{Row}
+use Rattle.tables.specs.declared.dd.Row.the-variants.{Fault}
+use Rattle.tables.specs.declared.refusal.Refusal.{Refusal}
+use Rattle.tables.specs.Tables.{tableRead, tableOfRows}
+use Rattle.tables.proofs.RowLaws.{unless-passes}
+use Rattle.tables.proofs.TableLaws.{Gathering, gathering, gathering-done, row-fault, row-on}
+use types.Run.{OneOf}
+use Rattle.tables.proofs.dd.Row as row-type
 use Rattle.tables.proofs.dd.table_from_rows.Statement.{statement}
 use Rattle.tables.proofs.dd.table_from_rows.Tie as tie
-use Rattle.tables.proofs.dd.table_from_rows.Reads as reads
-use Rattle.tables.proofs.dd.table_from_rows.Lts as lts
-use Rattle.tables.proofs.dd.gathered_table.Reads as gathered-table-reads
-use Rattle.tables.proofs.dd.no_cells.Reads as no-cells-reads
-use Rattle.tables.proofs.dd.read_row.Reads as read-row-reads
-use Rattle.tables.proofs.dd.refused.Reads as refused-reads
-use Rattle.tables.proofs.dd.stored_row.Reads as stored-row-reads
-use Rattle.tables.proofs.text.from.Reads as from-reads
-use Rattle.tables.proofs.text.index_of.Reads as index-of-reads
-use Rattle.tables.proofs.text.upto.Reads as upto-reads
 
--- A row that is no fault lets the rows go on.
-unless-on : (row : Row) → OneOf (0 ∷ 1 ∷ []) (tagOf row-type.the-type row) → (r : Reading) → unless row r ≡ r
-unless-on Blank k r = refl
-unless-on (Cell n v) k r = refl
-unless-on (Fault f) k r = absurd (⊎-elim (λ e. omega arith) (λ e. omega arith) k)
+-- Of the variants of a row the first two are no fault.
+no-fault : (row : Row) → OneOf (0 ∷ 1 ∷ []) (tagOf row-type.the-type row) → (f : Refusal) → row ≡ Fault f → ⊥
+no-fault row k f e = ⊎-elim (λ x. omega arith) (λ x. omega arith) (rw e at k)
 
 abbrev Inv-loop : tie.InvT-loop
 Inv-loop c rows cells₀ n₀ at₀ cells n at = Gathering c rows (cells .tricks) n at
@@ -92,7 +81,7 @@ loop-again c =
     let k = c .before .before in
     let a = c .before .before .before .before .before .before .before .before .before .before .args in
     let l = k .before .before .before .before .before .loop in
-    row-on (a .c) (now (a .rows)) (l .cells .tricks) (l .n) (l .at) (l .inv) (k .before .before .before .before .loop-test .taken) (now (k .before .before .before .from .result)) (k .before .before .index-of .result) (k .read-row .result) (k .before .before .before .from .ensures) (k .before .before .index-of .ensures .0) (rw (k .before .upto .ensures) at (k .read-row .ensures)) _ (unless-on (k .read-row .result) (c .before .match .keys2)) (c .stored-row .ensures) (k .before .before .index-of .ensures .1)
+    row-on (a .c) (now (a .rows)) (l .cells .tricks) (l .n) (l .at) (l .inv) (k .before .before .before .before .loop-test .taken) (now (k .before .before .before .from .result)) (k .before .before .index-of .result) (k .read-row .result) (k .before .before .before .from .ensures) (k .before .before .index-of .ensures .0) (rw (k .before .upto .ensures) at (k .read-row .ensures)) _ (λ r. unless-passes (k .read-row .result) r (no-fault (k .read-row .result) (c .before .match .keys2))) (c .stored-row .ensures) (k .before .before .index-of .ensures .1)
 
 gathered-table-requires : tie.Need-gathered-table-requires Inv-loop μ-loop
 gathered-table-requires c κs = search needs

@@ -2,8 +2,6 @@ use borrow.Author.Needs.{needs}
 use Rattle.tables.specs.Letters.{builtIn}
 use Rattle.tables.proofs.letters.built_in.Statement.{statement}
 use Rattle.tables.proofs.letters.built_in.Tie as tie
-use Rattle.tables.proofs.letters.built_in.Reads as reads
-use Rattle.tables.proofs.letters.built_in.Lts as lts
 
 returns : tie.Need-returns
 unfolding builtIn

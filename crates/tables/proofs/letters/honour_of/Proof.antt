@@ -3,12 +3,6 @@ use borrow.Author.Tests.{lt-ltb, le-ltb}
 use Rattle.tables.specs.Letters.{honourOf}
 use Rattle.tables.proofs.letters.honour_of.Statement.{statement}
 use Rattle.tables.proofs.letters.honour_of.Tie as tie
-use Rattle.tables.proofs.letters.honour_of.Reads as reads
-use Rattle.tables.proofs.letters.honour_of.Lts as lts
-use Rattle.tables.proofs.letters.to_capital.Reads as to-capital-reads
-use Rattle.tables.proofs.text.from.Reads as from-reads
-use Rattle.tables.proofs.text.index_of.Reads as index-of-reads
-use Rattle.tables.proofs.text.upto.Reads as upto-reads
 
 slice-aggregate-from : tie.Need-slice-aggregate-from
 slice-aggregate-from c = search needs

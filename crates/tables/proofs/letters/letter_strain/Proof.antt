@@ -2,10 +2,6 @@ use borrow.Author.Needs.{needs}
 use borrow.Author.Tests.{lt-ltb, le-ltb, eq-eqb, ne-eqb}
 use Rattle.tables.proofs.letters.letter_strain.Statement.{statement}
 use Rattle.tables.proofs.letters.letter_strain.Tie as tie
-use Rattle.tables.proofs.letters.letter_strain.Reads as reads
-use Rattle.tables.proofs.letters.letter_strain.Lts as lts
-use Rattle.tables.proofs.letters.suit_of.Reads as suit-of-reads
-use Rattle.tables.proofs.letters.to_capital.Reads as to-capital-reads
 
 to-capital-requires : tie.Need-to-capital-requires
 to-capital-requires c κs = search needs

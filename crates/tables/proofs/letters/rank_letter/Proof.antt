@@ -2,9 +2,6 @@ use borrow.Author.Needs.{needs}
 use borrow.Author.Tests.{lt-ltb, le-ltb}
 use Rattle.tables.proofs.letters.rank_letter.Statement.{statement}
 use Rattle.tables.proofs.letters.rank_letter.Tie as tie
-use Rattle.tables.proofs.letters.rank_letter.Reads as reads
-use Rattle.tables.proofs.letters.rank_letter.Lts as lts
-use Rattle.tables.proofs.text.byte_at.Reads as byte-at-reads
 
 add-result : tie.Need-add-result
 add-result c = search needs

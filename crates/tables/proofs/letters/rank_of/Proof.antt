@@ -3,9 +3,6 @@ use borrow.Author.Tests.{lt-ltb, le-ltb}
 use Rattle.tables.specs.Letters.{rankOf}
 use Rattle.tables.proofs.letters.rank_of.Statement.{statement}
 use Rattle.tables.proofs.letters.rank_of.Tie as tie
-use Rattle.tables.proofs.letters.rank_of.Reads as reads
-use Rattle.tables.proofs.letters.rank_of.Lts as lts
-use Rattle.tables.proofs.letters.honour_of.Reads as honour-of-reads
 
 honour-of-requires : tie.Need-honour-of-requires
 honour-of-requires c κs = search needs

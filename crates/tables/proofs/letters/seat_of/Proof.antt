@@ -1,15 +1,10 @@
-use native.Mathlib.Omega.{arith}
 use mathlib.Core.Path.{ap}
+use native.Mathlib.Omega.{arith}
 use lib.ListN.{length, length-take}
 use borrow.Author.Needs.{needs}
 use Rattle.tables.specs.Letters.{seatOf}
 use Rattle.tables.proofs.letters.seat_of.Statement.{statement}
 use Rattle.tables.proofs.letters.seat_of.Tie as tie
-use Rattle.tables.proofs.letters.seat_of.Reads as reads
-use Rattle.tables.proofs.letters.seat_of.Lts as lts
-use Rattle.tables.proofs.letters.to_capital.Reads as to-capital-reads
-use Rattle.tables.proofs.text.index_of.Reads as index-of-reads
-use Rattle.tables.proofs.text.upto.Reads as upto-reads
 
 slice-aggregate-upto : tie.Need-slice-aggregate-upto
 slice-aggregate-upto c = search needs

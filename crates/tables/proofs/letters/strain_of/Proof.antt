@@ -1,14 +1,9 @@
-use Rattle.tables.proofs.LetterLaws.{strain-one, strain-two, strain-other}
+-- By the number of bytes: one, two, any other.
 use denote.Ref.{now}
 use borrow.Author.Needs.{needs}
-use borrow.Author.Tests.{eq-eqb, ne-eqb}
+use Rattle.tables.proofs.LetterLaws.{strain-one, strain-two, strain-other}
 use Rattle.tables.proofs.letters.strain_of.Statement.{statement}
 use Rattle.tables.proofs.letters.strain_of.Tie as tie
-use Rattle.tables.proofs.letters.strain_of.Reads as reads
-use Rattle.tables.proofs.letters.strain_of.Lts as lts
-use Rattle.tables.proofs.letters.letter_strain.Reads as letter-strain-reads
-use Rattle.tables.proofs.letters.to_capital.Reads as to-capital-reads
-use Rattle.tables.proofs.text.byte_at.Reads as byte-at-reads
 
 byte-at-requires : tie.Need-byte-at-requires
 byte-at-requires c κs = search needs

@@ -3,8 +3,6 @@ use borrow.Author.Tests.{lt-ltb, le-ltb}
 use Rattle.tables.specs.Letters.{capital}
 use Rattle.tables.proofs.letters.to_capital.Statement.{statement}
 use Rattle.tables.proofs.letters.to_capital.Tie as tie
-use Rattle.tables.proofs.letters.to_capital.Reads as reads
-use Rattle.tables.proofs.letters.to_capital.Lts as lts
 
 returns : tie.Need-returns
 unfolding capital

@@ -1,15 +1,13 @@
+-- The invariant: the digits that are left, behind the number `v`, come to what all of them come to.
 use Prim.Native.Nat.{_-_, _≤_}
 use mathlib.Core.Path.{_≡_}
 use lib.ListN.{length, drop}
 use borrow.Author.Needs.{needs}
 use borrow.Author.Tests.{lt-ltb, le-ltb}
-use Rattle.tables.proofs.Laws.{step, stop}
 use Rattle.tables.specs.Numbers.{digitsFrom}
+use Rattle.tables.proofs.Laws.{step, stop}
 use Rattle.tables.proofs.numbers.digits_value.Statement.{statement}
 use Rattle.tables.proofs.numbers.digits_value.Tie as tie
-use Rattle.tables.proofs.numbers.digits_value.Reads as reads
-use Rattle.tables.proofs.numbers.digits_value.Lts as lts
-use Rattle.tables.proofs.numbers.wide.Reads as wide-reads
 
 abbrev Inv-loop : tie.InvT-loop
 Inv-loop s limit most v₀ i₀ v i = (digitsFrom limit s 0 ≡ digitsFrom limit (drop i s) v) × (v ≤ limit) × (most ≡ limit)

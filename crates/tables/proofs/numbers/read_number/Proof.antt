@@ -1,14 +1,9 @@
-use Rattle.tables.proofs.NumberLaws.{number-is}
-use borrow.Author.Tests.{eq-eqb, ne-eqb}
 use denote.Ref.{now}
+use borrow.Author.Tests.{eq-eqb, ne-eqb}
 use borrow.Author.Needs.{needs}
+use Rattle.tables.proofs.NumberLaws.{number-is}
 use Rattle.tables.proofs.numbers.read_number.Statement.{statement}
 use Rattle.tables.proofs.numbers.read_number.Tie as tie
-use Rattle.tables.proofs.numbers.read_number.Reads as reads
-use Rattle.tables.proofs.numbers.read_number.Lts as lts
-use Rattle.tables.proofs.numbers.some_digits.Reads as some-digits-reads
-use Rattle.tables.proofs.text.byte_at.Reads as byte-at-reads
-use Rattle.tables.proofs.text.from.Reads as from-reads
 
 byte-at-requires : tie.Need-byte-at-requires
 byte-at-requires c κs = search needs

@@ -1,16 +1,11 @@
-use Rattle.tables.proofs.NumberLaws.{signed-is}
-use borrow.Author.Tests.{eq-eqb, ne-eqb}
+-- One answer for each way out: after `-` or not, a number or none.
 use native.Mathlib.Omega.{arith}
 use denote.Ref.{now}
+use borrow.Author.Tests.{eq-eqb, ne-eqb}
 use borrow.Author.Needs.{needs}
+use Rattle.tables.proofs.NumberLaws.{signed-is}
 use Rattle.tables.proofs.numbers.read_signed.Statement.{statement}
 use Rattle.tables.proofs.numbers.read_signed.Tie as tie
-use Rattle.tables.proofs.numbers.read_signed.Reads as reads
-use Rattle.tables.proofs.numbers.read_signed.Lts as lts
-use Rattle.tables.proofs.numbers.read_number.Reads as read-number-reads
-use Rattle.tables.proofs.numbers.some_digits.Reads as some-digits-reads
-use Rattle.tables.proofs.text.byte_at.Reads as byte-at-reads
-use Rattle.tables.proofs.text.from.Reads as from-reads
 
 byte-at-requires : tie.Need-byte-at-requires
 byte-at-requires c κs = search needs

@@ -1,12 +1,9 @@
-use Rattle.tables.proofs.NumberLaws.{digits-none, digits-some}
 use mathlib.Core.Path.{_∙_}
 use denote.Ref.{now}
 use borrow.Author.Needs.{needs}
+use Rattle.tables.proofs.NumberLaws.{digits-none, digits-some}
 use Rattle.tables.proofs.numbers.some_digits.Statement.{statement}
 use Rattle.tables.proofs.numbers.some_digits.Tie as tie
-use Rattle.tables.proofs.numbers.some_digits.Reads as reads
-use Rattle.tables.proofs.numbers.some_digits.Lts as lts
-use Rattle.tables.proofs.numbers.digits_value.Reads as digits-value-reads
 
 returns : tie.Need-returns
 returns c = (digits-none (c .before .before .args .limit) (now (c .before .before .args .s)) (c .if1 .taken), search needs)

@@ -1,20 +1,14 @@
-use denote.Ref.{now}
-use lib.ListN.{length-set}
-use mathlib.Core.Path.{refl, sym, _∙_}
-use Prim.Native.Nat.{_+_, ℕ}
-use native.Mathlib.Omega.{arith}
-use Rattle.tables.specs.Numbers.{digits, decimal}
-use Rattle.tables.specs.Page.{Digits}
-use Rattle.tables.proofs.PageLaws.{digits-start, digits-found, digits-end, digits-on}
-use Prim.Native.Nat.{_-_, _≤_}
+-- The invariant: the digits of `m` before those that stand behind `k` are the number; at most `k + 1` of them are left.
+use Prim.Native.Nat.{_+_, _≤_}
 use mathlib.Core.Path.{_≡_}
-use lib.ListN.{length, drop}
+use native.Mathlib.Omega.{arith}
+use denote.Ref.{now}
+use lib.ListN.{length-set, length, drop}
 use borrow.Author.Needs.{needs}
+use Rattle.tables.specs.Numbers.{digits, decimal}
+use Rattle.tables.proofs.PageLaws.{digits-start, digits-found, digits-end, digits-on}
 use Rattle.tables.proofs.page.digits_into.Statement.{statement}
 use Rattle.tables.proofs.page.digits_into.Tie as tie
-use Rattle.tables.proofs.page.digits_into.Reads as reads
-use Rattle.tables.proofs.page.digits_into.Lts as lts
-use Rattle.tables.proofs.page.digit.Reads as digit-reads
 
 abbrev Inv-loop : tie.InvT-loop
 Inv-loop n buf₀ m₀ k₀ buf m k = (k ≤ 9) × (length buf ≡ 10) × (digits k m (drop (k + 1) buf) ≡ decimal n)

@@ -1,11 +1,8 @@
-use lib.Seq.{set-out}
 use mathlib.Core.Path.{sym, refl}
+use lib.Seq.{set-out}
 use borrow.Author.Needs.{needs}
-use borrow.Author.Tests.{le-ltb}
 use Rattle.tables.proofs.page.put_byte.Statement.{statement}
 use Rattle.tables.proofs.page.put_byte.Tie as tie
-use Rattle.tables.proofs.page.put_byte.Reads as reads
-use Rattle.tables.proofs.page.put_byte.Lts as lts
 
 slice-write-page : tie.Need-slice-write-page
 slice-write-page c = search needs

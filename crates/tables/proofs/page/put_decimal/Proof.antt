@@ -1,11 +1,7 @@
-use Rattle.tables.proofs.PageLaws.{put-as}
 use borrow.Author.Needs.{needs}
+use Rattle.tables.proofs.PageLaws.{put-as}
 use Rattle.tables.proofs.page.put_decimal.Statement.{statement}
 use Rattle.tables.proofs.page.put_decimal.Tie as tie
-use Rattle.tables.proofs.page.put_decimal.Reads as reads
-use Rattle.tables.proofs.page.put_decimal.Lts as lts
-use Rattle.tables.proofs.page.digits_into.Reads as digits-into-reads
-use Rattle.tables.proofs.page.put_tail.Reads as put-tail-reads
 
 slice-aggregate-digits-into : tie.Need-slice-aggregate-digits-into
 slice-aggregate-digits-into c = search needs

@@ -1,15 +1,10 @@
-use lib.ListN.{length-replicate}
+-- The digits are put into an array first, since their number says how many spaces come before them.
 use native.Mathlib.Omega.{arith}
-use Rattle.tables.proofs.PageLaws.{put-as, put-then, right-is}
+use lib.ListN.{length-replicate}
 use borrow.Author.Needs.{needs}
+use Rattle.tables.proofs.PageLaws.{put-as, put-then, right-is}
 use Rattle.tables.proofs.page.put_right.Statement.{statement}
 use Rattle.tables.proofs.page.put_right.Tie as tie
-use Rattle.tables.proofs.page.put_right.Reads as reads
-use Rattle.tables.proofs.page.put_right.Lts as lts
-use Rattle.tables.proofs.page.digits_into.Reads as digits-into-reads
-use Rattle.tables.proofs.page.less.Reads as less-reads
-use Rattle.tables.proofs.page.put_spaces.Reads as put-spaces-reads
-use Rattle.tables.proofs.page.put_tail.Reads as put-tail-reads
 
 slice-aggregate-digits-into : tie.Need-slice-aggregate-digits-into
 slice-aggregate-digits-into c = search needs

@@ -1,18 +1,13 @@
-use mathlib.Core.Path.{_≡_}
+-- The invariant: putting the spaces that are left at `k` comes to putting all of them at `at`.
 use Prim.Native.Nat.{_<_}
-use native.Mathlib.Omega.{arith}
-use mathlib.Core.List.{_∷_, []}
-use lib.ListN.{replicate, length-replicate}
-use Rattle.tables.proofs.PageLaws.{ToPut, to-put, putting, put-all, spaces-more}
-use Prim.Native.Nat.{_-_, _≤_}
 use mathlib.Core.Path.{_≡_}
-use lib.ListN.{length, drop}
+use mathlib.Core.List.{_∷_, []}
+use native.Mathlib.Omega.{arith}
+use lib.ListN.{replicate, length-replicate}
 use borrow.Author.Needs.{needs}
+use Rattle.tables.proofs.PageLaws.{ToPut, to-put, putting, put-all, spaces-more}
 use Rattle.tables.proofs.page.put_spaces.Statement.{statement}
 use Rattle.tables.proofs.page.put_spaces.Tie as tie
-use Rattle.tables.proofs.page.put_spaces.Reads as reads
-use Rattle.tables.proofs.page.put_spaces.Lts as lts
-use Rattle.tables.proofs.page.put_byte.Reads as put-byte-reads
 
 abbrev Inv-loop : tie.InvT-loop
 Inv-loop page₀ at n k₀ left₀ page k left = ToPut page₀ at (replicate n 32) page k (replicate left 32)

@@ -1,17 +1,13 @@
-use native.Mathlib.Omega.{arith}
-use lib.ListN.{length-drop}
+-- The invariant: putting what is left of `s` at `k` comes to putting all of it at `at`.
+use Prim.Native.Nat.{_-_}
 use mathlib.Core.List.{_∷_, []}
+use native.Mathlib.Omega.{arith}
+use lib.ListN.{length-drop, length, drop}
+use borrow.Author.Needs.{needs}
 use Rattle.tables.proofs.Laws.{step, stop}
 use Rattle.tables.proofs.PageLaws.{ToPut, to-put, putting, put-all}
-use Prim.Native.Nat.{_-_, _≤_}
-use mathlib.Core.Path.{_≡_}
-use lib.ListN.{length, drop}
-use borrow.Author.Needs.{needs}
 use Rattle.tables.proofs.page.put_tail.Statement.{statement}
 use Rattle.tables.proofs.page.put_tail.Tie as tie
-use Rattle.tables.proofs.page.put_tail.Reads as reads
-use Rattle.tables.proofs.page.put_tail.Lts as lts
-use Rattle.tables.proofs.page.put_byte.Reads as put-byte-reads
 
 abbrev Inv-loop : tie.InvT-loop
 Inv-loop page₀ at s a k₀ i₀ page k i = ToPut page₀ at (drop a s) page k (drop i s)

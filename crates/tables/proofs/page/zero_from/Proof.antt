@@ -1,16 +1,13 @@
-use mathlib.Core.Path.{refl, sym, _∙_}
+-- The invariant: clearing the page from `i` on is clearing the first page from `n` on.
+use Prim.Native.Nat.{_-_}
+use mathlib.Core.Path.{refl, sym, _∙_, _≡_}
 use native.Mathlib.Omega.{arith}
-use lib.ListN.{length-set}
+use lib.ListN.{length-set, length}
+use borrow.Author.Needs.{needs}
 use Rattle.tables.specs.Page.{cleared}
 use Rattle.tables.proofs.PageLaws.{clear-more, clear-done}
-use Prim.Native.Nat.{_-_, _≤_}
-use mathlib.Core.Path.{_≡_}
-use lib.ListN.{length, drop}
-use borrow.Author.Needs.{needs}
 use Rattle.tables.proofs.page.zero_from.Statement.{statement}
 use Rattle.tables.proofs.page.zero_from.Tie as tie
-use Rattle.tables.proofs.page.zero_from.Reads as reads
-use Rattle.tables.proofs.page.zero_from.Lts as lts
 
 abbrev Inv-loop : tie.InvT-loop
 Inv-loop page₀ n i₀ page i = (cleared page i ≡ cleared page₀ n) × (length page ≡ length page₀)

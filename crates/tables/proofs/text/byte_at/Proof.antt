@@ -1,11 +1,9 @@
-use borrow.Author.Needs.{needs}
 use mathlib.Core.Path.{sym}
-use lib.ListN.{List·getD-eq-default}
 use denote.Ref.{now}
+use lib.ListN.{List·getD-eq-default}
+use borrow.Author.Needs.{needs}
 use Rattle.tables.proofs.text.byte_at.Statement.{statement}
 use Rattle.tables.proofs.text.byte_at.Tie as tie
-use Rattle.tables.proofs.text.byte_at.Reads as reads
-use Rattle.tables.proofs.text.byte_at.Lts as lts
 
 shared-slice-read-result : tie.Need-shared-slice-read-result
 shared-slice-read-result c = search needs

@@ -1,12 +1,9 @@
-use Rattle.tables.proofs.TextLaws.{count-none, count-some}
-use Rattle.tables.proofs.Laws.{rest}
 use denote.Ref.{now}
 use borrow.Author.Needs.{needs}
+use Rattle.tables.proofs.TextLaws.{count-none, count-some}
+use Rattle.tables.proofs.Laws.{rest}
 use Rattle.tables.proofs.text.count_characters.Statement.{statement}
 use Rattle.tables.proofs.text.count_characters.Tie as tie
-use Rattle.tables.proofs.text.count_characters.Reads as reads
-use Rattle.tables.proofs.text.count_characters.Lts as lts
-use Rattle.tables.proofs.text.count_starts.Reads as count-starts-reads
 
 returns : tie.Need-returns
 returns c = count-none (now (c .before .before .args .s)) (c .if1 .taken)

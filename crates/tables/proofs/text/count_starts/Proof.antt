@@ -1,21 +1,15 @@
-use Rattle.tables.proofs.TextLaws.{starts-turn}
-use Rattle.tables.proofs.Laws.{stop}
-use Rattle.tables.specs.Text.{isInside, starts}
+-- The invariant: the characters are the `n` counted and those that start in what is left.
+use Prim.Native.Nat.{_+_, _-_, _≤_}
+use mathlib.Core.Path.{_∙_, _≡_}
 use native.Mathlib.Omega.{arith}
-use mathlib.Core.Path.{sym, ap, _∙_}
 use denote.Ref.{now}
-use Prim.Native.Nat.{ℕ, _+_}
-use mathlib.Core.Bool.{cond}
-use Prim.Native.Nat.{_-_, _≤_}
-use mathlib.Core.Path.{_≡_}
 use lib.ListN.{length, drop}
 use borrow.Author.Needs.{needs}
+use Rattle.tables.specs.Text.{starts}
+use Rattle.tables.proofs.TextLaws.{starts-turn}
+use Rattle.tables.proofs.Laws.{stop}
 use Rattle.tables.proofs.text.count_starts.Statement.{statement}
 use Rattle.tables.proofs.text.count_starts.Tie as tie
-use Rattle.tables.proofs.text.count_starts.Reads as reads
-use Rattle.tables.proofs.text.count_starts.Lts as lts
-use Rattle.tables.proofs.text.is_inside.Reads as is-inside-reads
-use Rattle.tables.proofs.text.one_more_unless.Reads as one-more-unless-reads
 
 abbrev Inv-loop : tie.InvT-loop
 Inv-loop s n₀ i₀ n i = (length (starts s) ≡ n + length (starts (drop i s))) × (n ≤ i) × (i ≤ length s)

@@ -1,12 +1,8 @@
-use Rattle.tables.proofs.TextLaws.{first-is}
 use denote.Ref.{now}
 use borrow.Author.Needs.{needs}
+use Rattle.tables.proofs.TextLaws.{first-is}
 use Rattle.tables.proofs.text.first_character.Statement.{statement}
 use Rattle.tables.proofs.text.first_character.Tie as tie
-use Rattle.tables.proofs.text.first_character.Reads as reads
-use Rattle.tables.proofs.text.first_character.Lts as lts
-use Rattle.tables.proofs.text.byte_at.Reads as byte-at-reads
-use Rattle.tables.proofs.text.is_inside.Reads as is-inside-reads
 
 byte-at-requires : tie.Need-byte-at-requires
 byte-at-requires c κs = search needs

@@ -1,13 +1,10 @@
-use Rattle.tables.proofs.TextLaws.{take-front}
-use Rattle.tables.specs.Text.{isWord}
-use lib.Seq.{length-take-le}
 use mathlib.Core.Path.{sym}
+use lib.Seq.{length-take-le}
 use borrow.Author.Needs.{needs}
+use Rattle.tables.specs.Text.{isWord}
+use Rattle.tables.proofs.TextLaws.{take-front}
 use Rattle.tables.proofs.text.first_word.Statement.{statement}
 use Rattle.tables.proofs.text.first_word.Tie as tie
-use Rattle.tables.proofs.text.first_word.Reads as reads
-use Rattle.tables.proofs.text.first_word.Lts as lts
-use Rattle.tables.proofs.text.word_len.Reads as word-len-reads
 
 word-len-requires : tie.Need-word-len-requires
 word-len-requires c κs = search needs

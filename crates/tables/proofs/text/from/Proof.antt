@@ -1,11 +1,9 @@
-use borrow.Author.Needs.{needs}
 use mathlib.Core.Path.{sym}
 use native.Mathlib.Nat.{le-of-lt}
+use borrow.Author.Needs.{needs}
 use Rattle.tables.proofs.Laws.{rest, stop}
 use Rattle.tables.proofs.text.from.Statement.{statement}
 use Rattle.tables.proofs.text.from.Tie as tie
-use Rattle.tables.proofs.text.from.Reads as reads
-use Rattle.tables.proofs.text.from.Lts as lts
 
 sub-result : tie.Need-sub-result
 sub-result c = search needs

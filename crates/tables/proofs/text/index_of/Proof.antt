@@ -1,19 +1,16 @@
-use Rattle.tables.proofs.TextLaws.{front-more, front-stop, front-end}
-use Rattle.tables.specs.Text.{differs, before}
-use native.Mathlib.Omega.{arith}
-use mathlib.Core.Path.{sym, ap, _∙_}
+-- The invariant: what stands before the first `x` is the `i` bytes passed and that part of what is left.
+use Prim.Native.Nat.{_+_, _-_, _≤_}
+use mathlib.Core.Path.{sym, ap, _∙_, _≡_}
 use mathlib.Core.Bool.{not}
-use Prim.Native.Nat.{_+_}
+use native.Mathlib.Omega.{arith}
 use denote.Ref.{now}
-use borrow.Author.Tests.{eq-eqb, ne-eqb}
-use Prim.Native.Nat.{_-_, _≤_}
-use mathlib.Core.Path.{_≡_}
 use lib.ListN.{length, drop}
+use borrow.Author.Tests.{eq-eqb, ne-eqb}
 use borrow.Author.Needs.{needs}
+use Rattle.tables.specs.Text.{differs, before}
+use Rattle.tables.proofs.TextLaws.{front-more, front-stop, front-end}
 use Rattle.tables.proofs.text.index_of.Statement.{statement}
 use Rattle.tables.proofs.text.index_of.Tie as tie
-use Rattle.tables.proofs.text.index_of.Reads as reads
-use Rattle.tables.proofs.text.index_of.Lts as lts
 
 abbrev Inv-loop : tie.InvT-loop
 Inv-loop s x i₀ i = (length (before x s) ≡ i + length (before x (drop i s))) × (i ≤ length s)

@@ -1,19 +1,15 @@
-use Rattle.tables.proofs.TextLaws.{kept-less, kept-stop}
-use Rattle.tables.specs.Text.{isWhite, trimEnd}
+-- The invariant: the text and its first `e` bytes are the same without the white space at their ends.
+use Prim.Native.Nat.{_≤_}
+use mathlib.Core.Path.{sym, ap, _∙_, _≡_}
 use native.Mathlib.Omega.{arith}
-use mathlib.Core.Path.{refl, sym, ap, _∙_}
 use denote.Ref.{now}
-use lib.ListN.{take}
+use lib.ListN.{take, length}
 use lib.Seq.{take-length, length-take-le}
-use Prim.Native.Nat.{_-_, _≤_}
-use mathlib.Core.Path.{_≡_}
-use lib.ListN.{length, drop}
 use borrow.Author.Needs.{needs}
+use Rattle.tables.specs.Text.{trimEnd}
+use Rattle.tables.proofs.TextLaws.{kept-less, kept-stop}
 use Rattle.tables.proofs.text.kept_len.Statement.{statement}
 use Rattle.tables.proofs.text.kept_len.Tie as tie
-use Rattle.tables.proofs.text.kept_len.Reads as reads
-use Rattle.tables.proofs.text.kept_len.Lts as lts
-use Rattle.tables.proofs.text.is_white.Reads as is-white-reads
 
 abbrev Inv-loop : tie.InvT-loop
 Inv-loop s e₀ e = (trimEnd s ≡ trimEnd (take e s)) × (e ≤ length s)

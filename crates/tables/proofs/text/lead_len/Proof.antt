@@ -1,20 +1,14 @@
-use Rattle.tables.proofs.TextLaws.{front-more, front-stop, front-end}
-use Rattle.tables.specs.Text.{isWhite, isWord, lead, word}
+-- The invariant: the white space in front is the `i` bytes passed and that of what is left.
+use Prim.Native.Nat.{_+_, _-_, _≤_}
+use mathlib.Core.Path.{sym, _∙_, _≡_}
 use native.Mathlib.Omega.{arith}
-use mathlib.Core.Path.{sym, ap, _∙_}
-use mathlib.Core.Bool.{not}
-use Prim.Native.Nat.{_+_}
 use denote.Ref.{now}
-use borrow.Author.Tests.{eq-eqb, ne-eqb}
-use Prim.Native.Nat.{_-_, _≤_}
-use mathlib.Core.Path.{_≡_}
 use lib.ListN.{length, drop}
 use borrow.Author.Needs.{needs}
+use Rattle.tables.specs.Text.{isWhite, lead}
+use Rattle.tables.proofs.TextLaws.{front-more, front-stop, front-end}
 use Rattle.tables.proofs.text.lead_len.Statement.{statement}
 use Rattle.tables.proofs.text.lead_len.Tie as tie
-use Rattle.tables.proofs.text.lead_len.Reads as reads
-use Rattle.tables.proofs.text.lead_len.Lts as lts
-use Rattle.tables.proofs.text.is_white.Reads as is-white-reads
 
 abbrev Inv-loop : tie.InvT-loop
 Inv-loop s i₀ i = (length (lead s) ≡ i + length (lead (drop i s))) × (i ≤ length s)

@@ -1,19 +1,14 @@
+use Prim.Native.Nat.{ℕ}
 use mathlib.Core.Path.{ap, _∙_}
 use mathlib.Core.List.{List}
-use Prim.Native.Nat.{ℕ}
-use lib.ListN.{drop}
 use denote.Ref.{now}
-use Rattle.tables.specs.Text.{trimStart}
+use lib.ListN.{drop}
+use borrow.Author.Needs.{needs}
+use Rattle.tables.specs.Text.{trimStart, isWord}
 use Rattle.tables.proofs.Laws.{rest}
 use Rattle.tables.proofs.TextLaws.{drop-front}
-use Rattle.tables.specs.Text.{isWord}
-use borrow.Author.Needs.{needs}
 use Rattle.tables.proofs.text.next_words.Statement.{statement}
 use Rattle.tables.proofs.text.next_words.Tie as tie
-use Rattle.tables.proofs.text.next_words.Reads as reads
-use Rattle.tables.proofs.text.next_words.Lts as lts
-use Rattle.tables.proofs.text.trim_start.Reads as trim-start-reads
-use Rattle.tables.proofs.text.word_len.Reads as word-len-reads
 
 word-len-requires : tie.Need-word-len-requires
 word-len-requires c κs = search needs

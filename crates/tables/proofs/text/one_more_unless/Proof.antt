@@ -2,8 +2,6 @@ use native.Mathlib.Omega.{arith}
 use borrow.Author.Needs.{needs}
 use Rattle.tables.proofs.text.one_more_unless.Statement.{statement}
 use Rattle.tables.proofs.text.one_more_unless.Tie as tie
-use Rattle.tables.proofs.text.one_more_unless.Reads as reads
-use Rattle.tables.proofs.text.one_more_unless.Lts as lts
 
 add-result : tie.Need-add-result
 add-result c = search needs

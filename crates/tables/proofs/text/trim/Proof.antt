@@ -1,11 +1,7 @@
-use Rattle.tables.specs.Text.{trimmed}
 use borrow.Author.Needs.{needs}
+use Rattle.tables.specs.Text.{trimmed}
 use Rattle.tables.proofs.text.trim.Statement.{statement}
 use Rattle.tables.proofs.text.trim.Tie as tie
-use Rattle.tables.proofs.text.trim.Reads as reads
-use Rattle.tables.proofs.text.trim.Lts as lts
-use Rattle.tables.proofs.text.trim_end.Reads as trim-end-reads
-use Rattle.tables.proofs.text.trim_start.Reads as trim-start-reads
 
 trim-start-requires : tie.Need-trim-start-requires
 trim-start-requires c κs = search needs

@@ -1,12 +1,9 @@
-use Rattle.tables.proofs.TextLaws.{take-kept}
-use lib.Seq.{length-take-le}
 use mathlib.Core.Path.{sym}
+use lib.Seq.{length-take-le}
 use borrow.Author.Needs.{needs}
+use Rattle.tables.proofs.TextLaws.{take-kept}
 use Rattle.tables.proofs.text.trim_end.Statement.{statement}
 use Rattle.tables.proofs.text.trim_end.Tie as tie
-use Rattle.tables.proofs.text.trim_end.Reads as reads
-use Rattle.tables.proofs.text.trim_end.Lts as lts
-use Rattle.tables.proofs.text.kept_len.Reads as kept-len-reads
 
 kept-len-requires : tie.Need-kept-len-requires
 kept-len-requires c κs = search needs

@@ -1,12 +1,9 @@
+use borrow.Author.Needs.{needs}
+use Rattle.tables.specs.Text.{isWhite}
 use Rattle.tables.proofs.Laws.{rest}
 use Rattle.tables.proofs.TextLaws.{drop-front}
-use Rattle.tables.specs.Text.{isWhite}
-use borrow.Author.Needs.{needs}
 use Rattle.tables.proofs.text.trim_start.Statement.{statement}
 use Rattle.tables.proofs.text.trim_start.Tie as tie
-use Rattle.tables.proofs.text.trim_start.Reads as reads
-use Rattle.tables.proofs.text.trim_start.Lts as lts
-use Rattle.tables.proofs.text.lead_len.Reads as lead-len-reads
 
 lead-len-requires : tie.Need-lead-len-requires
 lead-len-requires c κs = search needs

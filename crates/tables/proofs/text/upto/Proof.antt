@@ -1,11 +1,9 @@
-use borrow.Author.Needs.{needs}
 use mathlib.Core.Path.{sym}
-use lib.Seq.{length-take-le, take-all}
 use native.Mathlib.Nat.{le-of-lt}
+use lib.Seq.{length-take-le, take-all}
+use borrow.Author.Needs.{needs}
 use Rattle.tables.proofs.text.upto.Statement.{statement}
 use Rattle.tables.proofs.text.upto.Tie as tie
-use Rattle.tables.proofs.text.upto.Reads as reads
-use Rattle.tables.proofs.text.upto.Lts as lts
 
 slice-aggregate-result : tie.Need-slice-aggregate-result
 slice-aggregate-result c = sym (length-take-le _ _ (c .before .if1 .taken))

@@ -1,20 +1,15 @@
-use Rattle.tables.proofs.TextLaws.{front-more, front-stop, front-end}
-use Rattle.tables.specs.Text.{isWhite, isWord, lead, word}
-use native.Mathlib.Omega.{arith}
-use mathlib.Core.Path.{sym, ap, _∙_}
+-- The invariant: the word is the `i` bytes passed and the word of what is left.
+use Prim.Native.Nat.{_+_, _-_, _≤_}
+use mathlib.Core.Path.{sym, ap, _∙_, _≡_}
 use mathlib.Core.Bool.{not}
-use Prim.Native.Nat.{_+_}
+use native.Mathlib.Omega.{arith}
 use denote.Ref.{now}
-use borrow.Author.Tests.{eq-eqb, ne-eqb}
-use Prim.Native.Nat.{_-_, _≤_}
-use mathlib.Core.Path.{_≡_}
 use lib.ListN.{length, drop}
 use borrow.Author.Needs.{needs}
+use Rattle.tables.specs.Text.{isWord, word}
+use Rattle.tables.proofs.TextLaws.{front-more, front-stop, front-end}
 use Rattle.tables.proofs.text.word_len.Statement.{statement}
 use Rattle.tables.proofs.text.word_len.Tie as tie
-use Rattle.tables.proofs.text.word_len.Reads as reads
-use Rattle.tables.proofs.text.word_len.Lts as lts
-use Rattle.tables.proofs.text.is_white.Reads as is-white-reads
 
 abbrev Inv-loop : tie.InvT-loop
 Inv-loop s i₀ i = (length (word s) ≡ i + length (word (drop i s))) × (i ≤ length s)
