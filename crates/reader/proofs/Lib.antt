@@ -1,0 +1,17 @@
+pub mod CardSets
+pub mod DealBack
+pub mod DealLaws
+pub mod DealPins
+pub mod Inside
+pub mod LineLaws
+pub mod LinePins
+pub mod NameLaws
+pub mod NamePins
+pub mod PieceLaws
+pub mod StoreLaws
+pub mod TagLaws
+pub mod Tags
+pub mod TagsBack
+pub mod WordLaws
+pub mod WordPins
+pub mod WordTokens

@@ -1,0 +1,48 @@
+-- The tag names that a reader knows, by number.
+use Prim.Native.Nat.{ℕ, _+_}
+use mathlib.Core.List.{List, [], _∷_}
+use mathlib.Core.Bool.{cond, _&&_}
+use lib.Dec.{eqb}
+use lib.ListN.{length, take, drop}
+use Rattle.tables.specs.Text.{ascii}
+use Rattle.reader.specs.Words.{same}
+
+-- Numbered from 1.
+unfoldable pub tagNames : List (List ℕ)
+tagNames =
+    ascii "Board"
+    ∷ ascii "Dealer"
+    ∷ ascii "Vulnerable"
+    ∷ ascii "Deal"
+    ∷ ascii "Event"
+    ∷ ascii "Site"
+    ∷ ascii "Date"
+    ∷ ascii "Declarer"
+    ∷ ascii "Contract"
+    ∷ ascii "Result"
+    ∷ ascii "North"
+    ∷ ascii "East"
+    ∷ ascii "South"
+    ∷ ascii "West"
+    ∷ ascii "Auction"
+    ∷ ascii "Play"
+    ∷ ascii "Note"
+    ∷ ascii "DoubleDummyTricks"
+    ∷ ascii "OptimumResultTable"
+    ∷ ascii "OptimumScore"
+    ∷ ascii "ParContract"
+    ∷ []
+
+-- The number of the first of some names that is equal to a text, the first name's number being n; 0 where none is.
+abbrev pub numberIn : List (List ℕ) → List ℕ → ℕ → ℕ
+numberIn [] t n = 0
+numberIn (w ∷ ws) t n = cond (same w t) n (numberIn ws t (n + 1))
+
+-- The number of a tag name, compared byte by byte; 0 for any other.
+unfoldable pub tagNumber : List ℕ → ℕ
+tagNumber t = numberIn tagNames t 1
+
+-- The same over a table: the names' lengths, and the names one after the other in a text. Lengths are compared first.
+abbrev pub placeIn : List ℕ → List ℕ → List ℕ → ℕ → ℕ
+placeIn [] text t n = 0
+placeIn (l ∷ ls) text t n = cond (eqb l (length t) && same (take l text) t) n (placeIn ls (drop l text) t (n + 1))
