@@ -6,3 +6,8 @@ pub mod Words
 pub mod Names
 pub mod Deals
 pub mod Pieces
+pub mod Auction
+pub mod Play
+pub mod Sections
+pub mod Boards
+pub mod Records

@@ -1,0 +1,331 @@
+-- A board: what each line of its record does to it, and the entries that the line adds. Places are counted from the record's
+-- start, entries from its first.
+use Prim.Native.Nat.{ℕ, _+_, _-_, _≤_}
+use mathlib.Core.Path.{_≡_}
+use mathlib.Core.List.{List, [], _∷_, _++_}
+use mathlib.Core.Bool.{Bool, true, false, cond, _&&_, _||_, not}
+use lib.Dec.{ltb, eqb}
+use lib.ListN.{length, replicate}
+use Rattle.tables.specs.declared.letters.Conventions.{Conventions}
+use Rattle.tables.specs.declared.numbers.Number.{Number}
+use Rattle.tables.specs.declared.numbers.Number.the-variants.{Value, Bad}
+use Rattle.tables.specs.Text.{isWhite, lead, trimmed, firstCharacter}
+use Rattle.tables.specs.Numbers.{numberOf, signedOf}
+use Rattle.tables.specs.Letters.{seatOf, every}
+use Rattle.tables.specs.Tables.{Reading, holds, refuses, tableOfDigits, gathered}
+use Rattle.reader.specs.declared.store.Entry.{Entry}
+use Rattle.reader.specs.declared.tag.Span.{Span}
+use Rattle.reader.specs.declared.tag.Tag.{Tag}
+use Rattle.reader.specs.declared.line.Line.{Line}
+use Rattle.reader.specs.declared.line.Line.the-variants.{Blank, Brace, Directive, Tag as TagOn, Bracket, Data}
+use Rattle.reader.specs.declared.line.TagReading.{TagReading}
+use Rattle.reader.specs.declared.line.TagReading.the-variants.{Plain, WithComment, WithData}
+use Rattle.reader.specs.declared.deal.Hands.{Hands}
+use Rattle.reader.specs.declared.deal.DealRead.{DealRead}
+use Rattle.reader.specs.declared.deal.DealRead.the-variants.{Dealt, NoDeal}
+use Rattle.reader.specs.declared.board.Identity.{Identity}
+use Rattle.reader.specs.declared.board.DealCard.{DealCard}
+use Rattle.reader.specs.declared.board.TableCard.{TableCard}
+use Rattle.reader.specs.declared.board.Values.{Values}
+use Rattle.reader.specs.declared.board.Section.{Section}
+use Rattle.reader.specs.declared.board.Board.{Board}
+use Rattle.reader.specs.declared.board.State.{State}
+use Rattle.reader.specs.declared.section.Open.{Open}
+use Rattle.reader.specs.declared.section.Walk.{Walk}
+use Rattle.reader.specs.Lines.{lineKind, hasBrace, lastBrace}
+use Rattle.reader.specs.Words.{same, contractTrump, vulnerabilityOf}
+use Rattle.reader.specs.Names.{tagNumber}
+use Rattle.reader.specs.Deals.{dealOf, handWords}
+use Rattle.reader.specs.Pieces.{Out, Emits, andThen, entry, rawLines}
+use Rattle.reader.specs.Tag.{cut}
+use Rattle.reader.specs.Play.{lastTrick}
+use Rattle.reader.specs.Sections.{noteAfter, walkedAll}
+
+-- ---- what a tag's value does to a board
+
+-- Number, dealer, vulnerability (4 where none was read), declarer, result plus 128. A bad one takes the earlier value away.
+abbrev pub withNumber : Identity → Number → Identity
+withNumber i Bad = record { «number_met» = 0; number = 0; dealer = i .dealer; vulnerability = i .vulnerability; declarer = i .declarer; «result_met» = i .«result_met»; result = i .result }
+withNumber i (Value v) = record { «number_met» = 1; number = v; dealer = i .dealer; vulnerability = i .vulnerability; declarer = i .declarer; «result_met» = i .«result_met»; result = i .result }
+
+abbrev pub withDealer : Identity → ℕ → Identity
+withDealer i s = record { «number_met» = i .«number_met»; number = i .number; dealer = s; vulnerability = i .vulnerability; declarer = i .declarer; «result_met» = i .«result_met»; result = i .result }
+
+abbrev pub withVulnerability : Identity → ℕ → Identity
+withVulnerability i v = record { «number_met» = i .«number_met»; number = i .number; dealer = i .dealer; vulnerability = v; declarer = i .declarer; «result_met» = i .«result_met»; result = i .result }
+
+abbrev pub withDeclarer : Identity → ℕ → Identity
+withDeclarer i s = record { «number_met» = i .«number_met»; number = i .number; dealer = i .dealer; vulnerability = i .vulnerability; declarer = s; «result_met» = i .«result_met»; result = i .result }
+
+abbrev pub withResult : Identity → Number → Identity
+withResult i Bad = record { «number_met» = i .«number_met»; number = i .number; dealer = i .dealer; vulnerability = i .vulnerability; declarer = i .declarer; «result_met» = 0; result = 0 }
+withResult i (Value v) = record { «number_met» = i .«number_met»; number = i .number; dealer = i .dealer; vulnerability = i .vulnerability; declarer = i .declarer; «result_met» = 1; result = v }
+
+-- By the tag's number: 1 Board, 2 Dealer, 3 Vulnerable, 8 Declarer, 10 Result.
+unfoldable pub identityBy : Conventions → ℕ → List ℕ → Identity → Identity
+identityBy c k value i =
+    cond (eqb k 1) (withNumber i (numberOf 4294967295 value))
+    (cond (eqb k 2) (withDealer i (seatOf c (firstCharacter value)))
+    (cond (eqb k 3) (withVulnerability i (vulnerabilityOf value))
+    (cond (eqb k 8) (withDeclarer i (seatOf c (firstCharacter value)))
+    (cond (eqb k 10) (withResult i (signedOf 128 value)) i))))
+
+-- 4 Deal: the last one that parsed; one that did not is kept as written, and wins, where it is not blank.
+abbrev pub parsedDeal : Hands → DealCard → DealCard
+parsedDeal h d = record { kind = cond (eqb (d .kind) 2) 2 1; words = handWords h }
+
+abbrev pub dealRead : DealRead → List ℕ → DealCard → DealCard
+dealRead (Dealt h) value d = parsedDeal h d
+dealRead NoDeal value d = record { kind = cond (eqb (length (trimmed value)) 0) (d .kind) 2; words = d .words }
+
+unfoldable pub dealBy : Conventions → ℕ → List ℕ → DealCard → DealCard
+dealBy c k value d = cond (eqb k 4) (dealRead (dealOf c value) value d) d
+
+-- 18 DoubleDummyTricks: never over a table of an OptimumResultTable; bad digits take an earlier one away.
+abbrev pub digitsTable : Reading → TableCard
+digitsTable (holds cells) = record { kind = 1; cells = cells }
+digitsTable (refuses f) = record { kind = 0; cells = replicate 20 0 }
+
+unfoldable pub tableBy : ℕ → List ℕ → TableCard → TableCard
+tableBy k value t = cond (eqb k 18 && not (eqb (t .kind) 2)) (digitsTable (tableOfDigits value)) t
+
+-- 9 Contract, where it is kept: the trump that a play takes from it.
+abbrev pub isKeptContract : List ℕ → Bool
+isKeptContract value = not (eqb (length value) 0) && not (same (63 ∷ []) value)
+
+unfoldable pub contractBy : Conventions → ℕ → List ℕ → ℕ → ℕ
+contractBy c k value trump = cond (eqb k 9 && isKeptContract value) (contractTrump c value) trump
+
+-- Whether the value's entry is kept on the card. Board, Event, Site, Date and names: where it is not empty; Contract: nor `?`;
+-- Deal: where it did not parse and is not blank; OptimumScore and ParContract: always.
+abbrev pub isUnparsed : DealRead → List ℕ → Bool
+isUnparsed (Dealt h) value = false
+isUnparsed NoDeal value = not (eqb (length (trimmed value)) 0)
+
+-- A tag other than Deal, and any tag.
+unfoldable pub isKeptValue : ℕ → List ℕ → Bool
+isKeptValue k value = cond (eqb k 9) (isKeptContract value) (ltb 19 k || not (eqb (length value) 0))
+
+unfoldable pub isKept : Conventions → ℕ → List ℕ → Bool
+isKept c k value = cond (eqb k 4) (isUnparsed (dealOf c value) value) (isKeptValue k value)
+
+abbrev pub valuePut : ℕ → ℕ → Values → Values
+valuePut k place v =
+    record {
+      id = cond (eqb k 1) place (v .id);
+      event = cond (eqb k 5) place (v .event);
+      site = cond (eqb k 6) place (v .site);
+      date = cond (eqb k 7) place (v .date);
+      contract = cond (eqb k 9) place (v .contract);
+      north = cond (eqb k 11) place (v .north);
+      east = cond (eqb k 12) place (v .east);
+      south = cond (eqb k 13) place (v .south);
+      west = cond (eqb k 14) place (v .west);
+      deal = cond (eqb k 4) place (v .deal);
+      score = cond (eqb k 20) place (v .score);
+      par = cond (eqb k 21) place (v .par);
+    }
+
+-- The values after a tag other than Deal, and after any tag.
+unfoldable pub valuesPut : ℕ → List ℕ → ℕ → Values → Values
+valuesPut k value place v = cond (isKeptValue k value) (valuePut k place v) v
+
+unfoldable pub valuesBy : Conventions → ℕ → List ℕ → ℕ → Values → Values
+valuesBy c k value place v = cond (isKept c k value) (valuePut k place v) v
+
+-- A board after a tag of number k; place is the value's entry plus 1.
+unfoldable pub applied : Conventions → ℕ → List ℕ → ℕ → Board → Board
+applied c k value place b =
+    record {
+      id = identityBy c k value (b .id);
+      deal = dealBy c k value (b .deal);
+      table = tableBy k value (b .table);
+      values = valuesBy c k value place (b .values);
+      auction = b .auction;
+      play = b .play;
+      trump = b .trump;
+      contract = contractBy c k value (b .contract);
+    }
+
+-- ---- sections
+
+abbrev pub noSpan : Span
+noSpan = record { start = 0; len = 0 }
+
+abbrev pub noOpen : Open
+noOpen = record { kind = 0; seat = 4; at = 0; split = noSpan }
+
+-- A section with a seat: none where the seat is bad.
+abbrev pub seatOpen : ℕ → ℕ → ℕ → Span → Open
+seatOpen kind seat at split = cond (ltb seat 4) (record { kind = kind; seat = seat; at = at; split = split }) noOpen
+
+-- 15 Auction, 16 Play, 19 OptimumResultTable open a section; at is where the lines after the tag start.
+unfoldable pub openBy : Conventions → ℕ → List ℕ → ℕ → Span → Open
+openBy c k value at split =
+    cond (eqb k 15) (seatOpen 1 (seatOf c (firstCharacter value)) at split)
+    (cond (eqb k 16) (seatOpen 2 (seatOf c (firstCharacter value)) at split)
+    (cond (eqb k 19) (record { kind = 3; seat = 4; at = at; split = split }) noOpen))
+
+abbrev pub withSections : Board → TableCard → Section → Section → ℕ → Board
+withSections b table auction play trump =
+    record { id = b .id; deal = b .deal; table = table; values = b .values; auction = auction; play = play; trump = trump; contract = b .contract }
+
+-- The board after its open section: a section with tokens replaces an earlier one; a whole table of rows wins.
+abbrev pub auctionClosed : Board → Open → ℕ → Walk → Board
+auctionClosed b o n w =
+    cond (w .bidding .any)
+    (withSections b (b .table) (record { first = n + 1; count = w .bidding .count; seat = o .seat; end = w .bidding .end }) (b .play) (b .trump))
+    b
+
+abbrev pub playClosed : Board → Open → ℕ → Walk → Board
+playClosed b o n w =
+    cond (w .tricks .any)
+    (withSections b (b .table) (b .auction) (record { first = n + 1; count = lastTrick (w .tricks) .state .count; seat = o .seat; end = w .tricks .end }) (b .contract))
+    b
+
+abbrev pub rowsClosed : Board → Reading → Board
+rowsClosed b (holds cells) = withSections b (record { kind = 2; cells = cells }) (b .auction) (b .play) (b .trump)
+rowsClosed b (refuses f) = b
+
+abbrev pub tableClosed : Board → Walk → Board
+tableClosed b w = cond (w .rows .fault) b (rowsClosed b (gathered (w .rows .cells .tricks)))
+
+abbrev pub boardClosed : Board → Open → ℕ → Walk → Board
+boardClosed b o n w = cond (eqb (o .kind) 1) (auctionClosed b o n w) (cond (eqb (o .kind) 2) (playClosed b o n w) (tableClosed b w))
+
+-- Calls and tricks stand where their section closes.
+abbrev pub closedEntries : Open → Out Walk → List Entry
+closedEntries o w = w .entries ++ cond (eqb (o .kind) 2) (lastTrick (w .state .tricks) .entries) []
+
+abbrev pub closedState : State → Board → ℕ → State
+closedState s b k = record { board = b; section = noOpen; tags = s .tags; n = s .n + k; noting = s .noting; block = s .block }
+
+abbrev pub closedBy : State → Out Walk → Out State
+closedBy s w =
+    record {
+      state = closedState s (boardClosed (s .board) (s .section) (s .n) (w .state)) (length (closedEntries (s .section) w));
+      entries = closedEntries (s .section) w;
+    }
+
+unfoldable pub closed : Conventions → List ℕ → State → Out State
+closed c r s = cond (eqb (s .section .kind) 0) (record { state = s; entries = [] }) (closedBy s (walkedAll c r (s .section) (s .board .contract)))
+
+-- ---- lines
+
+abbrev pub countedState : State → ℕ → State
+countedState s k = record { board = s .board; section = s .section; tags = s .tags; n = s .n + k; noting = s .noting; block = s .block }
+
+abbrev pub adding : State → List Entry → Out State
+adding s es = record { state = countedState s (length es); entries = es }
+
+-- A tag, once open sections are closed: its name, its value, and what its value does. p is the line's place, q the next line's.
+unfoldable pub tagged : Conventions → State → ℕ → List ℕ → ℕ → Tag → Span → Out State
+tagged c s p l q t split =
+    record {
+      state = record {
+        board = applied c (tagNumber (cut (t .name) l)) (cut (t .value) l) (s .n + 2) (s .board);
+        section = openBy c (tagNumber (cut (t .name) l)) (cut (t .value) l) q split;
+        tags = s .tags + 1;
+        n = s .n + 2;
+        noting = false;
+        block = s .block;
+      };
+      entries = entry 1 (p + t .name .start) (t .name .len) 0 ∷ entry 2 (p + t .value .start) (t .value .len) 0 ∷ [];
+    }
+
+-- A directive, with the number of tags before it; a comment on a tag's line counts its own tag.
+abbrev pub directed : State → ℕ → Span → Out State
+directed s p d = adding s (entry 3 (p + d .start) (d .len) (s .tags) ∷ [])
+
+-- A data line, where a section is open.
+abbrev pub dated : State → ℕ → Span → Out State
+dated s p d = adding s (cond (eqb (s .section .kind) 0) [] (entry 5 (p + d .start) (d .len) (s .section .kind) ∷ []))
+
+abbrev pub at : ℕ → Span → Span
+at p d = record { start = p + d .start; len = d .len }
+
+abbrev pub readBy : Conventions → State → ℕ → List ℕ → ℕ → TagReading → Out State
+readBy c s p l q (Plain t) = tagged c s p l q t noSpan
+readBy c s p l q (WithComment t d) = andThen (tagged c s p l q t noSpan) (directed (tagged c s p l q t noSpan .state) p d)
+readBy c s p l q (WithData t d) = andThen (tagged c s p l q t (at p d)) (dated (tagged c s p l q t (at p d) .state) p d)
+
+unfoldable pub readTag : Conventions → List ℕ → State → ℕ → List ℕ → TagReading → Out State
+readTag c r s p l t = andThen (closed c r s) (readBy c (closed c r s .state) p l (p + length l) t)
+
+-- A commentary block of the record r, from i to j: raw bytes; one of white space alone has no entry.
+abbrev pub isAllWhite : List ℕ → ℕ → ℕ → Bool
+isAllWhite r i j = every isWhite (cut (record { start = i; len = j - i }) r)
+
+abbrev pub noted : State → Bool → ℕ → State
+noted s noting block = record { board = s .board; section = s .section; tags = s .tags; n = s .n; noting = noting; block = block }
+
+unfoldable pub blocked : List ℕ → State → ℕ → ℕ → Out State
+blocked r s i j = adding (noted s false 0) (cond (isAllWhite r i j) [] (entry 4 i (j - i) (s .tags) ∷ []))
+
+-- A line that opens commentary; its block starts after the `{`.
+unfoldable pub braced : List ℕ → State → ℕ → List ℕ → Out State
+braced r s p l =
+    cond (hasBrace l) (blocked r s (p + length (lead l) + 1) (p + lastBrace l))
+    (record { state = noted s true (p + length (lead l) + 1); entries = [] })
+
+-- A line inside commentary.
+unfoldable pub inNote : List ℕ → State → ℕ → List ℕ → Out State
+inNote r s p l = cond (hasBrace l) (blocked r s (s .block) (p + lastBrace l)) (record { state = s; entries = [] })
+
+abbrev pub lineBy : Conventions → List ℕ → State → ℕ → List ℕ → Line → Out State
+lineBy c r s p l Blank = record { state = s; entries = [] }
+lineBy c r s p l Brace = braced r s p l
+lineBy c r s p l (Directive d) = directed s p d
+lineBy c r s p l (TagOn t) = readTag c r s p l t
+lineBy c r s p l Bracket = record { state = s; entries = [] }
+lineBy c r s p l (Data d) = dated s p d
+
+-- One line of the record r, at p.
+unfoldable pub lineOut : Conventions → List ℕ → State → ℕ → List ℕ → Out State
+lineOut c r s p l = cond (s .noting) (inNote r s p l) (lineBy c r s p l (lineKind l))
+
+-- The record's lines from p on; at its end an open section is closed.
+abbrev pub linesOut : Conventions → List ℕ → State → ℕ → List (List ℕ) → Out State
+linesOut c r s p [] = closed c r s
+linesOut c r s p (l ∷ ls) = andThen (lineOut c r s p l) (linesOut c r (lineOut c r s p l .state) (p + length l) ls)
+
+-- ---- a record
+
+abbrev pub noSection : Section
+noSection = record { first = 0; count = 0; seat = 4; end = 0 }
+
+abbrev pub noBoard : Board
+noBoard =
+    record {
+      id = record { «number_met» = 0; number = 0; dealer = 4; vulnerability = 4; declarer = 4; «result_met» = 0; result = 0 };
+      deal = record { kind = 0; words = replicate 8 0 };
+      table = record { kind = 0; cells = replicate 20 0 };
+      values = record { id = 0; event = 0; site = 0; date = 0; contract = 0; north = 0; east = 0; south = 0; west = 0; deal = 0; score = 0; par = 0 };
+      auction = noSection;
+      play = noSection;
+      trump = 4;
+      contract = 4;
+    }
+
+abbrev pub noState : State
+noState = record { board = noBoard; section = noOpen; tags = 0; n = 0; noting = false; block = 0 }
+
+-- What the text of a record reads as: its board, and its entries.
+unfoldable pub recordOut : Conventions → List ℕ → Out State
+recordOut c r = linesOut c r noState 0 (rawLines r)
+
+-- ---- what holds of a state at the place p of a record: its section and its block start at or before p
+
+pub record Sound (p : ℕ) (s : State) : Type 0 where
+  pub kind-low : s .section .kind ≤ 3
+  pub seat-low : s .section .seat ≤ 4
+  pub leader-low : s .section .kind ≡ 2 → s .section .seat ≤ 3
+  pub lines-before : s .section .at ≤ p
+  pub split-before : s .section .split .start + s .section .split .len ≤ p
+  pub block-before : s .block ≤ p
+
+-- The contract of a step: its answer and its entries, what holds after it at q, and how many entries it adds at most.
+pub record Stepped (a n most q : ℕ) (s : State) (entries entries′ : List ℕ) (r : State) (o : Out State) : Type 0 where
+  pub emits : Emits a n entries entries′ r o
+  pub sound : Sound q r
+  pub grows : r .n ≤ s .n + most

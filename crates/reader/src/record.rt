@@ -1,0 +1,74 @@
+// Where a record ends.
+ghost use mathlib.Core.Path.{_≡_};
+ghost use Prim.Native.Nat.{_<_};
+ghost use lib.ListN.{length};
+ghost use Rattle.reader.specs.Records.{fresh, scanned, closesRecord, EndsAt};
+use crate::line::is_blank;
+use crate::line::opens_board;
+use crate::section::note_after;
+use tables::text::from;
+use tables::text::index_of;
+use tables::text::upto;
+
+// Whether commentary is open, and whether a tag was met since the record's start.
+pub struct Scan {
+    pub noting: bool,
+    pub met: bool,
+}
+
+// The place just after the record, and whether a tag was met in it.
+pub struct RecordEnd {
+    pub end: usize,
+    pub met: bool,
+}
+
+// Whether the line closes the record: a blank line, once a tag was met.
+fn closes_record(s: Scan, l: &[u8]) -> bool
+    ensures { λ r. ⌜ r ≡ closesRecord s (now (l .entry)) ⌝ }
+{
+    let open = s.met & !s.noting;
+    if open {
+        return is_blank(l);
+    }
+    false
+}
+
+// What is known after the line. Once a tag was met, no line is read as a tag.
+fn scan_line(s: Scan, l: &[u8]) -> Scan
+    ensures { λ r. ⌜ r ≡ scanned s (now (l .entry)) ⌝ }
+{
+    let noting = s.noting;
+    let met = s.met;
+    if noting | met {
+        return Scan {
+            noting: note_after(noting, l),
+            met,
+        };
+    }
+    Scan {
+        noting: note_after(false, l),
+        met: opens_board(l),
+    }
+}
+
+// The end of the record that starts at `a`.
+pub fn record_end(text: &[u8], a: usize) -> RecordEnd
+    requires { ⌜ a < length (now text) ⌝ }
+    ensures { λ r. ⌜ EndsAt (now (text .entry)) a r ⌝ }
+{
+    let mut s = Scan {
+        noting: false,
+        met: false,
+    };
+    let mut e = a;
+    while e < text.len() {
+        let rest = from(text, e);
+        let l = upto(rest, index_of(rest, 10) + 1);
+        e += l.len();
+        if closes_record(s, l) {
+            return RecordEnd { end: e, met: true };
+        }
+        s = scan_line(s, l);
+    }
+    RecordEnd { end: e, met: s.met }
+}
