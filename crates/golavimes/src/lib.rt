@@ -1,9 +1,10 @@
 // The C boundary: thin functions on byte and number slices over the layers. include/golavimes.h is kept by hand beside this file.
 ghost use mathlib.Core.Path.{_≡_};
 ghost use lib.ListN.{getD};
-ghost use Rattle.golavimes.specs.Answers.{writtenNumbers, decodedNumbers, WroteOut, ReadOut};
+ghost use Rattle.golavimes.specs.Answers.{writtenNumbers, decodedNumbers, readingNumbers, WroteOut, ReadOut, EditionOut};
 ghost use Rattle.tables.specs.Letters.{builtIn};
 ghost use Rattle.tables.specs.Tables.{digitsText, headerText, rowsText, tableOfDigits, tableOfRows};
+use reader::edition::Reading;
 use tables::dd::Decoded;
 use tables::dd::TableRead;
 use tables::page::Written;
@@ -111,4 +112,34 @@ pub extern "C" fn golavimes_optimum_result_table_from_rows(
         table,
         answer,
     )
+}
+
+fn reading_numbers(r: Reading) -> [u64; 5]
+    ensures { λ n. ⌜ n ≡ readingNumbers r ⌝ }
+{
+    match r {
+        Reading::Taken(boards, entries) => [0, 0, 0, boards, entries],
+        Reading::Refused(f) => [
+            reader::edition::read_number(f),
+            0,
+            reader::edition::read_carried(f),
+            0,
+            0,
+        ],
+    }
+}
+
+// Reads a text into cards of 64 words and entries of 4.
+#[no_mangle]
+pub extern "C" fn golavimes_read(
+    text: &[u8],
+    cards: &mut [u32],
+    entries: &mut [u32],
+    answer: &mut [u64; 5],
+) -> u64
+    ensures { λ r. ⌜ EditionOut builtIn (now (text .entry)) (now (cards .entry)) (now (entries .entry)) (now (cards .exit)) (now (entries .exit)) (now (answer .exit)) r ⌝ }
+{
+    let numbers = reading_numbers(reader::edition::read_pbn(text, cards, entries));
+    *answer = numbers;
+    numbers[0]
 }

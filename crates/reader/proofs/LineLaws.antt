@@ -1,6 +1,6 @@
 -- Laws of lines.
 use Prim.Native.Nat.{ℕ, zero, suc, _-_, _≤_, _<_}
-use mathlib.Core.Path.{_≡_, refl, ap, sym, _∙_}
+use mathlib.Core.Path.{_≡_, refl, ap}
 use mathlib.Core.Bool.{Bool, true, false, cond, not, _&&_, _||_}
 use mathlib.Core.List.{List, [], _∷_}
 use native.Mathlib.Omega.{arith}
@@ -10,7 +10,7 @@ use lib.Seq.{drop-cons}
 use borrow.Author.Tests.{eq-eqb, ne-eqb}
 use Rattle.tables.specs.Text.{isWhite, lead, trimEnd, trimmed, keepEnd}
 use Rattle.tables.specs.Letters.{among}
-use Rattle.tables.proofs.Laws.{by-cases, clash, neither}
+use Rattle.tables.proofs.Laws.{by-cases, neither}
 use Rattle.reader.specs.declared.line.Line.the-variants.{Blank}
 use Rattle.reader.specs.Tag.{trimSpan}
 use Rattle.reader.specs.Lines.{isBlank, lastBrace, kindBy, lineKind}
@@ -50,22 +50,6 @@ brace-turn s zero z h t n = absurd (omega arith)
 brace-turn s (suc e) z h t n =
     let d : suc e - 1 ≡ e = omega arith in
     rw (d, drop-cons s e 0 (omega arith), ne-eqb (getD s e 0) 125 (rw d at t)) n
-
--- A line with a brace has its last one inside.
-pub brace-inside : (s : List ℕ) → among 125 s ≡ true → lastBrace s < length s
-brace-inside [] h = clash h
-brace-inside (b ∷ bs) h =
-    by-cases (among 125 bs)
-    (λ t. let i = brace-inside bs t in rw (t, and-false (eqb b 125)) (omega arith))
-    (λ t. rw (t, one (eqb b 125) (among 125 bs) h t) (omega arith))
-  where
-    and-false : (t : Bool) → (t && false) ≡ false
-    and-false true = refl
-    and-false false = refl
-
-    one : (t u : Bool) → (t || u) ≡ true → u ≡ false → t ≡ true
-    one true u h e = refl
-    one false u h e = clash (sym e ∙ h)
 
 -- ---- blank lines
 

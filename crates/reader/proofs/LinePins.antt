@@ -1,6 +1,5 @@
 -- Worked examples of lines, which the definitions compute.
 use Prim.Native.Nat.{ℕ}
-use mathlib.Core.Bool.{true, false}
 use mathlib.Core.Path.{_≡_, refl}
 use mathlib.Core.List.{[], _∷_}
 use Rattle.tables.specs.Text.{ascii, isWhite, trimmed}
@@ -9,7 +8,6 @@ use Rattle.reader.specs.declared.tag.Tag.{Tag as TagPlaces}
 use Rattle.reader.specs.declared.line.TagReading.the-variants.{Plain, WithComment, WithData}
 use Rattle.reader.specs.declared.line.Line.the-variants.{Blank, Brace, Directive, Tag, Bracket, Data}
 use Rattle.reader.specs.Tag.{trimSpan, trimPart, bracketOf, endsQuoted, nameOf, isQuoted, valueOf, isComment, commentOf, tagLine, dataBracket, dataAfter, splitOf}
-use Rattle.reader.specs.TagBytes.{goodName, goodValue}
 use Rattle.reader.specs.Lines.{isBlank, splitLine, bracketLine, lineKind}
 
 abbrev pub at : ℕ → ℕ → Span
@@ -168,45 +166,3 @@ not-blank-28 = refl
 pub not-blank-31 : lineKind (31 ∷ []) ≡ Data (at 0 1)
 unfolding isWhite trimmed trimSpan trimPart bracketOf endsQuoted nameOf isQuoted valueOf isComment commentOf tagLine dataBracket dataAfter splitOf isBlank splitLine bracketLine lineKind
 not-blank-31 = refl
-
--- ---- what can be written
-
--- A quote and a `]` may stand in a value.
-pub value-quote : goodValue (ascii "a\"b]") ≡ true
-unfolding isWhite goodValue
-value-quote = refl
-
--- A `]` may not stand first,
-pub value-first : goodValue (ascii "]a") ≡ false
-unfolding isWhite goodValue
-value-first = refl
-
--- nor behind white space,
-pub value-white : goodValue (ascii " ]a") ≡ false
-unfolding isWhite goodValue
-value-white = refl
-
--- nor behind a quote, white space apart.
-pub value-quoted : goodValue (ascii "a\" ]b") ≡ false
-unfolding isWhite goodValue
-value-quoted = refl
-
--- An empty value can be written.
-pub value-empty : goodValue (ascii "") ≡ true
-unfolding isWhite goodValue
-value-empty = refl
-
--- A name may hold a `]`,
-pub name-bracket : goodName (ascii "A]") ≡ true
-unfolding isWhite goodName
-name-bracket = refl
-
--- but not behind a quote,
-pub name-quoted : goodName (ascii "A\"]") ≡ false
-unfolding isWhite goodName
-name-quoted = refl
-
--- and no white space.
-pub name-white : goodName (ascii "A B") ≡ false
-unfolding isWhite goodName
-name-white = refl

@@ -2,7 +2,7 @@
 -- start, entries from its first.
 use Prim.Native.Nat.{ℕ, _+_, _-_, _≤_}
 use mathlib.Core.Path.{_≡_}
-use mathlib.Core.List.{List, [], _∷_, _++_}
+use mathlib.Core.List.{List, [], _∷_, _++_, map}
 use mathlib.Core.Bool.{Bool, true, false, cond, _&&_, _||_, not}
 use lib.Dec.{ltb, eqb}
 use lib.ListN.{length, replicate}
@@ -39,7 +39,8 @@ use Rattle.reader.specs.Deals.{dealOf, handWords}
 use Rattle.reader.specs.Pieces.{Out, Emits, andThen, entry, rawLines}
 use Rattle.reader.specs.Tag.{cut}
 use Rattle.reader.specs.Play.{lastTrick}
-use Rattle.reader.specs.Sections.{noteAfter, walkedAll}
+use Rattle.reader.specs.Store.{putAll, entryWords}
+use Rattle.reader.specs.Sections.{noteAfter, walkedAll, countOf}
 
 -- ---- what a tag's value does to a board
 
@@ -193,9 +194,12 @@ tableClosed b w = cond (w .rows .fault) b (rowsClosed b (gathered (w .rows .cell
 abbrev pub boardClosed : Board → Open → ℕ → Walk → Board
 boardClosed b o n w = cond (eqb (o .kind) 1) (auctionClosed b o n w) (cond (eqb (o .kind) 2) (playClosed b o n w) (tableClosed b w))
 
--- Calls and tricks stand where their section closes.
+-- Calls and tricks stand where their section closes; the trick that is open then is the last.
+abbrev pub lastEntries : ℕ → Walk → List Entry
+lastEntries kind w = cond (eqb kind 2) (lastTrick (w .tricks) .entries) []
+
 abbrev pub closedEntries : Open → Out Walk → List Entry
-closedEntries o w = w .entries ++ cond (eqb (o .kind) 2) (lastTrick (w .state .tricks) .entries) []
+closedEntries o w = w .entries ++ lastEntries (o .kind) (w .state)
 
 abbrev pub closedState : State → Board → ℕ → State
 closedState s b k = record { board = b; section = noOpen; tags = s .tags; n = s .n + k; noting = s .noting; block = s .block }
@@ -314,7 +318,7 @@ noState = record { board = noBoard; section = noOpen; tags = 0; n = 0; noting = 
 unfoldable pub recordOut : Conventions → List ℕ → Out State
 recordOut c r = linesOut c r noState 0 (rawLines r)
 
--- ---- what holds of a state at the place p of a record: its section and its block start at or before p
+-- ---- what holds of a state at the place p of a record: its section starts at or before p, its block at p + 1 or before
 
 pub record Sound (p : ℕ) (s : State) : Type 0 where
   pub kind-low : s .section .kind ≤ 3
@@ -322,10 +326,16 @@ pub record Sound (p : ℕ) (s : State) : Type 0 where
   pub leader-low : s .section .kind ≡ 2 → s .section .seat ≤ 3
   pub lines-before : s .section .at ≤ p
   pub split-before : s .section .split .start + s .section .split .len ≤ p
-  pub block-before : s .block ≤ p
+  pub block-before : s .block ≤ p + 1
 
 -- The contract of a step: its answer and its entries, what holds after it at q, and how many entries it adds at most.
 pub record Stepped (a n most q : ℕ) (s : State) (entries entries′ : List ℕ) (r : State) (o : Out State) : Type 0 where
   pub emits : Emits a n entries entries′ r o
   pub sound : Sound q r
   pub grows : r .n ≤ s .n + most
+
+-- The contract of storing the last trick behind the entries of a section that stand from n on; r is how many there then are.
+pub record LastStored (a n kind : ℕ) (w : Walk) (entries entries′ : List ℕ) (r : ℕ) : Type 0 where
+  pub stored : entries′ ≡ putAll 4 entries (n + countOf w) (map (entryWords a) (lastEntries kind w))
+  pub counted : r ≡ countOf w + length (lastEntries kind w)
+  pub few : r ≤ countOf w + 1

@@ -1,6 +1,5 @@
 pub mod Store
 pub mod Tag
-pub mod TagBytes
 pub mod Lines
 pub mod Words
 pub mod Names
@@ -11,3 +10,5 @@ pub mod Play
 pub mod Sections
 pub mod Boards
 pub mod Records
+pub mod TagBytes
+pub mod Editions

@@ -3,6 +3,7 @@
 
 mod guard;
 mod model;
+mod read;
 mod rng;
 mod shrink;
 mod tables;
@@ -11,6 +12,8 @@ use std::process::ExitCode;
 
 const USAGE: &str = "\
 usage: compare tables [--seed N]
+       compare read [--seed N]
+       compare bench [--seed N]
        compare record tables PATH [--seed N]";
 
 /// The seed of every run that names no other.
@@ -25,6 +28,11 @@ fn main() -> ExitCode {
     let words: Vec<&str> = words.iter().map(String::as_str).collect();
     match words[..] {
         ["tables"] => exit(tables::run(seed)),
+        ["read"] => exit(read::run(seed)),
+        ["bench"] => {
+            read::bench::run(seed);
+            ExitCode::SUCCESS
+        }
         ["record", "tables", path] => match tables::record::run(seed, path.as_ref()) {
             Ok(()) => ExitCode::SUCCESS,
             Err(error) => {

@@ -21,11 +21,11 @@ pub fn answer(case: &Case) -> Answer {
 }
 
 /// White space is bytes 9 to 13 and 32.
-fn is_white(byte: u8) -> bool {
+pub fn is_white(byte: u8) -> bool {
     (9..=13).contains(&byte) || byte == 32
 }
 
-fn trim(mut text: &[u8]) -> &[u8] {
+pub fn trim(mut text: &[u8]) -> &[u8] {
     while text.first().is_some_and(|b| is_white(*b)) {
         text = &text[1..];
     }
@@ -37,7 +37,7 @@ fn trim(mut text: &[u8]) -> &[u8] {
 
 /// Cuts a text into characters: a byte, whatever it is, with the bytes 80 to BF
 /// right after it.
-fn characters(text: &[u8]) -> Vec<&[u8]> {
+pub fn characters(text: &[u8]) -> Vec<&[u8]> {
     let mut found = Vec::new();
     let mut start = 0;
     for at in 1..=text.len() {
@@ -86,9 +86,9 @@ fn rows(table: &[u8]) -> Vec<u8> {
 }
 
 /// The table, or the refusal and its carried number.
-type Read = Result<[u8; 20], (u64, u64)>;
+pub type Read = Result<[u8; 20], (u64, u64)>;
 
-fn from_digits(value: &[u8]) -> Read {
+pub fn from_digits(value: &[u8]) -> Read {
     let characters = characters(trim(value));
     if characters.len() != 20 {
         return Err((8, characters.len() as u64));
@@ -105,7 +105,7 @@ fn from_digits(value: &[u8]) -> Read {
     Ok(table)
 }
 
-fn from_rows(text: &[u8]) -> Read {
+pub fn from_rows(text: &[u8]) -> Read {
     let mut cells = [None; 20];
     for (number, row) in text.split(|b| *b == b'\n').enumerate() {
         let refused = |refusal| Err((refusal, number as u64));

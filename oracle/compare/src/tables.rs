@@ -1,7 +1,7 @@
 //! The tables: the five functions of `dd.rs` that the product has.
 
 mod inputs;
-mod judge;
+pub mod judge;
 mod product;
 pub mod record;
 

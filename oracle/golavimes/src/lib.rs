@@ -3,7 +3,8 @@
 //! Every function fills the answer array and returns its first number:
 //! `answer[0]` is the refusal (0 none), `answer[1]` the edition (0 here),
 //! `answer[2]` the number a refusal carries; a writer adds `answer[3]`, the
-//! bytes written. Slices and arrays of the right length are all that the C
+//! bytes written, and the reader of editions `answer[3]` and `answer[4]`, its
+//! boards and entries. Slices and arrays of the right length are all that the C
 //! functions ask for, so nothing here needs a test before the call.
 //!
 //! Nothing checks these declarations against the library: keep them in step
@@ -42,6 +43,15 @@ mod c {
             rows: *const u8,
             rows_len: usize,
             table: *mut u8,
+            answer: *mut u64,
+        ) -> u64;
+        pub fn golavimes_read(
+            text: *const u8,
+            text_len: usize,
+            cards: *mut u32,
+            cards_len: usize,
+            entries: *mut u32,
+            entries_len: usize,
             answer: *mut u64,
         ) -> u64;
     }
@@ -112,6 +122,27 @@ pub fn optimum_result_table_from_rows(
             rows.as_ptr(),
             rows.len(),
             table.as_mut_ptr(),
+            answer.as_mut_ptr(),
+        )
+    }
+}
+
+/// Reads an edition. A card is 64 words, an entry 4.
+pub fn read(
+    text: &[u8],
+    cards: &mut [u32],
+    entries: &mut [u32],
+    answer: &mut [u64; 5],
+) -> u64 {
+    // SAFETY: as in dd_table_to_pbn.
+    unsafe {
+        c::golavimes_read(
+            text.as_ptr(),
+            text.len(),
+            cards.as_mut_ptr(),
+            cards.len(),
+            entries.as_mut_ptr(),
+            entries.len(),
             answer.as_mut_ptr(),
         )
     }

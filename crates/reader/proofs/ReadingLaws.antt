@@ -1,0 +1,213 @@
+-- Laws of the lines of a record.
+use Prim.Native.Nat.{ℕ, suc, _+_, _-_, _*_, _≤_, _<_}
+use mathlib.Core.Path.{_≡_, refl, sym, ap, _∙_}
+use mathlib.Core.Bool.{Bool, true, false, cond, not}
+use mathlib.Core.List.{List, [], _∷_, _++_, map, append-nil}
+use native.Mathlib.Nat.{add-zero}
+use native.Mathlib.Omega.{arith}
+use lib.Dec.{eqb, eqb·suc-suc}
+use lib.ListN.{length, take, drop, length-append}
+use borrow.Author.Tests.{eq-eqb, ne-eqb}
+use Rattle.tables.specs.Text.{isWhite, lead, front}
+use Rattle.tables.specs.Letters.{every}
+use Rattle.tables.specs.declared.dd.TableRead.{TableRead}
+use Rattle.tables.specs.declared.dd.Decoded.{Decoded}
+use Rattle.tables.specs.declared.dd.Decoded.the-variants.{Table, Refused}
+use Rattle.tables.specs.Tables.{Reading, holds, refuses, tableRead}
+use Rattle.tables.proofs.Laws.{by-cases}
+use Rattle.tables.specs.declared.letters.Conventions.{Conventions}
+use Rattle.reader.specs.declared.board.Board.{Board}
+use Rattle.reader.specs.declared.board.State.{State}
+use Rattle.reader.specs.declared.section.Walk.{Walk}
+use Rattle.reader.specs.declared.store.Entry.{Entry}
+use Rattle.reader.specs.declared.tag.Span.{Span}
+use Rattle.reader.specs.declared.line.TagReading.{TagReading}
+use Rattle.reader.specs.declared.line.Line.{Line}
+use Rattle.reader.specs.declared.line.Line.the-variants.{Blank, Brace, Directive, Tag as TagOn, Bracket, Data}
+use Rattle.reader.specs.Lines.{lineKind, hasBrace}
+use Rattle.reader.specs.declared.play.Tricks.{Tricks}
+use Rattle.reader.specs.Store.{put, putAll, entryWords}
+use Rattle.reader.specs.Pieces.{Out, Emits, entry}
+use Rattle.reader.specs.Play.{lastTrick}
+use Rattle.reader.specs.Sections.{Walks, countOf, walkedAll}
+use Rattle.reader.specs.Boards.{rowsClosed, withSections, boardClosed, lastEntries, LastStored, closedState, closed, isAllWhite, noted, countedState, adding, directed, dated, readTag, blocked, braced, inNote, lineBy, lineOut, Sound, Stepped}
+use Rattle.reader.proofs.PieceLaws.{put-run}
+use Rattle.reader.proofs.PlayLaws.{last-counted}
+use Rattle.reader.proofs.TagStepLaws.{sound-later}
+use Rattle.reader.proofs.WalkLaws.{section-count}
+
+-- A text is all white where its lead is the whole of it.
+pub white-all : (s : List ℕ) → eqb (length (lead s)) (length s) ≡ every isWhite s
+white-all [] = refl
+white-all (b ∷ bs) = by-cases (isWhite b) (λ e. rw e (eqb·suc-suc (length (lead bs)) (length bs) ∙ white-all bs)) (λ e. rw e (ne-eqb 0 (suc (length bs)) (λ k. omega arith)))
+
+-- A table that was gathered, and one that was refused.
+pub rows-taken : (b : Board) (g : Reading) (read : TableRead) → read ≡ tableRead g → read .answer ≡ Table → rowsClosed b g ≡ withSections b (record { kind = 2; cells = read .table }) (b .auction) (b .play) (b .trump)
+rows-taken b (holds cells) read e t = rw e
+rows-taken b (refuses f) read e t =
+    let k : Refused f ≡ Table = sym (ap (λ (x : TableRead). x .answer) e) ∙ t in
+    let z : _≡_ {A = ℕ} 0 1 = cc in
+    absurd (omega arith)
+
+pub rows-refused : (b : Board) (g : Reading) (read : TableRead) → read ≡ tableRead g → (read .answer ≡ Table → ⊥) → rowsClosed b g ≡ b
+rows-refused b (holds cells) read e t = absurd (t (ap (λ (x : TableRead). x .answer) e))
+rows-refused b (refuses f) read e t = refl
+
+-- ---- sections
+
+-- The last trick's entry stands behind the section's own.
+pub last-stored : (a n : ℕ) (w : Walk) (kind : ℕ) (l l′ : List ℕ) (t : Tricks) → eqb kind 2 ≡ true → Emits a (n + w .bidding .count + w .tricks .count) l l′ t (lastTrick (w .tricks))
+    → t .count ≤ w .tricks .count + 1 → LastStored a n kind w l l′ (w .bidding .count + t .count)
+last-stored a n w kind l l′ t k e few =
+    let d : n + w .bidding .count + w .tricks .count ≡ n + countOf w = omega arith in
+    let g = last-counted (w .tricks) in
+    let f : t .count ≡ w .tricks .count + length (lastTrick (w .tricks) .entries) = rw (e .answer) (g .count) in
+    record {
+      stored = rw k (rw d at (e .words));
+      counted = rw k (omega (arith, f));
+      few = omega arith;
+    }
+
+pub last-kept : (a n : ℕ) (w : Walk) (kind : ℕ) (l : List ℕ) → eqb kind 2 ≡ false → LastStored a n kind w l l (w .bidding .count + w .tricks .count)
+last-kept a n w kind l k = record { stored = rw k; counted = rw k (omega arith); few = omega arith }
+
+-- A state without an open section is sound wherever its block is.
+pub section-sound : (p : ℕ) (s : State) (b : Board) (k : ℕ) → s .block ≤ p + 1 → Sound p (closedState s b k)
+section-sound p s b k h =
+    record {
+      kind-low = omega arith;
+      seat-low = omega arith;
+      leader-low = λ e. omega arith;
+      lines-before = omega arith;
+      split-before = omega arith;
+      block-before = h;
+    }
+
+-- A section is closed: what the walk stored, what the last trick added, and the board.
+pub section-closed : (c : Conventions) (r : List ℕ) (s : State) (a base most : ℕ) (l l₁ l₂ : List ℕ) (w : Walk) (k : ℕ) (b : Board) (t : State)
+    → eqb (s .section .kind) 0 ≡ false → Sound (length r) s
+    → Walks a (base + s .n) most l l₁ w (walkedAll c r (s .section) (s .board .contract))
+    → LastStored a (base + s .n) (s .section .kind) w l₁ l₂ k
+    → b ≡ boardClosed (s .board) (s .section) (s .n) w → t ≡ closedState s b k → most ≤ 6 * length r
+    → Stepped a (base + s .n) (6 * length r + 1) (length r) s l l₂ t (closed c r s)
+unfolding closed
+section-closed c r s a base most l l₁ l₂ w k b t z ok e g eb et h =
+    let ws = walkedAll c r (s .section) (s .board .contract) in
+    let en : countOf w ≡ length (ws .entries) = ap countOf (e .emits .answer) ∙ section-count c r (s .section) (s .board .contract) in
+    let ek : k ≡ length (ws .entries ++ lastEntries (s .section .kind) (ws .state)) =
+    g .counted ∙ rw (en, e .emits .answer) (sym (length-append (ws .entries) (lastEntries (s .section .kind) (ws .state)))) in
+    let words : l₂ ≡ putAll 4 l (base + s .n) (map (entryWords a) (ws .entries ++ lastEntries (s .section .kind) (ws .state))) =
+    g .stored ∙ rw (en, e .emits .answer, e .emits .words) (sym (put-run a (base + s .n) l (ws .entries) (lastEntries (s .section .kind) (ws .state)))) in
+    record {
+      emits = record { answer = rw z (et ∙ rw (eb, e .emits .answer, ek)); words = rw z words };
+      sound = rw et (section-sound (length r) s b k (ok .block-before));
+      grows = omega (arith, g .few, e .few, ap (λ (x : State). x .n) et);
+    }
+
+-- There is none to close.
+pub section-none : (c : Conventions) (r : List ℕ) (s : State) (a n most : ℕ) (l : List ℕ) → eqb (s .section .kind) 0 ≡ true → Sound (length r) s → Stepped a n most (length r) s l l s (closed c r s)
+unfolding closed
+section-none c r s a n most l z ok = record { emits = record { answer = rw z; words = rw z }; sound = ok; grows = omega arith }
+
+-- ---- commentary
+
+pub block-none : (r : List ℕ) (s next t : State) (i j a n : ℕ) (l : List ℕ) → isAllWhite r i j ≡ true → next ≡ noted s false 0 → t ≡ countedState next 0 → Emits a n l l t (blocked r s i j)
+unfolding blocked
+block-none r s next t i j a n l e en et = record { answer = rw e (et ∙ rw en); words = rw e }
+
+pub block-some : (r : List ℕ) (s next t : State) (i j a n : ℕ) (l l′ : List ℕ) → isAllWhite r i j ≡ false → next ≡ noted s false 0 → t ≡ countedState next 1
+    → l′ ≡ put 4 l n (entryWords a (entry 4 i (j - i) (s .tags))) → Emits a n l l′ t (blocked r s i j)
+unfolding blocked
+block-some r s next t i j a n l l′ e en et ew = record { answer = rw e (et ∙ rw en); words = rw e ew }
+
+-- A block that was closed leaves none open.
+pub block-zero : (r : List ℕ) (s t : State) (i j a n : ℕ) {l l′ : List ℕ} → Emits a n l l′ t (blocked r s i j) → t .block ≡ 0
+unfolding blocked
+block-zero r s t i j a n e = ap (λ (x : State). x .block) (e .answer)
+
+-- ---- one line
+
+-- Other commentary, and more entries, leave a section as it was.
+pub sound-noted : {p : ℕ} {s : State} (t : State) → Sound p s → (q : ℕ) → p ≤ q → t .section ≡ s .section → t .block ≤ q + 1 → Sound q t
+sound-noted {p} {s} t k q h e g =
+    record {
+      kind-low = rw e (k .kind-low);
+      seat-low = rw e (k .seat-low);
+      leader-low = rw e (k .leader-low);
+      lines-before = rw e (omega (arith, k .lines-before));
+      split-before = rw e (omega (arith, k .split-before));
+      block-before = g;
+    }
+
+module _ (c : Conventions) (r : List ℕ) (s : State) (p : ℕ) (l : List ℕ) (a n most : ℕ) (ok : Sound p s) (m : 1 ≤ most) where
+  skipped : {w : List ℕ} {o : Out State} → o ≡ record { state = s; entries = [] } → Stepped a n most (p + length l) s w w s o
+  skipped e = rw e (record { emits = record { answer = refl; words = refl }; sound = sound-later (omega arith) ok; grows = omega arith })
+
+  out-plain : (k : Line) → s .noting ≡ false → lineKind l ≡ k → lineOut c r s p l ≡ lineBy c r s p l k
+  unfolding lineOut
+  out-plain k e ek =
+      ap (λ (b : Bool). cond b (inNote r s p l) (lineBy c r s p l (lineKind l))) e ∙ ap (λ (x : Line). lineBy c r s p l x) ek
+
+  out-noting : s .noting ≡ true → lineOut c r s p l ≡ inNote r s p l
+  unfolding lineOut
+  out-noting e = ap (λ (b : Bool). cond b (inNote r s p l) (lineBy c r s p l (lineKind l))) e
+
+  -- Blank lines and `[` lines that are no tags.
+  pub line-blank : {w : List ℕ} → s .noting ≡ false → lineKind l ≡ Blank → Stepped a n most (p + length l) s w w s (lineOut c r s p l)
+  line-blank e k = skipped (out-plain Blank e k)
+
+  pub line-bracket : {w : List ℕ} → s .noting ≡ false → lineKind l ≡ Bracket → Stepped a n most (p + length l) s w w s (lineOut c r s p l)
+  line-bracket e k = skipped (out-plain Bracket e k)
+
+  added : {w w′ : List ℕ} {t : State} (es : List Entry) → length es ≤ 1 → Emits a n w w′ t (adding s es) → Stepped a n most (p + length l) s w w′ t (adding s es)
+  added {w} {w′} {t} es h e =
+      record {
+        emits = e;
+        sound = sound-noted t ok (p + length l) (omega arith) (ap (λ (x : State). x .section) (e .answer)) (omega (arith, ap (λ (x : State). x .block) (e .answer), ok .block-before));
+        grows = omega (arith, ap (λ (x : State). x .n) (e .answer));
+      }
+
+  -- Directives and data.
+  pub line-directed : {w w′ : List ℕ} {t : State} (d : Span) → s .noting ≡ false → lineKind l ≡ Directive d → Emits a n w w′ t (directed s p d) → Stepped a n most (p + length l) s w w′ t (lineOut c r s p l)
+  line-directed d e k g = rw (out-plain (Directive d) e k) (added _ (omega arith) g)
+
+  data-few : (d : Span) → length {A = Entry} (cond (eqb (s .section .kind) 0) [] (entry 5 (p + d .start) (d .len) (s .section .kind) ∷ [])) ≤ 1
+  data-few d = by-cases (eqb (s .section .kind) 0) (λ e. rw e (omega arith)) (λ e. rw e (omega arith))
+
+  pub line-dated : {w w′ : List ℕ} {t : State} (d : Span) → s .noting ≡ false → lineKind l ≡ Data d → Emits a n w w′ t (dated s p d) → Stepped a n most (p + length l) s w w′ t (lineOut c r s p l)
+  line-dated d e k g = rw (out-plain (Data d) e k) (added _ (data-few d) g)
+
+  -- A tag.
+  pub line-tag : {w w′ : List ℕ} {t : State} (x : TagReading) → s .noting ≡ false → lineKind l ≡ TagOn x → Stepped a n most (p + length l) s w w′ t (readTag c r s p l x) → Stepped a n most (p + length l) s w w′ t (lineOut c r s p l)
+  line-tag x e k g = rw (out-plain (TagOn x) e k) g
+
+  -- Commentary: what it leaves of the section, and how much it adds.
+  block-kept : {w w′ : List ℕ} {t : State} (i j : ℕ) → Emits a n w w′ t (blocked r s i j) → (t .section ≡ s .section) × (t .n ≤ s .n + 1)
+  unfolding blocked
+  block-kept {w} {w′} {t} i j e =
+      by-cases (isAllWhite r i j)
+      (λ h. let g = rw h at (e .answer) in (ap (λ (x : State). x .section) g, omega (arith, ap (λ (x : State). x .n) g)))
+      (λ h. let g = rw h at (e .answer) in (ap (λ (x : State). x .section) g, omega (arith, ap (λ (x : State). x .n) g)))
+
+  noted-step : {w w′ : List ℕ} {t : State} {o : Out State} → Emits a n w w′ t o → t .section ≡ s .section → t .n ≤ s .n + 1 → t .block ≤ p + length l + 1 → Stepped a n most (p + length l) s w w′ t o
+  noted-step {w} {w′} {t} e es en eb = record { emits = e; sound = sound-noted t ok (p + length l) (omega arith) es eb; grows = omega arith }
+
+  brace-kept : {w w′ : List ℕ} {t : State} → Emits a n w w′ t (braced r s p l) → (t .section ≡ s .section) × (t .n ≤ s .n + 1)
+  unfolding braced
+  brace-kept {w} {w′} {t} g =
+      by-cases (hasBrace l)
+      (λ b. block-kept _ _ (rw b at g))
+      (λ b. let f = rw b at (g .answer) in (ap (λ (x : State). x .section) f, omega (arith, ap (λ (x : State). x .n) f)))
+
+  pub line-braced : {w w′ : List ℕ} {t : State} → s .noting ≡ false → lineKind l ≡ Brace → Emits a n w w′ t (braced r s p l) → t .block ≤ p + length l + 1 → Stepped a n most (p + length l) s w w′ t (lineOut c r s p l)
+  line-braced {w} {w′} {t} e k g h = let q = brace-kept g in rw (out-plain Brace e k) (noted-step g (q .0) (q .1) h)
+
+  note-kept : {w w′ : List ℕ} {t : State} → Emits a n w w′ t (inNote r s p l) → (t .section ≡ s .section) × (t .n ≤ s .n + 1)
+  unfolding inNote
+  note-kept {w} {w′} {t} g =
+      by-cases (hasBrace l)
+      (λ b. block-kept _ _ (rw b at g))
+      (λ b. let f = rw b at (g .answer) in (ap (λ (x : State). x .section) f, omega (arith, ap (λ (x : State). x .n) f)))
+
+  pub line-noted : {w w′ : List ℕ} {t : State} → s .noting ≡ true → Emits a n w w′ t (inNote r s p l) → t .block ≤ p + 1 → Stepped a n most (p + length l) s w w′ t (lineOut c r s p l)
+  line-noted {w} {w′} {t} e g h = let q = note-kept g in rw (out-noting e) (noted-step g (q .0) (q .1) (omega arith))

@@ -1,0 +1,150 @@
+-- An edition: the cards and entries of its records, as they are handed back, and refusals 1 to 3.
+use Prim.Native.Nat.{ℕ, _+_, _*_, _/_, _≤_}
+use mathlib.Core.Path.{_≡_}
+use mathlib.Core.List.{List, [], _∷_, _++_, map}
+use mathlib.Core.Bool.{Bool, true, false, cond}
+use lib.Dec.{ltb, eqb}
+use lib.ListN.{length, replicate}
+use Rattle.tables.specs.declared.letters.Conventions.{Conventions}
+use Rattle.reader.specs.declared.board.Identity.{Identity}
+use Rattle.reader.specs.declared.board.Values.{Values}
+use Rattle.reader.specs.declared.board.Section.{Section}
+use Rattle.reader.specs.declared.board.Board.{Board}
+use Rattle.reader.specs.declared.edition.ReadRefusal.{ReadRefusal}
+use Rattle.reader.specs.declared.edition.ReadRefusal.the-variants.{Overlong, BoxFull, ListFull}
+use Rattle.reader.specs.declared.edition.Reading.{Reading}
+use Rattle.reader.specs.declared.edition.Reading.the-variants.{Taken, Refused}
+use Rattle.reader.specs.declared.edition.Totals.{Totals}
+use Rattle.reader.specs.Store.{word, zeros, put, putAll, flat, padded, entryWords}
+use Rattle.reader.specs.Boards.{recordOut}
+use Rattle.reader.specs.Records.{recordsOf}
+
+-- ---- refusals: 1 overlong (the length), 2 box full (the boards), 3 list full (the entries)
+
+abbrev pub readNumber : ReadRefusal → ℕ
+readNumber (Overlong n) = 1
+readNumber (BoxFull n) = 2
+readNumber (ListFull n) = 3
+
+abbrev pub readCarries : ReadRefusal → ℕ
+readCarries (Overlong n) = n
+readCarries (BoxFull n) = n
+readCarries (ListFull n) = n
+
+-- An edition is taken when none of them is met.
+abbrev pub isTaken : Reading → Bool
+isTaken (Taken boards entries) = true
+isTaken (Refused f) = false
+
+-- ---- the 64 words of a card
+
+-- An entry of the record, plus 1, as one of the edition, before whose record n entries stand; 0 stays absent.
+abbrev pub placed : ℕ → ℕ → ℕ
+placed n x = cond (eqb x 0) 0 (word (n + x))
+
+-- Words 0 to 9: entries, number, dealer, vulnerability (None where none was read), declarer, result, deal.
+abbrev pub headWords : ℕ → ℕ → Board → List ℕ
+headWords n count b =
+    word n ∷ word count
+    ∷ word (b .id .«number_met») ∷ word (b .id .number)
+    ∷ word (b .id .dealer) ∷ word (cond (eqb (b .id .vulnerability) 4) 0 (b .id .vulnerability))
+    ∷ word (b .id .declarer)
+    ∷ word (b .id .«result_met») ∷ word (b .id .result)
+    ∷ word (b .deal .kind) ∷ []
+
+-- Words 39 to 50: value entries.
+abbrev pub valueWords : ℕ → Values → List ℕ
+valueWords n v =
+    placed n (v .id) ∷ placed n (v .event) ∷ placed n (v .site) ∷ placed n (v .date) ∷ placed n (v .contract)
+    ∷ placed n (v .north) ∷ placed n (v .east) ∷ placed n (v .south) ∷ placed n (v .west)
+    ∷ placed n (v .deal) ∷ placed n (v .score) ∷ placed n (v .par) ∷ []
+
+-- Words 51 to 54 and 55 to 58: first entry, entries, seat, end.
+abbrev pub sectionWords : ℕ → Section → List ℕ
+sectionWords n s = placed n (s .first) ∷ word (s .count) ∷ word (s .seat) ∷ word (s .end) ∷ []
+
+-- Words 59 to 63: trump, record start and end, two zeros.
+abbrev pub tailWords : ℕ → ℕ → Board → List ℕ
+tailWords start end b = word (b .trump) ∷ word start ∷ word end ∷ 0 ∷ 0 ∷ []
+
+-- Words 38 to 63: the table, values, auction, play, and the tail.
+abbrev pub backWords : ℕ → ℕ → ℕ → Board → List ℕ
+backWords start end n b =
+    (word (b .table .kind) ∷ valueWords n (b .values)) ++ sectionWords n (b .auction) ++ sectionWords n (b .play) ++ tailWords start end b
+
+-- Words 10 to 17 are the hands, 18 to 37 the cells. The card of a record from start to end, with n entries before it and count of its
+-- own.
+unfoldable pub cardWords : ℕ → ℕ → ℕ → ℕ → Board → List ℕ
+cardWords start end n count b = headWords n count b ++ b .deal .words ++ b .table .cells ++ backWords start end n b
+
+-- ---- the edition
+
+-- The card of the record r at the place a, n entries before it.
+abbrev pub cardOf : Conventions → ℕ → ℕ → List ℕ → List ℕ
+cardOf c a n r = cardWords a (a + length r) n (length (recordOut c r .entries)) (recordOut c r .state .board)
+
+-- The cards of records from the place a on, n entries before them.
+abbrev pub cardsFrom : Conventions → ℕ → ℕ → List (List ℕ) → List (List ℕ)
+cardsFrom c a n [] = []
+cardsFrom c a n (r ∷ rs) = cardOf c a n r ∷ cardsFrom c (a + length r) (n + length (recordOut c r .entries)) rs
+
+-- Their entries.
+abbrev pub entriesFrom : Conventions → ℕ → List (List ℕ) → List (List ℕ)
+entriesFrom c a [] = []
+entriesFrom c a (r ∷ rs) = map (entryWords a) (recordOut c r .entries) ++ entriesFrom c (a + length r) rs
+
+unfoldable pub cardsOf : Conventions → List ℕ → List (List ℕ)
+cardsOf c text = cardsFrom c 0 0 (recordsOf text)
+
+unfoldable pub entriesOf : Conventions → List ℕ → List (List ℕ)
+entriesOf c text = entriesFrom c 0 (recordsOf text)
+
+-- The answer for lc lent card words and le lent entry words; a tail too short for a card or an entry counts as none.
+abbrev pub verdict : ℕ → ℕ → ℕ → ℕ → Reading
+verdict lc le boards entries =
+    cond (ltb (lc / 64) boards) (Refused (BoxFull boards))
+    (cond (ltb (le / 4) entries) (Refused (ListFull entries)) (Taken boards entries))
+
+unfoldable pub readingOf : Conventions → List ℕ → ℕ → ℕ → Reading
+readingOf c text lc le =
+    cond (ltb 16777215 (length text)) (Refused (Overlong (length text)))
+    (verdict lc le (length (cardsOf c text)) (length (entriesOf c text)))
+
+-- n lent words afterwards: the blocks and zeros behind them, or nothing but zeros after a refusal.
+abbrev pub lentAfter : Reading → ℕ → List (List ℕ) → List ℕ
+lentAfter r n bs = cond (isTaken r) (padded n (flat bs)) (replicate n 0)
+
+-- ---- contracts
+
+-- A record r at a read as the k-th board, n entries before it: how many entries there are then, its card and its entries.
+pub record RecordIn (c : Conventions) (r : List ℕ) (a k n : ℕ) (cards entries : List ℕ) (m : ℕ) (cards′ entries′ : List ℕ) : Type 0 where
+  pub answer : m ≡ n + length (recordOut c r .entries)
+  pub few : m ≤ n + 100663300 * length r + 100663300
+  pub card : cards′ ≡ put 64 cards k (cardOf c a n r)
+  pub words : entries′ ≡ putAll 4 entries n (map (entryWords a) (recordOut c r .entries))
+  pub whole : length (cardOf c a n r) ≡ 64
+
+-- Every card has 64 words.
+pub data Whole : List (List ℕ) → Type 0 where
+  none : Whole []
+  one : {x : List ℕ} {xs : List (List ℕ)} → length x ≡ 64 → Whole xs → Whole (x ∷ xs)
+
+-- All records of a text read.
+pub record AllIn (c : Conventions) (text cards entries : List ℕ) (r : Totals) (cards′ entries′ : List ℕ) : Type 0 where
+  pub boards : r .boards ≡ length (cardsOf c text)
+  pub count : r .entries ≡ length (entriesOf c text)
+  pub cards-put : cards′ ≡ putAll 64 cards 0 (cardsOf c text)
+  pub entries-put : entries′ ≡ putAll 4 entries 0 (entriesOf c text)
+  pub whole : Whole (cardsOf c text)
+
+-- The answer for the counts, and the words: as they were, or zeros after a refusal.
+pub record Finished (cards entries : List ℕ) (boards n : ℕ) (r : Reading) (cards′ entries′ : List ℕ) : Type 0 where
+  pub answer : r ≡ verdict (length cards) (length entries) boards n
+  pub cards-after : cards′ ≡ cond (isTaken r) cards (zeros cards)
+  pub entries-after : entries′ ≡ cond (isTaken r) entries (zeros entries)
+
+-- The contract of reading: the answer, every card word and every entry word.
+pub record IsRead (c : Conventions) (text cards entries : List ℕ) (r : Reading) (cards′ entries′ : List ℕ) : Type 0 where
+  pub answer : r ≡ readingOf c text (length cards) (length entries)
+  pub cards-after : cards′ ≡ lentAfter r (length cards) (cardsOf c text)
+  pub entries-after : entries′ ≡ lentAfter r (length entries) (entriesOf c text)

@@ -1,0 +1,89 @@
+//! One call of the product's reader, through guarded buffers.
+
+use super::model::{CARD, ENTRY};
+use crate::guard::Guarded;
+
+/// What the words of a lent output are before the call.
+const FILL: u32 = 0xaaaa_aaaa;
+const FILL_ANSWER: u64 = 0xaaaa_aaaa_aaaa_aaaa;
+/// What may stand around a text: what a reader that looks past an end would
+/// slip on.
+const AROUND: [u8; 8] = [b'\n', b'"', b']', b'}', b'1', 0x80, b' ', b'P'];
+
+/// The buffers, kept between calls.
+pub struct Product {
+    text: Guarded<u8>,
+    cards: Guarded<u32>,
+    entries: Guarded<u32>,
+    answer: Guarded<u64>,
+}
+
+/// How many words are lent.
+#[derive(Clone, Copy, PartialEq, Eq, Debug)]
+pub struct Lent {
+    pub cards: usize,
+    pub entries: usize,
+}
+
+impl Lent {
+    /// Enough for every text of this length: a board has a tag line of five
+    /// bytes and a line's end, and no byte gives more than one entry but for
+    /// those of a tag line and an `AP`.
+    pub fn generous(length: usize) -> Self {
+        Lent {
+            cards: CARD * (length / 6 + 2),
+            entries: ENTRY * (length + 8),
+        }
+    }
+}
+
+impl Product {
+    pub fn new() -> Self {
+        Product {
+            text: Guarded::new(AROUND[0]),
+            cards: Guarded::new(0x5c5c_5c5c),
+            entries: Guarded::new(0x5c5c_5c5c),
+            answer: Guarded::new(0x5c5c_5c5c_5c5c_5c5c),
+        }
+    }
+
+    /// Calls and looks for damage. What was answered is then in `answer`,
+    /// `cards` and `entries`.
+    pub fn call(&mut self, text: &[u8], lent: Lent) -> Result<(), String> {
+        let sum: usize = text.iter().map(|b| usize::from(*b)).sum();
+        let given = &*self.text.lend_copy(text, AROUND[sum % AROUND.len()]);
+        let cards = self.cards.lend(lent.cards, FILL);
+        let entries = self.entries.lend(lent.entries, FILL);
+        let answer = self.answer.lend(5, FILL_ANSWER);
+        let answer = answer.try_into().expect("five numbers");
+        let returned = golavimes::read(given, cards, entries, answer);
+
+        for (intact, what) in [
+            (self.text.lent() == text, "the text"),
+            (self.text.is_intact(), "bytes around the text"),
+            (self.cards.is_intact(), "words around the cards"),
+            (self.entries.is_intact(), "words around the entries"),
+            (self.answer.is_intact(), "numbers around the answer"),
+        ] {
+            if !intact {
+                return Err(format!("the call touched {what}"));
+            }
+        }
+        if returned != self.answer()[0] {
+            return Err(format!("returned {returned}, answer {:?}", self.answer()));
+        }
+        Ok(())
+    }
+
+    pub fn answer(&self) -> &[u64] {
+        self.answer.lent()
+    }
+
+    pub fn cards(&self) -> &[u32] {
+        self.cards.lent()
+    }
+
+    pub fn entries(&self) -> &[u32] {
+        self.entries.lent()
+    }
+}
