@@ -1,10 +1,7 @@
+use Rattle.golavimes.proofs.Laws.{edition-out}
 use borrow.Author.Needs.{needs}
 use Rattle.golavimes.proofs.golavimes_read.Statement.{statement}
 use Rattle.golavimes.proofs.golavimes_read.Tie as tie
-use Rattle.golavimes.proofs.golavimes_read.Reads as reads
-use Rattle.golavimes.proofs.golavimes_read.Lts as lts
-use Rattle.golavimes.proofs.reading_numbers.Reads as reading-numbers-reads
-use Rattle.reader.proofs.edition.read_pbn.Reads as read-pbn-reads
 
 read-pbn-requires : tie.Need-read-pbn-requires
 read-pbn-requires c κs = search needs
@@ -22,7 +19,7 @@ same-length-2 : tie.Need-same-length-2
 same-length-2 c = search needs
 
 returns : tie.Need-returns
-returns c = ?
+returns c = edition-out (c .before .before .before .before .before .read-pbn .ensures) (c .reading-numbers .ensures)
 
 pub golavimes-read-spec : {M : Type 1} → statement M
 golavimes-read-spec =

@@ -1,10 +1,6 @@
 use borrow.Author.Needs.{needs}
 use Rattle.golavimes.proofs.reading_numbers.Statement.{statement}
 use Rattle.golavimes.proofs.reading_numbers.Tie as tie
-use Rattle.golavimes.proofs.reading_numbers.Reads as reads
-use Rattle.golavimes.proofs.reading_numbers.Lts as lts
-use Rattle.reader.proofs.edition.read_carried.Reads as read-carried-reads
-use Rattle.reader.proofs.edition.read_number.Reads as read-number-reads
 
 enum-known-r : tie.Need-enum-known-r
 enum-known-r c = search needs
@@ -19,10 +15,10 @@ read-carried-requires : tie.Need-read-carried-requires
 read-carried-requires c κs = search needs
 
 returns : tie.Need-returns
-returns c = ?
+returns c = rw (c .before .r .given .1)
 
 returns-2 : tie.Need-returns-2
-returns-2 c = ?
+returns-2 c = rw (c .before .before .before .r2 .given .1, ← c .before .read-number .ensures, ← c .read-carried .ensures)
 
 pub reading-numbers-spec : {M : Type 1} → statement M
 reading-numbers-spec =
