@@ -16,6 +16,7 @@ use Rattle.tables.specs.Numbers.{digitsFrom, within, someDigits, numberOf, rais
 use Rattle.tables.specs.Letters.{seatOf, strainOf, capital}
 use Rattle.tables.specs.Tables.{Reading, holds, refuses, digitOf, firstBad, digitsChecked, digitsReading, tableOfDigits}
 use Rattle.tables.specs.declared.refusal.Refusal.the-variants.{Length}
+use Rattle.tables.proofs.TextLaws.{front-few}
 use Rattle.reader.specs.declared.deal.DealRead.{DealRead}
 use Rattle.reader.specs.declared.deal.DealRead.the-variants.{Dealt, NoDeal}
 use Rattle.reader.specs.declared.board.Identity.{Identity}
@@ -77,14 +78,6 @@ result-within (b ∷ bs) = go (eqb b 45)
     go false = raised-within 128 127 (numberOf 127 (b ∷ bs)) (number-within 127 (b ∷ bs))
 
 -- ---- seats, vulnerability, trumps
-
-front-few : (p : ℕ → Bool) (l : List ℕ) → length (front p l) ≤ length l
-front-few p [] = omega arith
-front-few p (b ∷ l) = go (p b) (front-few p l)
-  where
-    go : (t : Bool) → length (front p l) ≤ length l → length (cond t (b ∷ front p l) []) ≤ length (b ∷ l)
-    go true h = omega arith
-    go false h = omega arith
 
 pub seat-low : (c : Conventions) (b : ℕ) → seatOf c b ≤ 4
 unfolding seatOf

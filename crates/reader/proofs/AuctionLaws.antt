@@ -1,4 +1,5 @@
 -- Laws of the auction: what each kind of token comes to, how many entries a piece adds, and that each lies inside it.
+use Rattle.tables.proofs.TextLaws.{front-few}
 use Rattle.reader.specs.declared.store.Entry.{Entry}
 use Prim.Native.Nat.{ℕ, _+_, _-_, _≤_, _<_, _*_}
 use mathlib.Core.Path.{_≡_, refl, sym, ap, _∙_}
@@ -129,10 +130,6 @@ all-pass-two [] e = clash e
 all-pass-two (x ∷ []) e = clash (both (eqb 65 (capital x)) false e .1)
 all-pass-two (x ∷ y ∷ []) e = refl
 all-pass-two (x ∷ y ∷ z ∷ zs) e = clash (both (eqb 80 (capital y)) false (both (eqb 65 (capital x)) (eqb 80 (capital y) && false) e .1) .1)
-
-front-few : (p : ℕ → Bool) (s : List ℕ) → length (front p s) ≤ length s
-front-few p [] = omega arith
-front-few p (b ∷ bs) = by-cases (p b) (λ e. rw e (omega (arith, front-few p bs))) (λ e. rw e (omega arith))
 
 -- What a token adds: at most twice its bytes, and inside it.
 record Fits (t : Piece) (es : List Entry) : Type 0 where

@@ -15,6 +15,7 @@ use Rattle.tables.proofs.Laws.{by-cases, both, neither}
 use Rattle.tables.proofs.LetterLaws.{letter-plain, seat-back, rank-back}
 use Rattle.tables.proofs.RowLaws.{every-append, field-then, field-last}
 use Rattle.tables.proofs.Digits.{at-each}
+use Rattle.tables.proofs.RowLaws.{plain-word}
 use Rattle.reader.specs.declared.deal.Hands.{Hands}
 use Rattle.reader.specs.declared.deal.DealRead.the-variants.{Dealt}
 use Rattle.reader.specs.Deals.{has, cardCount, withCard, cardsIn, isDash, cardsNamed, startsWhite, handsAfter, cardText, onward, turned, dealIn, dealOf, Proper, ranksText, suitText, handText, back, clockwise, handsText, dealText}
@@ -113,9 +114,6 @@ pub DealInValue : (c : Conventions) → Accepted c → (seat : ℕ) → seat < 4
 DealInValue c ok seat l h = DealBytes c ok inValue plain-in-value (λ r k. at-each (λ n. inValue (50 + n)) 8 refl r k) refl refl refl seat l h
 
 -- ---- words and blanks
-
-plain-word : (b : ℕ) → isPlain b ≡ true → isWord b ≡ true
-plain-word b e = rw (plain-facts b e .0)
 
 spot-word : (r : ℕ) → r < 8 → isWord (50 + r) ≡ true
 unfolding isWhite

@@ -11,6 +11,7 @@ use lib.ListN.{length, take, drop, set, replicate, length-append, length-map, le
 use lib.Seq.{sets, sets-eq, drop-length}
 use Rattle.tables.specs.declared.letters.Conventions.{Conventions}
 use Rattle.tables.proofs.Laws.{clash, stop}
+use Rattle.tables.proofs.PageLaws.{sets-append}
 use Rattle.reader.specs.declared.store.Entry.{Entry}
 use Rattle.reader.specs.declared.board.Board.{Board}
 use Rattle.reader.specs.declared.board.State.{State}
@@ -24,17 +25,12 @@ use Rattle.reader.specs.Pieces.{Emits}
 use Rattle.reader.specs.Records.{recordsOf, EndsAt}
 use Rattle.reader.specs.Boards.{recordOut}
 use Rattle.reader.specs.Editions.{isTaken, headWords, backWords, cardWords, cardOf, cardsFrom, entriesFrom, cardsOf, entriesOf, verdict, readingOf, RecordIn, Whole, none, one, AllIn, Finished, IsRead}
+use Rattle.reader.proofs.Seams.{no-records}
 use Rattle.reader.proofs.StoreLaws.{putAll-append, Blocks, blocks-append, blocks-map, put-zeros}
 use Rattle.reader.proofs.BoardLaws.{record-counts}
 use Rattle.reader.proofs.StoreLaws as store
 
 -- ---- stores one behind the other
-
-sets-append : (xs ys l : List ℕ) (i : ℕ) → sets l i (xs ++ ys) ≡ sets (sets l i xs) (i + length xs) ys
-sets-append [] ys l i = rw add-zero
-sets-append (x ∷ xs) ys l i =
-    let e : suc i + length xs ≡ i + suc (length xs) = omega arith in
-    sets-append xs ys (set l i x) (suc i) ∙ rw e
 
 pub sets-then : (xs ys l l′ l″ : List ℕ) (i j : ℕ) → l′ ≡ sets l i xs → l″ ≡ sets l′ j ys → j ≡ i + length xs → l″ ≡ sets l i (xs ++ ys)
 sets-then xs ys l l′ l″ i j e e′ ej = e′ ∙ rw (e, ej) (sym (sets-append xs ys l i))
@@ -155,10 +151,6 @@ pub record Turn (c : Conventions) (text cards₀ entries₀ cards entries : List
 pub turn-first : (c : Conventions) (text cards entries : List ℕ) → Turn c text cards entries cards entries 0 0 0
 turn-first c text cards entries =
     record { inside = omega arith; few-boards = omega arith; few = omega arith; cards-length = refl; entries-length = refl; left = left-all c text cards entries }
-
-no-records : recordsOf [] ≡ []
-unfolding recordsOf
-no-records = refl
 
 unmet : (b : Bool) → not b ≡ true → b ≡ false
 unmet true e = clash e

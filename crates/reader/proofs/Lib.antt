@@ -5,6 +5,8 @@ pub mod ApplyPins
 pub mod AuctionLaws
 pub mod BoardLaws
 pub mod CardSets
+pub mod Cases
+pub mod Counts
 pub mod DealBack
 pub mod DealLaws
 pub mod DealPins

@@ -149,7 +149,7 @@ seam-cases f g e start end seam =
     (λ t. end (length-zero g (omega (arith, eqb-true (length f) (length (f ++ g)) t, length-append f g))))
     (λ t. seam (rw take-append-seam at t)))
 
-no-records : recordsOf [] ≡ []
+pub no-records : recordsOf [] ≡ []
 unfolding recordsOf
 no-records = refl
 

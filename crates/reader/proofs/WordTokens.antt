@@ -11,20 +11,13 @@ use Rattle.tables.specs.declared.letters.Conventions.{Conventions}
 use Rattle.tables.specs.Text.{ascii, isWhite, isWord, front, isInside, starts, characters, differs}
 use Rattle.tables.specs.Letters.{Accepted, isCapital, capital, suitOf, rankOf, strainOf, suitLetter, rankLetter, suitLetters, every}
 use Rattle.tables.proofs.Laws.{by-cases, both}
+use Rattle.tables.proofs.LetterLaws.{every-at}
+use Rattle.tables.proofs.RowLaws.{every-replicate}
 use Rattle.reader.proofs.WordLaws.{and-false}
 use Rattle.tables.proofs.LetterLaws.{suit-back, rank-back, strain-back}
 use Rattle.reader.specs.Words.{same, levelOf, bidCode, bidOf, bidToken, isPass, isUnderscore, underscoreCode, signCode, callOf, callToken, isMark, isCallByte, callPart, sectionEnd, isAllPass, isDoubling, trumpSuit, contractTrump, isNoSide, isBothSides, vulnerabilityOf, vulnerabilityToken, cardNumber, cardOf, cardToken}
 
 -- ---- texts whose bytes all meet a test
-
-pub every-at : (p : ℕ → Bool) (l : List ℕ) (i : ℕ) → every p l ≡ true → i < length l → p (getD l i 0) ≡ true
-every-at p [] i e h = absurd (omega arith)
-every-at p (x ∷ xs) zero e h = both (p x) (every p xs) e .0
-every-at p (x ∷ xs) (suc i) e h = every-at p xs i (both (p x) (every p xs) e .1) (omega arith)
-
-every-replicate : (p : ℕ → Bool) (n x : ℕ) → p x ≡ true → every p (replicate n x) ≡ true
-every-replicate p zero x e = refl
-every-replicate p (suc n) x e = rw e (every-replicate p n x e)
 
 pub front-all : (p : ℕ → Bool) (s : List ℕ) → every p s ≡ true → front p s ≡ s
 front-all p [] e = refl

@@ -63,7 +63,7 @@ capital-plain b e =
 
 -- ---- places in a list
 
-every-at : (p : ℕ → Bool) (l : List ℕ) (i : ℕ) → every p l ≡ true → i < length l → p (getD l i 0) ≡ true
+pub every-at : (p : ℕ → Bool) (l : List ℕ) (i : ℕ) → every p l ≡ true → i < length l → p (getD l i 0) ≡ true
 every-at p [] i e h = absurd (omega arith)
 every-at p (x ∷ xs) zero e h = both (p x) (every p xs) e .0
 every-at p (x ∷ xs) (suc i) e h = every-at p xs i (both (p x) (every p xs) e .1) (omega arith)

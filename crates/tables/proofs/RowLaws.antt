@@ -34,7 +34,7 @@ every-append p (x ∷ xs) b ea eb =
     let h = both (p x) (every p xs) ea in
     rw (h .0) (every-append p xs b (h .1) eb)
 
-every-replicate : (p : ℕ → Bool) (n x : ℕ) → p x ≡ true → every p (replicate n x) ≡ true
+pub every-replicate : (p : ℕ → Bool) (n x : ℕ) → p x ≡ true → every p (replicate n x) ≡ true
 every-replicate p zero x e = refl
 every-replicate p (suc n) x e = rw e (every-replicate p n x e)
 
@@ -88,7 +88,7 @@ fields-spaces (suc n) s = rw space-white (fields-spaces n s)
 
 -- ---- the parts of a written row
 
-plain-word : (b : ℕ) → isPlain b ≡ true → isWord b ≡ true
+pub plain-word : (b : ℕ) → isPlain b ≡ true → isWord b ≡ true
 unfolding isPlain
 plain-word b e = rw (neither (isWhite b) _ (not-true _ e) .0)
 

@@ -31,6 +31,10 @@ front-stop p s i h e = rw (step s i h, e) (omega arith)
 pub front-end : (p : ℕ → Bool) (s : List ℕ) (i : ℕ) → length s ≤ i → i + length (front p (drop i s)) ≡ i
 front-end p s i h = rw (stop s i h) (omega arith)
 
+pub front-few : (p : ℕ → Bool) (s : List ℕ) → length (front p s) ≤ length s
+front-few p [] = omega arith
+front-few p (b ∷ bs) = by-cases (p b) (λ e. rw e (omega (arith, front-few p bs))) (λ e. rw e (omega arith))
+
 -- A front is the first of the text's bytes, and what follows it are the others.
 pub take-front : (p : ℕ → Bool) (s : List ℕ) → take (length (front p s)) s ≡ front p s
 take-front p [] = refl

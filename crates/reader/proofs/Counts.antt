@@ -1,0 +1,349 @@
+-- How many entries a text has: at most four for each byte. A line outside sections adds at most three, a section that closes at most
+-- two for each byte of its data and the last trick; its data lies between its tag and the line that closes it.
+use Prim.Native.Nat.{ℕ, suc, _+_, _*_, _≤_, _<_}
+use mathlib.Core.Path.{_≡_, refl, sym, ap, _∙_}
+use mathlib.Core.Bool.{Bool, true, false, cond, _||_}
+use mathlib.Core.List.{List, [], _∷_, _++_}
+use native.Mathlib.Omega.{arith}
+use lib.Dec.{ltb, eqb}
+use lib.ListN.{length, take, drop, getD, length-append, length-map, length-take, length-drop}
+use borrow.Author.Tests.{ltb-true, ltb-false}
+use Rattle.tables.specs.declared.letters.Conventions.{Conventions}
+use Rattle.tables.specs.Text.{lead, trimStart, before, firstCharacter}
+use Rattle.tables.specs.Letters.{seatOf}
+use Rattle.tables.proofs.Laws.{by-cases, stop}
+use Rattle.reader.specs.declared.tag.Span.{Span}
+use Rattle.reader.specs.declared.tag.Tag.{Tag as TagPlaces}
+use Rattle.reader.specs.declared.tag.TagLine.{TagLine}
+use Rattle.reader.specs.declared.tag.TagLine.the-variants.{NoTag, Plain as PlainTag, WithComment as CommentTag}
+use Rattle.reader.specs.declared.tag.Close.{Close}
+use Rattle.reader.specs.declared.tag.Close.the-variants.{At, Nothing}
+use Rattle.reader.specs.declared.line.Line.{Line}
+use Rattle.reader.specs.declared.line.Line.the-variants.{Blank, Brace, Directive, Tag as TagOn, Bracket, Data}
+use Rattle.reader.specs.declared.line.TagReading.{TagReading}
+use Rattle.reader.specs.declared.line.TagReading.the-variants.{Plain, WithComment, WithData}
+use Rattle.reader.specs.declared.section.Open.{Open}
+use Rattle.reader.specs.declared.section.Walk.{Walk}
+use Rattle.reader.specs.declared.board.State.{State}
+use Rattle.reader.specs.declared.store.Entry.{Entry}
+use Rattle.reader.specs.Store.{flat}
+use Rattle.reader.specs.Tag.{cut, trimPart, withPair, withData, dataAfter, splitAt, splitOf, dataBracket, pairOf, tagLine}
+use Rattle.reader.specs.Names.{tagNumber}
+use Rattle.reader.specs.Lines.{isBlank, hasBrace, lastBrace, splitAs, splitLine, bracketAs, bracketLine, kindBy, lineKind, linePlaced, readingPlaced}
+use Rattle.reader.specs.Pieces.{Piece, Out, entry, rawLines}
+use Rattle.reader.specs.Sections.{noteAfter, stopsAt, dataPiece, pieceOf, dataIn, splitPiece, sectionData, walked, noWalk, walkedAll}
+use Rattle.reader.specs.Boards.{lastEntries, closed, noSpan, at, seatOpen, openBy, tagged, dated, readTag, blocked, braced, inNote, lineBy, lineOut, linesOut, noState, recordOut, isAllWhite}
+use Rattle.reader.specs.Records.{recordsOf}
+use Rattle.reader.specs.Editions.{cardsFrom, entriesFrom, cardsOf, entriesOf}
+use Rattle.reader.proofs.EntryLaws.{All, none, one, bytesIn, out-few}
+use Rattle.reader.proofs.AuctionLaws.{CallsFew}
+use Rattle.reader.proofs.PlayLaws.{TricksFew, last-counted}
+use Rattle.reader.proofs.SectionLaws.{LineAt, line-at}
+use Rattle.reader.proofs.Inside.{LineInside}
+use Rattle.reader.proofs.Seams.{records-fit, records-few}
+
+-- ---- a section
+
+walked-few : (c : Conventions) (o : Open) (trump : ℕ) (w : Walk) (q : Piece) → length (walked c o trump w q .entries) ≤ 2 * length (q .bytes)
+unfolding walked
+walked-few c o trump w q =
+    by-cases (eqb (o .kind) 1)
+    (λ e. rw e (CallsFew c (w .bidding) q))
+    (λ e.
+    by-cases (eqb (o .kind) 2)
+    (λ f. rw (e, f) (omega (arith, TricksFew c (o .seat) trump (w .tricks) q)))
+    (λ f. rw (e, f) (omega arith)))
+
+any : {A : Type 0} (xs : List A) → All (λ (x : A). Unit {0}) xs
+any [] = none
+any (x ∷ xs) = one tt (any xs)
+
+-- The data of a section adds at most two entries for each of its bytes.
+pub SectionFew : (c : Conventions) (r : List ℕ) (o : Open) (trump : ℕ) → length (walkedAll c r o trump .entries) ≤ 2 * bytesIn (sectionData r o)
+unfolding walkedAll
+SectionFew c r o trump = out-few (walked c o trump) 2 (λ w q u. walked-few c o trump w q) noWalk (any (sectionData r o))
+
+last-few : (kind : ℕ) (w : Walk) → length (lastEntries kind w) ≤ 1
+last-few kind w = by-cases (eqb kind 2) (λ e. rw e (last-counted (w .tricks) .few)) (λ e. rw e (omega arith))
+
+-- What closing a section may add.
+abbrev pub costOf : List ℕ → Open → ℕ
+costOf r o = cond (eqb (o .kind) 0) 0 (2 * bytesIn (sectionData r o) + 1)
+
+pub ClosedFew : (c : Conventions) (r : List ℕ) (s : State) → length (closed c r s .entries) ≤ costOf r (s .section)
+unfolding closed
+ClosedFew c r s =
+    by-cases (eqb (s .section .kind) 0)
+    (λ e. rw e (omega arith))
+    (λ e.
+    let w = walkedAll c r (s .section) (s .board .contract) in
+    rw (e, length-append) (omega (arith, SectionFew c r (s .section) (s .board .contract), last-few (s .section .kind) (w .state))))
+
+-- ---- the data of a section
+
+bytes-append : (xs ys : List Piece) → bytesIn (xs ++ ys) ≡ bytesIn xs + bytesIn ys
+bytes-append [] ys = omega arith
+bytes-append (x ∷ xs) ys = omega (arith, bytes-append xs ys)
+
+cut-few : (s : Span) (l : List ℕ) → length (cut s l) ≤ length l
+cut-few s l = rw (length-take, length-drop) (omega arith)
+
+cut-len : (s : Span) (l : List ℕ) → length (cut s l) ≤ s .len
+cut-len s l = rw length-take (omega arith)
+
+data-few : (p : ℕ) (l : List ℕ) (k : Line) → bytesIn (dataPiece p l k) ≤ length l
+data-few p l Blank = omega arith
+data-few p l Brace = omega arith
+data-few p l (Directive s) = omega arith
+data-few p l (TagOn t) = omega arith
+data-few p l Bracket = omega arith
+data-few p l (Data s) = omega (arith, cut-few s l)
+
+piece-few : (noting : Bool) (p : ℕ) (l : List ℕ) → bytesIn (pieceOf noting p l) ≤ length l
+unfolding pieceOf
+piece-few true p l = omega arith
+piece-few false p l = data-few p l (lineKind l)
+
+-- A line has no more data than bytes.
+data-step : (noting : Bool) (p : ℕ) (l : List ℕ) (ls : List (List ℕ)) → bytesIn (dataIn noting p (l ∷ ls)) ≤ length l + bytesIn (dataIn (noteAfter noting l) (p + length l) ls)
+data-step noting p l ls =
+    by-cases (stopsAt noting l)
+    (λ e. rw e (omega arith))
+    (λ e. rw (e, bytes-append (pieceOf noting p l)) (omega (arith, piece-few noting p l)))
+
+split-few : (r : List ℕ) (s : Span) → bytesIn (splitPiece r s) ≤ s .len
+split-few r s = by-cases (eqb (s .len) 0) (λ e. rw e (omega arith)) (λ e. rw e (omega (arith, cut-len s r)))
+
+-- A section just opened at q: what was split off, and what follows.
+abbrev laterCost : List ℕ → ℕ → Span → ℕ
+laterCost r q split = 2 * split .len + 1 + 2 * bytesIn (dataIn false q (rawLines (drop q r)))
+
+kind-cost : (r : List ℕ) (kind seat q : ℕ) (split : Span) → costOf r (record { kind = kind; seat = seat; at = q; split = split }) ≤ laterCost r q split
+unfolding sectionData
+kind-cost r kind seat q split =
+    by-cases (eqb kind 0)
+    (λ e. rw e (omega arith))
+    (λ e. rw (e, bytes-append (splitPiece r split)) (omega (arith, split-few r split)))
+
+seat-cost : (r : List ℕ) (kind seat q : ℕ) (split : Span) → costOf r (seatOpen kind seat q split) ≤ laterCost r q split
+seat-cost r kind seat q split = by-cases (ltb seat 4) (λ e. rw e (kind-cost r kind seat q split)) (λ e. rw e (omega arith))
+
+open-cost : (c : Conventions) (r : List ℕ) (k : ℕ) (value : List ℕ) (q : ℕ) (split : Span) → costOf r (openBy c k value q split) ≤ laterCost r q split
+unfolding openBy
+open-cost c r k value q split =
+    by-cases (eqb k 15)
+    (λ e. rw e (seat-cost r 1 (seatOf c (firstCharacter value)) q split))
+    (λ e.
+    by-cases (eqb k 16)
+    (λ f. rw (e, f) (seat-cost r 2 (seatOf c (firstCharacter value)) q split))
+    (λ f. by-cases (eqb k 19) (λ g. rw (e, f, g) (kind-cost r 3 4 q split)) (λ g. rw (e, f, g) (omega arith))))
+
+-- ---- data split off a tag's line stands behind a byte at least
+
+abbrev readingLate : TagReading → Type 0
+readingLate (Plain t) = Unit {0}
+readingLate (WithComment t d) = Unit {0}
+readingLate (WithData t d) = 0 < d .start
+
+abbrev lineLate : Line → Type 0
+lineLate Blank = Unit {0}
+lineLate Brace = Unit {0}
+lineLate (Directive d) = Unit {0}
+lineLate (TagOn t) = readingLate t
+lineLate Bracket = Unit {0}
+lineLate (Data d) = Unit {0}
+
+late-data : (g : TagPlaces) (e : ℕ) (line : List ℕ) → lineLate (splitAs (withData g (trimPart (e + 1) (length line) line)))
+unfolding trimPart
+late-data g e line = by-cases (eqb (trimPart (e + 1) (length line) line .len) 0) (λ t. rw t tt) (λ t. rw t (omega arith))
+
+late-pair : (t : TagLine) (e : ℕ) (line : List ℕ) → lineLate (splitAs (withPair (pairOf t) (e + 1) line))
+late-pair NoTag e line = tt
+late-pair (PlainTag t) e line = late-data t e line
+late-pair (CommentTag t c) e line = late-data t e line
+
+late-split : (c : Close) (line : List ℕ) → lineLate (splitAs (splitAt c line))
+unfolding dataAfter
+late-split Nothing line = tt
+late-split (At k) line = late-pair (tagLine (take (k + 1) line)) k line
+
+late-bracket : (t : TagLine) (line : List ℕ) → lineLate (bracketAs t line)
+unfolding splitLine splitOf
+late-bracket NoTag line = late-split (dataBracket line) line
+late-bracket (PlainTag t) line = tt
+late-bracket (CommentTag t c) line = tt
+
+late-by : (b : ℕ) (line : List ℕ) → lineLate (kindBy b line)
+unfolding bracketLine
+late-by b line =
+    by-cases (eqb b 123)
+    (λ e. rw e tt)
+    (λ e.
+    by-cases (eqb b 59 || eqb b 37)
+    (λ f. rw (e, f) tt)
+    (λ f. by-cases (eqb b 91) (λ g. rw (e, f, g) (late-bracket (tagLine line) line)) (λ g. rw (e, f, g) tt)))
+
+line-late : (line : List ℕ) → lineLate (lineKind line)
+unfolding lineKind
+line-late line = by-cases (isBlank line) (λ e. rw e tt) (λ e. rw e (late-by (getD (trimStart line) 0 0) line))
+
+-- ---- one line
+
+few-if : (b : Bool) (e : Entry) → length (cond b [] (e ∷ [])) ≤ 1
+few-if true e = omega arith
+few-if false e = omega arith
+
+dated-few : (s : State) (p : ℕ) (g : Span) → length (dated s p g .entries) ≤ 1
+dated-few s p g = few-if (eqb (s .section .kind) 0) (entry 5 (p + g .start) (g .len) (s .section .kind))
+
+chosen : {A : Type 0} (P : A → Type 0) (b : Bool) (x y : A) → (b ≡ true → P x) → (b ≡ false → P y) → P (cond b x y)
+chosen P true x y h k = h refl
+chosen P false x y h k = k refl
+
+-- After a line of n bytes, with lines ls from q on: what the open section then owes, and that the line's bytes pay for its entries
+-- and for that.
+record Pays (r : List ℕ) (n q : ℕ) (ls : List (List ℕ)) (d : ℕ) (o : Out State) : Type 0 where
+  owed : ℕ
+  owes : costOf r (o .state .section) ≤ owed + 2 * bytesIn (dataIn (o .state .noting) q ls)
+  few : length (o .entries) + owed ≤ 4 * n + d
+
+-- A line that leaves the section as it is.
+record Keeps (s : State) (l : List ℕ) (o : Out State) : Type 0 where
+  section-kept : o .state .section ≡ s .section
+  noting-is : o .state .noting ≡ noteAfter (s .noting) l
+  few : length (o .entries) ≤ 1
+
+keeps-pays : (r : List ℕ) (s : State) (p : ℕ) (l : List ℕ) (ls : List (List ℕ)) (d : ℕ) {o : Out State}
+    → costOf r (s .section) ≤ d + 2 * bytesIn (dataIn (s .noting) p (l ∷ ls)) → 0 < length l → Keeps s l o → Pays r (length l) (p + length l) ls d o
+keeps-pays r s p l ls d h f k =
+    record {
+      owed = d + 2 * length l;
+      owes = rw (k .section-kept, k .noting-is) (omega (arith, h, data-step (s .noting) p l ls));
+      few = omega (arith, k .few);
+    }
+
+note-keeps : (r : List ℕ) (s : State) (p : ℕ) (l : List ℕ) → s .noting ≡ true → Keeps s l (inNote r s p l)
+unfolding inNote blocked noteAfter
+note-keeps r s p l e =
+    by-cases (hasBrace l)
+    (λ b. rw b (record { section-kept = refl; noting-is = rw (e, b); few = few-if (isAllWhite r (s .block) (p + lastBrace l)) _ }))
+    (λ b. rw b (record { section-kept = refl; noting-is = rw (e, b); few = omega arith }))
+
+brace-keeps : (r : List ℕ) (s : State) (p : ℕ) (l : List ℕ) → s .noting ≡ false → lineKind l ≡ Brace → Keeps s l (braced r s p l)
+unfolding braced blocked noteAfter
+brace-keeps r s p l e k =
+    by-cases (hasBrace l)
+    (λ b. rw b (record { section-kept = refl; noting-is = rw (e, k, b); few = few-if (isAllWhite r (p + length (lead l) + 1) (p + lastBrace l)) _ }))
+    (λ b. rw b (record { section-kept = refl; noting-is = rw (e, k, b); few = omega arith }))
+
+closes-tag : (l : List ℕ) (t : TagReading) → lineKind l ≡ TagOn t → stopsAt false l ≡ true
+unfolding stopsAt
+closes-tag l t k = rw k
+
+module _ (c : Conventions) (r : List ℕ) (s : State) (p : ℕ) (l : List ℕ) (ls : List (List ℕ)) (d : ℕ) (f : 0 < length l) (n : rawLines (drop (p + length l) r) ≡ ls) where
+  tag-pays : (t : TagReading) → costOf r (s .section) ≤ d → readingPlaced t (length l) → readingLate t → Pays r (length l) (p + length l) ls d (readTag c r s p l t)
+  unfolding readTag tagged
+  tag-pays (Plain t) h i j =
+      record {
+        owed = 1;
+        owes = rw (← n) (omega (arith, open-cost c r (tagNumber (cut (t .name) l)) (cut (t .value) l) (p + length l) noSpan));
+        few = rw length-append (omega (arith, ClosedFew c r s));
+      }
+  tag-pays (WithComment t g) h i j =
+      record {
+        owed = 1;
+        owes = rw (← n) (omega (arith, open-cost c r (tagNumber (cut (t .name) l)) (cut (t .value) l) (p + length l) noSpan));
+        few = rw length-append (omega (arith, ClosedFew c r s));
+      }
+  tag-pays (WithData t g) h i j =
+      record {
+        owed = 2 * g .len + 1;
+        owes = rw (← n) (omega (arith, open-cost c r (tagNumber (cut (t .name) l)) (cut (t .value) l) (p + length l) (at p g)));
+        few =
+            rw length-append
+            (omega (arith, ClosedFew c r s, i .1, dated-few (tagged c (closed c r s .state) p l (p + length l) t (at p g) .state) p g));
+      }
+
+  kind-pays : (k : Line) → lineKind l ≡ k → s .noting ≡ false → costOf r (s .section) ≤ d + 2 * bytesIn (dataIn (s .noting) p (l ∷ ls))
+      → linePlaced k (length l) → lineLate k → Pays r (length l) (p + length l) ls d (lineBy c r s p l k)
+  unfolding noteAfter
+  kind-pays Blank e z h i j = keeps-pays r s p l ls d h f (record { section-kept = refl; noting-is = rw (z, e); few = omega arith })
+  kind-pays Brace e z h i j = keeps-pays r s p l ls d h f (brace-keeps r s p l z e)
+  kind-pays (Directive g) e z h i j = keeps-pays r s p l ls d h f (record { section-kept = refl; noting-is = rw (z, e); few = omega arith })
+  kind-pays (TagOn t) e z h i j =
+      let g : dataIn (s .noting) p (l ∷ ls) ≡ [] = rw (z, closes-tag l t e) in
+      tag-pays t (omega (arith, rw g at h)) i j
+  kind-pays Bracket e z h i j = keeps-pays r s p l ls d h f (record { section-kept = refl; noting-is = rw (z, e); few = omega arith })
+  kind-pays (Data g) e z h i j = keeps-pays r s p l ls d h f (record { section-kept = refl; noting-is = rw (z, e); few = dated-few s p g })
+
+  line-pays : costOf r (s .section) ≤ d + 2 * bytesIn (dataIn (s .noting) p (l ∷ ls)) → Pays r (length l) (p + length l) ls d (lineOut c r s p l)
+  unfolding lineOut
+  line-pays h =
+      chosen (λ o. Pays r (length l) (p + length l) ls d o) (s .noting) (inNote r s p l) (lineBy c r s p l (lineKind l))
+      (λ e. keeps-pays r s p l ls d h f (note-keeps r s p l e))
+      (λ e. kind-pays (lineKind l) refl e h (LineInside l) (line-late l))
+
+-- ---- the lines of a record
+
+record NextLine (r : List ℕ) (p : ℕ) (l : List ℕ) (ls : List (List ℕ)) : Type 0 where
+  filled : 0 < length l
+  inside : p + length l ≤ length r
+  rest : rawLines (drop (p + length l) r) ≡ ls
+
+next-line : (r : List ℕ) (p : ℕ) (l : List ℕ) (ls : List (List ℕ)) → rawLines (drop p r) ≡ l ∷ ls → NextLine r p l ls
+next-line r p l ls e =
+    by-cases (ltb p (length r))
+    (λ t.
+    let k = line-at r p (take (length (before 10 (drop p r)) + 1) (drop p r)) (ltb-true p (length r) t) refl in
+    moved k (sym (k .lines) ∙ e))
+    (λ t.
+    let z : rawLines (drop p r) ≡ [] = rw (stop r p (ltb-false p (length r) t)) in
+    let y : _≡_ {A = List (List ℕ)} [] (l ∷ ls) = sym z ∙ e in
+    let x : _≡_ {A = ℕ} 0 1 = cc in
+    absurd (omega arith))
+  where
+    moved : {m : List ℕ} → LineAt r p m → m ∷ rawLines (drop (p + length m) r) ≡ l ∷ ls → NextLine r p l ls
+    moved {m} k e =
+        let a : m ≡ l = cc in
+        let b : rawLines (drop (p + length m) r) ≡ ls = cc in
+        record { filled = rw a at (k .filled); inside = rw a at (k .inside); rest = rw a at b }
+
+lines-few : (c : Conventions) (r : List ℕ) (ls : List (List ℕ)) (s : State) (p d : ℕ) → p ≤ length r → rawLines (drop p r) ≡ ls
+    → costOf r (s .section) ≤ d + 2 * bytesIn (dataIn (s .noting) p ls) → length (linesOut c r s p ls .entries) + 4 * p ≤ 4 * length r + d
+lines-few c r [] s p d i e h = omega (arith, ClosedFew c r s)
+lines-few c r (l ∷ ls) s p d i e h =
+    let n = next-line r p l ls e in
+    let y = line-pays c r s p l ls d (n .filled) (n .rest) h in
+    let g = lines-few c r ls (lineOut c r s p l .state) (p + length l) (y .owed) (n .inside) (n .rest) (y .owes) in
+    rw length-append (omega (arith, y .few, g))
+
+-- THEOREM. A record has at most four entries for each byte.
+pub EntriesFew : (c : Conventions) (r : List ℕ) → length (recordOut c r .entries) ≤ 4 * length r
+unfolding recordOut
+EntriesFew c r = omega (arith, lines-few c r (rawLines r) noState 0 0 (omega arith) refl (omega arith))
+
+-- ---- a text
+
+from-few : (c : Conventions) (a : ℕ) (rs : List (List ℕ)) → length (entriesFrom c a rs) ≤ 4 * length (flat rs)
+from-few c a [] = omega arith
+from-few c a (r ∷ rs) =
+    rw (length-append, length-map)
+    (omega (arith, EntriesFew c r, from-few c (a + length r) rs, length-append r (flat rs)))
+
+-- THEOREM. So has a text.
+pub TextEntriesFew : (c : Conventions) (text : List ℕ) → length (entriesOf c text) ≤ 4 * length text
+unfolding entriesOf
+TextEntriesFew c text = omega (arith, from-few c 0 (recordsOf text), records-fit text)
+
+-- The number of entries of a text that is not overlong has 32 bits.
+pub EntriesFit : (c : Conventions) (text : List ℕ) → length text ≤ 16777215 → length (entriesOf c text) < 4294967296
+EntriesFit c text h = omega (arith, TextEntriesFew c text)
+
+cards-few : (c : Conventions) (a n : ℕ) (rs : List (List ℕ)) → length (cardsFrom c a n rs) ≡ length rs
+cards-few c a n [] = refl
+cards-few c a n (r ∷ rs) = ap suc (cards-few c (a + length r) (n + length (recordOut c r .entries)) rs)
+
+-- THEOREM. A text has at most one board for each byte.
+pub TextBoardsFew : (c : Conventions) (text : List ℕ) → length (cardsOf c text) ≤ length text
+unfolding cardsOf
+TextBoardsFew c text = rw (cards-few c 0 0 (recordsOf text)) (records-few text)
