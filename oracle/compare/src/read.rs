@@ -7,6 +7,7 @@ mod model;
 mod product;
 
 use crate::shrink::{shrink, Ways};
+use crate::tables::hex;
 use crate::tables::judge::text_in_domain;
 use bridge_encodings::pbn::read_pbn;
 use judge::{field_that_differs, Words};
@@ -22,6 +23,21 @@ type Checked = Result<(), String>;
 
 /// Every so many texts the lent sizes around each boundary are tried.
 const SIZES_EVERY: u64 = 97;
+
+/// What a board can hold, and whether a card says that it does.
+type Held = (&'static str, fn(&[u32]) -> bool);
+
+/// What is counted of the boards that were compared.
+const HELD: [Held; 8] = [
+    ("a deal", |card| card[9] == 1),
+    ("an unparsed deal", |card| card[9] == 2),
+    ("digits", |card| card[38] == 1),
+    ("an optimum table", |card| card[38] == 2),
+    ("an auction", |card| card[51] > 0),
+    ("a play", |card| card[55] > 0),
+    ("a number", |card| card[2] == 1),
+    ("a result", |card| card[7] == 1),
+];
 
 /// Compares one text. Also says whether the Rust was the judge.
 fn compare(product: &mut Product, text: &[u8]) -> (bool, Checked) {
@@ -174,7 +190,7 @@ fn compare_size(product: &mut Product, text: &[u8], lent: Lent, wanted: &Reading
 
 /// Editions as long as can be, and longer.
 fn compare_longest(product: &mut Product, seed: u64) -> Result<u64, String> {
-    let mut text = generate::edition_of(seed, LONGEST);
+    let mut text = generate::plain_edition(seed, LONGEST);
     let wanted = model::read(&text);
     let need = Lent {
         cards: wanted.cards.len() + CARD,
@@ -211,6 +227,7 @@ pub fn run(seed: u64) -> bool {
     let mut counts: BTreeMap<&'static str, u64> = BTreeMap::new();
     let (mut by_rust, mut by_model, mut bytes, mut boards, mut entries) = (0u64, 0, 0, 0, 0);
     let (mut sized, mut size_calls) = (0u64, 0);
+    let mut held = [0u64; HELD.len()];
     let mut failed = None;
     generate::all(seed, &mut |group, text| {
         let (rust, checked) = compare(&mut product, text);
@@ -224,6 +241,12 @@ pub fn run(seed: u64) -> bool {
         }
         boards += product.answer()[3];
         entries += product.answer()[4];
+        let used = product.answer()[3] as usize * CARD;
+        for card in product.cards()[..used].chunks(CARD) {
+            for (count, (_, holds)) in held.iter_mut().zip(HELD) {
+                *count += u64::from(holds(card));
+            }
+        }
         if (*count).is_multiple_of(SIZES_EVERY) && text.len() < 4000 {
             sized += 1;
             match compare_sizes(&mut product, text) {
@@ -241,6 +264,9 @@ pub fn run(seed: u64) -> bool {
         by_rust + by_model
     );
     println!("read: {bytes} bytes, {boards} boards, {entries} entries");
+    for (count, (what, _)) in held.iter().zip(HELD) {
+        println!("{count:>9}  boards with {what}");
+    }
     println!("read: {size_calls} calls with lent sizes around the boundaries of {sized} texts");
     if let Some((group, text, error, by_size)) = failed {
         println!("read: DIFFERENCE, met in \"{group}\"");
@@ -277,7 +303,11 @@ fn show(product: &mut Product, text: &[u8], error: &str, by_size: bool) {
         simpler: b"xN1 \n",
     };
     let small = shrink(text, &ways, &mut |candidate| check(candidate).is_err());
-    let judge = if was_rust { "reader.rs" } else { "the model alone" };
+    let judge = if was_rust {
+        "reader.rs"
+    } else {
+        "the model alone"
+    };
     println!("judge: {judge}");
     println!("text, {} bytes: {}", small.len(), hex(&small));
     println!("as text: \"{}\"", small.escape_ascii());
@@ -290,16 +320,4 @@ fn show(product: &mut Product, text: &[u8], error: &str, by_size: bool) {
         println!("as text: \"{}\"", text.escape_ascii());
         println!("there: {error}");
     }
-}
-
-/// The bytes in hexadecimal, the first 400 if there are more.
-fn hex(bytes: &[u8]) -> String {
-    let shown = &bytes[..bytes.len().min(400)];
-    let list: Vec<String> = shown.iter().map(|b| format!("{b:02x}")).collect();
-    let rest = if shown.len() < bytes.len() {
-        " ..."
-    } else {
-        ""
-    };
-    list.join(" ") + rest
 }

@@ -257,7 +257,7 @@ fn show_seen(who: &str, seen: &Seen) {
 }
 
 /// The bytes in hexadecimal, the first 400 if there are more.
-fn hex(bytes: &[u8]) -> String {
+pub fn hex(bytes: &[u8]) -> String {
     let shown = &bytes[..bytes.len().min(400)];
     let list: Vec<String> = shown.iter().map(|b| format!("{b:02x}")).collect();
     let rest = if shown.len() < bytes.len() {

@@ -128,12 +128,7 @@ pub fn optimum_result_table_from_rows(
 }
 
 /// Reads an edition. A card is 64 words, an entry 4.
-pub fn read(
-    text: &[u8],
-    cards: &mut [u32],
-    entries: &mut [u32],
-    answer: &mut [u64; 5],
-) -> u64 {
+pub fn read(text: &[u8], cards: &mut [u32], entries: &mut [u32], answer: &mut [u64; 5]) -> u64 {
     // SAFETY: as in dd_table_to_pbn.
     unsafe {
         c::golavimes_read(

@@ -9,14 +9,16 @@ use std::time::{Duration, Instant};
 /// The editions' lengths, and how often each is read in one of the runs.
 const LENGTHS: [(&str, usize, usize); 3] = [
     ("1 KB", 1_000, 2_000),
-    ("100 KB", 100_000, 20),
+    ("100 KB", 100_000, 40),
     ("10 MB", 10_000_000, 1),
 ];
-const RUNS: usize = 9;
+const RUNS: usize = 15;
 
 /// Prints a table of bytes a second.
 pub fn run(seed: u64) {
-    println!("| Edition | Bytes | Boards | Entries | read_pbn, MB/s | golavimes_read, MB/s | Ratio |");
+    println!(
+        "| Edition | Bytes | Boards | Entries | read_pbn, MB/s | golavimes_read, MB/s | Ratio |"
+    );
     println!("|---|---|---|---|---|---|---|");
     for (name, length, times) in LENGTHS {
         let text = generate::plain_edition(seed, length);

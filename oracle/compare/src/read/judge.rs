@@ -114,7 +114,10 @@ impl<'a> Words<'a> {
             first += card[1];
         }
         let entries = (self.entries.len() / ENTRY) as u32;
-        fact!(first == entries, "{entries} entries, the boards have {first}");
+        fact!(
+            first == entries,
+            "{entries} entries, the boards have {first}"
+        );
         Ok(())
     }
 
@@ -124,13 +127,24 @@ impl<'a> Words<'a> {
         fact!(from == record, "record starts at {from}, not {record}");
         fact!(from < to, "record from {from} to {to}");
         let end = to as usize;
-        fact!(end <= self.text.len(), "record ends at {end}, past the text");
+        fact!(
+            end <= self.text.len(),
+            "record ends at {end}, past the text"
+        );
         let closed = end == self.text.len() || self.text[end - 1] == b'\n';
         fact!(closed, "record ends at {end}, within a line");
-        fact!(card[0] == first, "entries start at {}, not {first}", card[0]);
+        fact!(
+            card[0] == first,
+            "entries start at {}, not {first}",
+            card[0]
+        );
         let last = first as usize + card[1] as usize;
         fact!(last <= entries, "entries up to {last}, of {entries}");
-        fact!(card[62] == 0 && card[63] == 0, "words 62, 63: {:?}", &card[62..]);
+        fact!(
+            card[62] == 0 && card[63] == 0,
+            "words 62, 63: {:?}",
+            &card[62..]
+        );
 
         for (word, most) in [
             (2, 1),
@@ -178,7 +192,11 @@ impl<'a> Words<'a> {
             let bad = |what: &str| format!("entry {place} {entry:?}: {what}");
             let stop = start.checked_add(*length).unwrap_or(u32::MAX);
             if (1..=7).contains(kind) {
-                fact!(from <= *start && stop <= to, "{}", bad("outside the record"));
+                fact!(
+                    from <= *start && stop <= to,
+                    "{}",
+                    bad("outside the record")
+                );
             }
             if (1..=5).contains(kind) {
                 fact!(reached <= *start, "{}", bad("before the one before it"));

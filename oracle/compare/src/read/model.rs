@@ -240,11 +240,8 @@ impl State<'_> {
                 card[2] = number.is_some().into();
                 card[3] = number.unwrap_or(0) as u32;
             }
-            b"Contract" => {
-                if value != b"?" {
-                    replace(43);
-                }
-            }
+            b"Contract" if value == b"?" => {}
+            b"Contract" => replace(43),
             b"OptimumScore" => card[49] = place,
             b"ParContract" => card[50] = place,
             b"Dealer" => card[4] = first_seat(value),
@@ -279,12 +276,11 @@ impl State<'_> {
                     card[48] = place;
                 }
             }
+            b"DoubleDummyTricks" if card[38] == 2 => {}
             b"DoubleDummyTricks" => {
-                if card[38] != 2 {
-                    let read = from_digits(value);
-                    card[38] = read.is_ok().into();
-                    set_cells(card, &read.unwrap_or([0; 20]));
-                }
+                let read = from_digits(value);
+                card[38] = read.is_ok().into();
+                set_cells(card, &read.unwrap_or([0; 20]));
             }
             b"OptimumResultTable" => self.section = Section::Optimum,
             b"Auction" | b"Play" => {
@@ -562,4 +558,50 @@ fn hand(text: &[u8]) -> Option<u64> {
         }
     }
     (hand.count_ones() <= 13).then_some(hand)
+}
+
+#[cfg(test)]
+mod tests {
+    use super::*;
+
+    fn entries(text: &str) -> Vec<Vec<u32>> {
+        let read = read(text.as_bytes());
+        read.entries.chunks(ENTRY).map(<[u32]>::to_vec).collect()
+    }
+
+    /// The examples of docs/FORMAT.md, section 17.
+    #[test]
+    fn examples() {
+        let text = "[Board \"1\"]\n[Dealer \"N\"]\n";
+        let wanted = [[1, 1, 5, 0], [2, 8, 1, 0], [1, 13, 6, 0], [2, 21, 1, 0]];
+        assert_eq!(entries(text), wanted);
+        let mut card = [0; CARD];
+        for (word, number) in [(1, 4), (2, 1), (3, 1), (6, 4), (39, 2), (61, 25)] {
+            card[word] = number;
+        }
+        for word in [53, 57, 59] {
+            card[word] = 4;
+        }
+        assert_eq!(read(text.as_bytes()).cards, card);
+
+        let text = "[Auction \"N\"]\n1C=1= AP\n";
+        let wanted = [
+            [1, 1, 7, 0],
+            [2, 10, 1, 0],
+            [5, 14, 8, 1],
+            [6, 14, 2, 1],
+            [7, 16, 3, 0],
+            [6, 20, 2, 0],
+            [6, 20, 2, 0],
+            [6, 20, 2, 0],
+        ];
+        assert_eq!(entries(text), wanted);
+        assert_eq!(read(text.as_bytes()).cards[51..55], [4, 5, 0, 0]);
+
+        let text = "[Play \"N\"]\nS2 S3 S4 S5\nH2 H3 H4 H5";
+        let tricks = &entries(text)[4..];
+        let first = [8, 0, 3, u32::from_le_bytes([39, 40, 41, 42])];
+        let second = [8, 3, 3, u32::from_le_bytes([29, 26, 27, 28])];
+        assert_eq!(tricks, [first, second]);
+    }
 }
