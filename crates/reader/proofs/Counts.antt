@@ -54,7 +54,7 @@ walked-few c o trump w q =
     (λ f. rw (e, f) (omega (arith, TricksFew c (o .seat) trump (w .tricks) q)))
     (λ f. rw (e, f) (omega arith)))
 
-any : {A : Type 0} (xs : List A) → All (λ (x : A). Unit {0}) xs
+pub any : {A : Type 0} (xs : List A) → All (λ (x : A). Unit {0}) xs
 any [] = none
 any (x ∷ xs) = one tt (any xs)
 
@@ -66,11 +66,11 @@ SectionFew c r o trump = out-few (walked c o trump) 2 (λ w q u. walked-few c o 
 last-few : (kind : ℕ) (w : Walk) → length (lastEntries kind w) ≤ 1
 last-few kind w = by-cases (eqb kind 2) (λ e. rw e (last-counted (w .tricks) .few)) (λ e. rw e (omega arith))
 
--- What closing a section may add.
-abbrev pub costOf : List ℕ → Open → ℕ
-costOf r o = cond (eqb (o .kind) 0) 0 (2 * bytesIn (sectionData r o) + 1)
+-- The most entries that closing a section may add.
+abbrev pub closingMost : List ℕ → Open → ℕ
+closingMost r o = cond (eqb (o .kind) 0) 0 (2 * bytesIn (sectionData r o) + 1)
 
-pub ClosedFew : (c : Conventions) (r : List ℕ) (s : State) → length (closed c r s .entries) ≤ costOf r (s .section)
+pub ClosedFew : (c : Conventions) (r : List ℕ) (s : State) → length (closed c r s .entries) ≤ closingMost r (s .section)
 unfolding closed
 ClosedFew c r s =
     by-cases (eqb (s .section .kind) 0)
@@ -88,7 +88,7 @@ bytes-append (x ∷ xs) ys = omega (arith, bytes-append xs ys)
 cut-few : (s : Span) (l : List ℕ) → length (cut s l) ≤ length l
 cut-few s l = rw (length-take, length-drop) (omega arith)
 
-cut-len : (s : Span) (l : List ℕ) → length (cut s l) ≤ s .len
+pub cut-len : (s : Span) (l : List ℕ) → length (cut s l) ≤ s .len
 cut-len s l = rw length-take (omega arith)
 
 data-few : (p : ℕ) (l : List ℕ) (k : Line) → bytesIn (dataPiece p l k) ≤ length l
@@ -115,28 +115,28 @@ split-few : (r : List ℕ) (s : Span) → bytesIn (splitPiece r s) ≤ s .len
 split-few r s = by-cases (eqb (s .len) 0) (λ e. rw e (omega arith)) (λ e. rw e (omega (arith, cut-len s r)))
 
 -- A section just opened at q: what was split off, and what follows.
-abbrev laterCost : List ℕ → ℕ → Span → ℕ
-laterCost r q split = 2 * split .len + 1 + 2 * bytesIn (dataIn false q (rawLines (drop q r)))
+abbrev openedMost : List ℕ → ℕ → Span → ℕ
+openedMost r q split = 2 * split .len + 1 + 2 * bytesIn (dataIn false q (rawLines (drop q r)))
 
-kind-cost : (r : List ℕ) (kind seat q : ℕ) (split : Span) → costOf r (record { kind = kind; seat = seat; at = q; split = split }) ≤ laterCost r q split
+kind-most : (r : List ℕ) (kind seat q : ℕ) (split : Span) → closingMost r (record { kind = kind; seat = seat; at = q; split = split }) ≤ openedMost r q split
 unfolding sectionData
-kind-cost r kind seat q split =
+kind-most r kind seat q split =
     by-cases (eqb kind 0)
     (λ e. rw e (omega arith))
     (λ e. rw (e, bytes-append (splitPiece r split)) (omega (arith, split-few r split)))
 
-seat-cost : (r : List ℕ) (kind seat q : ℕ) (split : Span) → costOf r (seatOpen kind seat q split) ≤ laterCost r q split
-seat-cost r kind seat q split = by-cases (ltb seat 4) (λ e. rw e (kind-cost r kind seat q split)) (λ e. rw e (omega arith))
+seat-most : (r : List ℕ) (kind seat q : ℕ) (split : Span) → closingMost r (seatOpen kind seat q split) ≤ openedMost r q split
+seat-most r kind seat q split = by-cases (ltb seat 4) (λ e. rw e (kind-most r kind seat q split)) (λ e. rw e (omega arith))
 
-open-cost : (c : Conventions) (r : List ℕ) (k : ℕ) (value : List ℕ) (q : ℕ) (split : Span) → costOf r (openBy c k value q split) ≤ laterCost r q split
+open-most : (c : Conventions) (r : List ℕ) (k : ℕ) (value : List ℕ) (q : ℕ) (split : Span) → closingMost r (openBy c k value q split) ≤ openedMost r q split
 unfolding openBy
-open-cost c r k value q split =
+open-most c r k value q split =
     by-cases (eqb k 15)
-    (λ e. rw e (seat-cost r 1 (seatOf c (firstCharacter value)) q split))
+    (λ e. rw e (seat-most r 1 (seatOf c (firstCharacter value)) q split))
     (λ e.
     by-cases (eqb k 16)
-    (λ f. rw (e, f) (seat-cost r 2 (seatOf c (firstCharacter value)) q split))
-    (λ f. by-cases (eqb k 19) (λ g. rw (e, f, g) (kind-cost r 3 4 q split)) (λ g. rw (e, f, g) (omega arith))))
+    (λ f. rw (e, f) (seat-most r 2 (seatOf c (firstCharacter value)) q split))
+    (λ f. by-cases (eqb k 19) (λ g. rw (e, f, g) (kind-most r 3 4 q split)) (λ g. rw (e, f, g) (omega arith))))
 
 -- ---- data split off a tag's line stands behind a byte at least
 
@@ -196,16 +196,16 @@ few-if false e = omega arith
 dated-few : (s : State) (p : ℕ) (g : Span) → length (dated s p g .entries) ≤ 1
 dated-few s p g = few-if (eqb (s .section .kind) 0) (entry 5 (p + g .start) (g .len) (s .section .kind))
 
-chosen : {A : Type 0} (P : A → Type 0) (b : Bool) (x y : A) → (b ≡ true → P x) → (b ≡ false → P y) → P (cond b x y)
+pub chosen : {A : Type 0} (P : A → Type 0) (b : Bool) (x y : A) → (b ≡ true → P x) → (b ≡ false → P y) → P (cond b x y)
 chosen P true x y h k = h refl
 chosen P false x y h k = k refl
 
--- After a line of n bytes, with lines ls from q on: what the open section then owes, and that the line's bytes pay for its entries
--- and for that.
-record Pays (r : List ℕ) (n q : ℕ) (ls : List (List ℕ)) (d : ℕ) (o : Out State) : Type 0 where
-  owed : ℕ
-  owes : costOf r (o .state .section) ≤ owed + 2 * bytesIn (dataIn (o .state .noting) q ls)
-  few : length (o .entries) + owed ≤ 4 * n + d
+-- After a line of n bytes, with lines ls from q on. Closing the open section adds at most past, for its data up to q, and two for each
+-- byte of its data from q on. d is what past was before the line: the line's entries, and what it adds to past, are at most 4 n.
+record Bounded (r : List ℕ) (n q : ℕ) (ls : List (List ℕ)) (d : ℕ) (o : Out State) : Type 0 where
+  past : ℕ
+  closing : closingMost r (o .state .section) ≤ past + 2 * bytesIn (dataIn (o .state .noting) q ls)
+  few : length (o .entries) + past ≤ 4 * n + d
 
 -- A line that leaves the section as it is.
 record Keeps (s : State) (l : List ℕ) (o : Out State) : Type 0 where
@@ -213,12 +213,12 @@ record Keeps (s : State) (l : List ℕ) (o : Out State) : Type 0 where
   noting-is : o .state .noting ≡ noteAfter (s .noting) l
   few : length (o .entries) ≤ 1
 
-keeps-pays : (r : List ℕ) (s : State) (p : ℕ) (l : List ℕ) (ls : List (List ℕ)) (d : ℕ) {o : Out State}
-    → costOf r (s .section) ≤ d + 2 * bytesIn (dataIn (s .noting) p (l ∷ ls)) → 0 < length l → Keeps s l o → Pays r (length l) (p + length l) ls d o
-keeps-pays r s p l ls d h f k =
+keeps-bounded : (r : List ℕ) (s : State) (p : ℕ) (l : List ℕ) (ls : List (List ℕ)) (d : ℕ) {o : Out State}
+    → closingMost r (s .section) ≤ d + 2 * bytesIn (dataIn (s .noting) p (l ∷ ls)) → 0 < length l → Keeps s l o → Bounded r (length l) (p + length l) ls d o
+keeps-bounded r s p l ls d h f k =
     record {
-      owed = d + 2 * length l;
-      owes = rw (k .section-kept, k .noting-is) (omega (arith, h, data-step (s .noting) p l ls));
+      past = d + 2 * length l;
+      closing = rw (k .section-kept, k .noting-is) (omega (arith, h, data-step (s .noting) p l ls));
       few = omega (arith, k .few);
     }
 
@@ -241,56 +241,57 @@ unfolding stopsAt
 closes-tag l t k = rw k
 
 module _ (c : Conventions) (r : List ℕ) (s : State) (p : ℕ) (l : List ℕ) (ls : List (List ℕ)) (d : ℕ) (f : 0 < length l) (n : rawLines (drop (p + length l) r) ≡ ls) where
-  tag-pays : (t : TagReading) → costOf r (s .section) ≤ d → readingPlaced t (length l) → readingLate t → Pays r (length l) (p + length l) ls d (readTag c r s p l t)
+  tag-bounded : (t : TagReading) → closingMost r (s .section) ≤ d → readingPlaced t (length l) → readingLate t → Bounded r (length l) (p + length l) ls d (readTag c r s p l t)
   unfolding readTag tagged
-  tag-pays (Plain t) h i j =
+  tag-bounded (Plain t) h i j =
       record {
-        owed = 1;
-        owes = rw (← n) (omega (arith, open-cost c r (tagNumber (cut (t .name) l)) (cut (t .value) l) (p + length l) noSpan));
+        past = 1;
+        closing = rw (← n) (omega (arith, open-most c r (tagNumber (cut (t .name) l)) (cut (t .value) l) (p + length l) noSpan));
         few = rw length-append (omega (arith, ClosedFew c r s));
       }
-  tag-pays (WithComment t g) h i j =
+  tag-bounded (WithComment t g) h i j =
       record {
-        owed = 1;
-        owes = rw (← n) (omega (arith, open-cost c r (tagNumber (cut (t .name) l)) (cut (t .value) l) (p + length l) noSpan));
+        past = 1;
+        closing = rw (← n) (omega (arith, open-most c r (tagNumber (cut (t .name) l)) (cut (t .value) l) (p + length l) noSpan));
         few = rw length-append (omega (arith, ClosedFew c r s));
       }
-  tag-pays (WithData t g) h i j =
+  tag-bounded (WithData t g) h i j =
       record {
-        owed = 2 * g .len + 1;
-        owes = rw (← n) (omega (arith, open-cost c r (tagNumber (cut (t .name) l)) (cut (t .value) l) (p + length l) (at p g)));
+        past = 2 * g .len + 1;
+        closing = rw (← n) (omega (arith, open-most c r (tagNumber (cut (t .name) l)) (cut (t .value) l) (p + length l) (at p g)));
         few =
             rw length-append
             (omega (arith, ClosedFew c r s, i .1, dated-few (tagged c (closed c r s .state) p l (p + length l) t (at p g) .state) p g));
       }
 
-  kind-pays : (k : Line) → lineKind l ≡ k → s .noting ≡ false → costOf r (s .section) ≤ d + 2 * bytesIn (dataIn (s .noting) p (l ∷ ls))
-      → linePlaced k (length l) → lineLate k → Pays r (length l) (p + length l) ls d (lineBy c r s p l k)
+  kind-bounded : (k : Line) → lineKind l ≡ k → s .noting ≡ false → closingMost r (s .section) ≤ d + 2 * bytesIn (dataIn (s .noting) p (l ∷ ls))
+      → linePlaced k (length l) → lineLate k → Bounded r (length l) (p + length l) ls d (lineBy c r s p l k)
   unfolding noteAfter
-  kind-pays Blank e z h i j = keeps-pays r s p l ls d h f (record { section-kept = refl; noting-is = rw (z, e); few = omega arith })
-  kind-pays Brace e z h i j = keeps-pays r s p l ls d h f (brace-keeps r s p l z e)
-  kind-pays (Directive g) e z h i j = keeps-pays r s p l ls d h f (record { section-kept = refl; noting-is = rw (z, e); few = omega arith })
-  kind-pays (TagOn t) e z h i j =
+  kind-bounded Blank e z h i j = keeps-bounded r s p l ls d h f (record { section-kept = refl; noting-is = rw (z, e); few = omega arith })
+  kind-bounded Brace e z h i j = keeps-bounded r s p l ls d h f (brace-keeps r s p l z e)
+  kind-bounded (Directive g) e z h i j = keeps-bounded r s p l ls d h f (record { section-kept = refl; noting-is = rw (z, e); few = omega arith })
+  kind-bounded (TagOn t) e z h i j =
       let g : dataIn (s .noting) p (l ∷ ls) ≡ [] = rw (z, closes-tag l t e) in
-      tag-pays t (omega (arith, rw g at h)) i j
-  kind-pays Bracket e z h i j = keeps-pays r s p l ls d h f (record { section-kept = refl; noting-is = rw (z, e); few = omega arith })
-  kind-pays (Data g) e z h i j = keeps-pays r s p l ls d h f (record { section-kept = refl; noting-is = rw (z, e); few = dated-few s p g })
+      tag-bounded t (omega (arith, rw g at h)) i j
+  kind-bounded Bracket e z h i j = keeps-bounded r s p l ls d h f (record { section-kept = refl; noting-is = rw (z, e); few = omega arith })
+  kind-bounded (Data g) e z h i j = keeps-bounded r s p l ls d h f (record { section-kept = refl; noting-is = rw (z, e); few = dated-few s p g })
 
-  line-pays : costOf r (s .section) ≤ d + 2 * bytesIn (dataIn (s .noting) p (l ∷ ls)) → Pays r (length l) (p + length l) ls d (lineOut c r s p l)
+  line-bounded : closingMost r (s .section) ≤ d + 2 * bytesIn (dataIn (s .noting) p (l ∷ ls)) → Bounded r (length l) (p + length l) ls d (lineOut c r s p l)
   unfolding lineOut
-  line-pays h =
-      chosen (λ o. Pays r (length l) (p + length l) ls d o) (s .noting) (inNote r s p l) (lineBy c r s p l (lineKind l))
-      (λ e. keeps-pays r s p l ls d h f (note-keeps r s p l e))
-      (λ e. kind-pays (lineKind l) refl e h (LineInside l) (line-late l))
+  line-bounded h =
+      chosen (λ o. Bounded r (length l) (p + length l) ls d o) (s .noting) (inNote r s p l) (lineBy c r s p l (lineKind l))
+      (λ e. keeps-bounded r s p l ls d h f (note-keeps r s p l e))
+      (λ e. kind-bounded (lineKind l) refl e h (LineInside l) (line-late l))
 
 -- ---- the lines of a record
 
-record NextLine (r : List ℕ) (p : ℕ) (l : List ℕ) (ls : List (List ℕ)) : Type 0 where
-  filled : 0 < length l
-  inside : p + length l ≤ length r
-  rest : rawLines (drop (p + length l) r) ≡ ls
+-- The line at the place p of a record, and the lines that follow it.
+pub record NextLine (r : List ℕ) (p : ℕ) (l : List ℕ) (ls : List (List ℕ)) : Type 0 where
+  pub filled : 0 < length l
+  pub inside : p + length l ≤ length r
+  pub rest : rawLines (drop (p + length l) r) ≡ ls
 
-next-line : (r : List ℕ) (p : ℕ) (l : List ℕ) (ls : List (List ℕ)) → rawLines (drop p r) ≡ l ∷ ls → NextLine r p l ls
+pub next-line : (r : List ℕ) (p : ℕ) (l : List ℕ) (ls : List (List ℕ)) → rawLines (drop p r) ≡ l ∷ ls → NextLine r p l ls
 next-line r p l ls e =
     by-cases (ltb p (length r))
     (λ t.
@@ -309,12 +310,12 @@ next-line r p l ls e =
         record { filled = rw a at (k .filled); inside = rw a at (k .inside); rest = rw a at b }
 
 lines-few : (c : Conventions) (r : List ℕ) (ls : List (List ℕ)) (s : State) (p d : ℕ) → p ≤ length r → rawLines (drop p r) ≡ ls
-    → costOf r (s .section) ≤ d + 2 * bytesIn (dataIn (s .noting) p ls) → length (linesOut c r s p ls .entries) + 4 * p ≤ 4 * length r + d
+    → closingMost r (s .section) ≤ d + 2 * bytesIn (dataIn (s .noting) p ls) → length (linesOut c r s p ls .entries) + 4 * p ≤ 4 * length r + d
 lines-few c r [] s p d i e h = omega (arith, ClosedFew c r s)
 lines-few c r (l ∷ ls) s p d i e h =
     let n = next-line r p l ls e in
-    let y = line-pays c r s p l ls d (n .filled) (n .rest) h in
-    let g = lines-few c r ls (lineOut c r s p l .state) (p + length l) (y .owed) (n .inside) (n .rest) (y .owes) in
+    let y = line-bounded c r s p l ls d (n .filled) (n .rest) h in
+    let g = lines-few c r ls (lineOut c r s p l .state) (p + length l) (y .past) (n .inside) (n .rest) (y .closing) in
     rw length-append (omega (arith, y .few, g))
 
 -- THEOREM. A record has at most four entries for each byte.

@@ -19,6 +19,7 @@ pub mod LinesLaws
 pub mod NameLaws
 pub mod NamePins
 pub mod PieceLaws
+pub mod Placed
 pub mod PlayLaws
 pub mod ReadingLaws
 pub mod RecordLaws
