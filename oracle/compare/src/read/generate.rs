@@ -1,6 +1,7 @@
 //! The editions that are compared: all that are short, over small alphabets;
 //! longer ones with everything that a line can hold; damaged copies of these.
 
+use super::judge::MODELLED;
 use crate::rng::Rng;
 
 /// Takes the texts, each with the name of its group, until a receiver of them
@@ -333,35 +334,13 @@ fn short_values(_: &mut Rng, out: &mut Out) {
 
 // ---- Pieces of editions ----
 
-const NAMES: [&str; 27] = [
-    "Board",
-    "Dealer",
-    "Vulnerable",
-    "Deal",
-    "Event",
-    "Site",
-    "Date",
-    "Declarer",
-    "Contract",
-    "Result",
-    "North",
-    "East",
-    "South",
-    "West",
-    "Auction",
-    "Play",
-    "Note",
-    "DoubleDummyTricks",
-    "OptimumResultTable",
-    "OptimumScore",
-    "ParContract",
-    "Scoring",
-    "Room",
-    "",
-    "board",
-    "Événement",
-    "Note:",
-];
+/// Names beside those that `reader.rs` models.
+const OTHERS: [&str; 6] = ["Scoring", "Room", "", "board", "Événement", "Note:"];
+
+/// Both, in this order.
+fn names() -> Vec<&'static str> {
+    [&MODELLED[..], &OTHERS[..]].concat()
+}
 
 const ODD: [&str; 64] = [
     "",
@@ -432,7 +411,7 @@ const ODD: [&str; 64] = [
 
 fn values(_: &mut Rng, out: &mut Out) {
     let ends = ["", "\n", "\nS2 P N NT 1\n", "]", " ;c", "SA"];
-    for name in NAMES {
+    for name in names() {
         for value in ODD {
             for end in ends {
                 out.text(format!("[{name} \"{value}\"]{end}").as_bytes());
@@ -660,7 +639,7 @@ fn tail(rng: &mut Rng) -> &'static str {
 fn line(rng: &mut Rng, text: &mut String) {
     match rng.below(26) {
         0..=9 => {
-            let name = rng.pick(&NAMES);
+            let name = rng.pick(&names());
             let value = value(rng, name);
             let gap = rng.pick(&[" ", " ", " ", " ", "  ", "\t", "\u{c}", ""]);
             let close = rng.pick(&["]", "]", "]", "]", "]", " ]", "\t]", ""]);

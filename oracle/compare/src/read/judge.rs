@@ -3,29 +3,15 @@
 
 use super::model::{CARD, ENTRY};
 use crate::model::is_white;
+use crate::tables::judge::{SEATS, STRAINS};
 use bridge_types::{
     AnnotatedCall, Auction, Board, Call, Card, DdTable, Deal, Direction, Directive, Hand,
     PlaySequence, PlayerNames, Rank, SectionEnd, Strain, Suit, Trick, Vulnerability, DIRECTIONS,
     RANKS, SUITS,
 };
 
-/// Seats and strains in the order of a table's cells.
-const SEATS: [Direction; 4] = [
-    Direction::North,
-    Direction::South,
-    Direction::East,
-    Direction::West,
-];
-const STRAINS: [Strain; 5] = [
-    Strain::NoTrump,
-    Strain::Spades,
-    Strain::Hearts,
-    Strain::Diamonds,
-    Strain::Clubs,
-];
-
 /// The tags that `reader.rs` models. Every other is supplemental.
-const MODELLED: [&str; 21] = [
+pub const MODELLED: [&str; 21] = [
     "Board",
     "Dealer",
     "Vulnerable",

@@ -10,13 +10,13 @@ use bridge_encodings::pbn;
 use bridge_types::{DdTable, Direction, Strain};
 
 /// Seats and strains in the order of the cells.
-const SEATS: [Direction; 4] = [
+pub const SEATS: [Direction; 4] = [
     Direction::North,
     Direction::South,
     Direction::East,
     Direction::West,
 ];
-const STRAINS: [Strain; 5] = [
+pub const STRAINS: [Strain; 5] = [
     Strain::NoTrump,
     Strain::Spades,
     Strain::Hearts,
