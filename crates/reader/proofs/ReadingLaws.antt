@@ -30,7 +30,7 @@ use Rattle.reader.specs.Store.{put, putAll, entryWords}
 use Rattle.reader.specs.Pieces.{Out, Emits, entry}
 use Rattle.reader.specs.Play.{lastTrick}
 use Rattle.reader.specs.Sections.{Walks, countOf, walkedAll}
-use Rattle.reader.specs.Boards.{rowsClosed, withSections, boardClosed, lastEntries, LastStored, closedState, closed, isAllWhite, noted, countedState, adding, directed, dated, readTag, blocked, braced, inNote, lineBy, lineOut, Sound, Stepped}
+use Rattle.reader.specs.Boards.{rowsClosed, withSections, boardClosed, lastEntries, LastStored, closedState, closed, isAllWhite, noted, countedState, adding, directed, dated, unchanged, readTag, blocked, braced, inNote, lineBy, lineOut, Sound, Stepped}
 use Rattle.reader.proofs.PieceLaws.{put-run}
 use Rattle.reader.proofs.PlayLaws.{last-counted}
 use Rattle.reader.proofs.TagStepLaws.{sound-later}
@@ -125,6 +125,41 @@ pub block-zero : (r : List ℕ) (s t : State) (i j a n : ℕ) {l l′ : List ℕ
 unfolding blocked
 block-zero r s t i j a n e = ap (λ (x : State). x .block) (e .answer)
 
+-- A line that holds nothing, and one inside commentary.
+pub quiet-noted : (r : List ℕ) (s : State) (p : ℕ) (l : List ℕ) → s .noting ≡ true → cond (s .noting) (inNote r s p l) (unchanged s) ≡ inNote r s p l
+quiet-noted r s p l e = ap (λ (b : Bool). cond b (inNote r s p l) (unchanged s)) e
+
+pub quiet-plain : (r : List ℕ) (s : State) (p : ℕ) (l : List ℕ) → s .noting ≡ false → cond (s .noting) (inNote r s p l) (unchanged s) ≡ unchanged s
+quiet-plain r s p l e = ap (λ (b : Bool). cond b (inNote r s p l) (unchanged s)) e
+
+-- Inside commentary every line counts as blank: one that does not is outside.
+abbrev kindNumber : Line → ℕ
+kindNumber Blank = 0
+kindNumber Brace = 1
+kindNumber (Directive d) = 2
+kindNumber (TagOn t) = 3
+kindNumber Bracket = 4
+kindNumber (Data d) = 5
+
+outside : (noting : Bool) (x k : Line) (n : ℕ) → k ≡ cond noting Blank x → kindNumber k ≡ suc n → (noting ≡ false) × (x ≡ k)
+outside true x k n e h = absurd (omega (arith, sym (ap kindNumber e) ∙ h))
+outside false x k n e h = (refl, sym e)
+
+pub kind-data : {noting : Bool} {x k : Line} {d : Span} → k ≡ cond noting Blank x → k ≡ Data d → (noting ≡ false) × (x ≡ Data d)
+kind-data {noting} {x} {k} e h = let o = outside noting x k 4 e (ap kindNumber h) in (o .0, o .1 ∙ h)
+
+pub kind-directive : {noting : Bool} {x k : Line} {d : Span} → k ≡ cond noting Blank x → k ≡ Directive d → (noting ≡ false) × (x ≡ Directive d)
+kind-directive {noting} {x} {k} e h = let o = outside noting x k 1 e (ap kindNumber h) in (o .0, o .1 ∙ h)
+
+pub kind-tag : {noting : Bool} {x k : Line} {t : TagReading} → k ≡ cond noting Blank x → k ≡ TagOn t → (noting ≡ false) × (x ≡ TagOn t)
+kind-tag {noting} {x} {k} e h = let o = outside noting x k 2 e (ap kindNumber h) in (o .0, o .1 ∙ h)
+
+pub kind-brace : {noting : Bool} {x k : Line} → k ≡ cond noting Blank x → k ≡ Brace → (noting ≡ false) × (x ≡ Brace)
+kind-brace {noting} {x} {k} e h = let o = outside noting x k 0 e (ap kindNumber h) in (o .0, o .1 ∙ h)
+
+pub kind-bracket : {noting : Bool} {x k : Line} → k ≡ cond noting Blank x → k ≡ Bracket → (noting ≡ false) × (x ≡ Bracket)
+kind-bracket {noting} {x} {k} e h = let o = outside noting x k 3 e (ap kindNumber h) in (o .0, o .1 ∙ h)
+
 -- ---- one line
 
 -- Other commentary, and more entries, leave a section as it was.
@@ -211,3 +246,14 @@ module _ (c : Conventions) (r : List ℕ) (s : State) (p : ℕ) (l : List ℕ) (
 
   pub line-noted : {w w′ : List ℕ} {t : State} → s .noting ≡ true → Emits a n w w′ t (inNote r s p l) → t .block ≤ p + 1 → Stepped a n most (p + length l) s w w′ t (lineOut c r s p l)
   line-noted {w} {w′} {t} e g h = let q = note-kept g in rw (out-noting e) (noted-step g (q .0) (q .1) (omega arith))
+
+  -- A line that counts as blank.
+  pub line-quiet : {w w′ : List ℕ} {t : State} {k : Line} → k ≡ cond (s .noting) Blank (lineKind l) → k ≡ Blank
+      → Emits a n w w′ t (cond (s .noting) (inNote r s p l) (unchanged s)) → t .block ≤ p + 1 → Stepped a n most (p + length l) s w w′ t (lineOut c r s p l)
+  line-quiet {w} {w′} {t} {k} e h g b =
+      by-cases (s .noting)
+      (λ z. line-noted z (rw (quiet-noted r s p l z) at g) b)
+      (λ z.
+      let x : lineKind l ≡ Blank = sym (ap (λ (v : Bool). cond v Blank (lineKind l)) z) ∙ (sym e ∙ h) in
+      let q = rw (quiet-plain r s p l z) at g in
+      rw (out-plain Blank z x) (noted-step q (ap (λ (y : State). y .section) (q .answer)) (omega (arith, ap (λ (y : State). y .n) (q .answer))) (omega arith)))

@@ -19,13 +19,13 @@ use Rattle.reader.specs.declared.section.Walk.{Walk}
 use Rattle.reader.specs.declared.store.Entry.{Entry}
 use Rattle.reader.specs.declared.tag.Span.{Span}
 use Rattle.reader.specs.declared.tag.Tag.{Tag}
-use Rattle.reader.specs.Boards.{Sound, Stepped, applied, openBy, noSpan, at, adding, countedState, closed, closedBy, tagged, directed, dated, readBy, readTag, noted, blocked, braced, inNote, lineBy, lineOut}
-use Rattle.reader.specs.Lines.{lineKind, hasBrace, lastBrace}
+use Rattle.reader.specs.Boards.{Sound, Stepped, applied, openBy, noSpan, at, adding, countedState, closed, closedBy, tagged, directed, dated, tagIn, splitIn, readBy, readTag, noted, blocked, braced, inNote, lineBy, lineOut}
+use Rattle.reader.specs.Lines.{lineKind, hasBrace, lastBrace, readingPlaced}
 use Rattle.reader.specs.Names.{tagNumber}
 use Rattle.reader.specs.Pieces.{Out, Emits, andThen, entry}
 use Rattle.reader.specs.Sections.{walkedAll}
 use Rattle.reader.specs.Store.{put, entryWords}
-use Rattle.reader.specs.Tag.{cut}
+use Rattle.reader.specs.Tag.{cut, TagInside}
 use Rattle.reader.proofs.ApplyLaws.{Seated, open-seated}
 use Rattle.reader.proofs.BoardLaws.{closed-counts, tagged-counts}
 use Rattle.reader.proofs.PieceLaws.{emits-then}
@@ -116,43 +116,46 @@ stepped-then base {a} {q} {s} {r} {r′} {e} {e′} {e″} {o} f few h n k =
     }
 
 pub read-plain :
-    (c : Conventions) (p : ℕ) (l : List ℕ) {a n q : ℕ} {s r : State} {e e′ : List ℕ} {t : TagReading} {tag : Tag} {split : Span} →
-    t ≡ Plain tag →
-    split ≡ noSpan →
+    (c : Conventions) (p : ℕ) (l : List ℕ) {a n q : ℕ} {s r : State} {e e′ : List ℕ} {t : TagReading} {tag x : Tag} {split : Span} →
+    t ≡ Plain x →
+    tag ≡ tagIn t →
+    split ≡ splitIn p t →
     Stepped a n 2 q s e e′ r (tagged c s p l q tag split) →
     Stepped a n 3 q s e e′ r (readBy c s p l q t)
-read-plain c p l {a} {n} {q} {s} {r} {e} {e′} {t} {tag} {split} et es h =
-    let k : Stepped a n 2 q s e e′ r (tagged c s p l q tag noSpan) = rw (← es) h in
+read-plain c p l {a} {n} {q} {s} {r} {e} {e′} {t} {tag} {x} {split} et eg es h =
+    let k : Stepped a n 2 q s e e′ r (tagged c s p l q x noSpan) = rw (← ap tagIn et, ← ap (splitIn p) et, ← eg, ← es) h in
     rw et (record { emits = k .emits; sound = k .sound; grows = omega (arith, k .grows) })
 
 pub read-comment :
-    (c : Conventions) (base p : ℕ) (l : List ℕ) {a q : ℕ} {s r r′ : State} {e e′ e″ : List ℕ} {t : TagReading} {tag : Tag} {split d : Span} →
-    t ≡ WithComment tag d →
-    split ≡ noSpan →
+    (c : Conventions) (base p : ℕ) (l : List ℕ) {a q : ℕ} {s r r′ : State} {e e′ e″ : List ℕ} {t : TagReading} {tag x : Tag} {split d : Span} →
+    t ≡ WithComment x d →
+    tag ≡ tagIn t →
+    split ≡ splitIn p t →
     Stepped a (base + s .n) 2 q s e e′ r (tagged c s p l q tag split) →
     Emits a (base + r .n) e′ e″ r′ (directed r p d) →
     Stepped a (base + s .n) 3 q s e e″ r′ (readBy c s p l q t)
-read-comment c base p l {a} {q} {s} {r} {r′} {e} {e′} {e″} {t} {tag} {split} {d} et es h f =
-    let k : Stepped a (base + s .n) 2 q s e e′ r (tagged c s p l q tag noSpan) = rw (← es) h in
-    rw et (stepped-then base (λ (x : State). entry 3 (p + d .start) (d .len) (x .tags) ∷ []) (λ x. omega arith) k (tagged-counts c s p l q tag noSpan) f)
+read-comment c base p l {a} {q} {s} {r} {r′} {e} {e′} {e″} {t} {tag} {x} {split} {d} et eg es h f =
+    let k : Stepped a (base + s .n) 2 q s e e′ r (tagged c s p l q x noSpan) = rw (← ap tagIn et, ← ap (splitIn p) et, ← eg, ← es) h in
+    rw et (stepped-then base (λ (y : State). entry 3 (p + d .start) (d .len) (y .tags) ∷ []) (λ y. omega arith) k (tagged-counts c s p l q x noSpan) f)
 
 pub read-data :
-    (c : Conventions) (base p : ℕ) (l : List ℕ) {a q : ℕ} {s r r′ : State} {e e′ e″ : List ℕ} {t : TagReading} {tag : Tag} {split d : Span} →
-    t ≡ WithData tag d →
-    split ≡ at p d →
+    (c : Conventions) (base p : ℕ) (l : List ℕ) {a q : ℕ} {s r r′ : State} {e e′ e″ : List ℕ} {t : TagReading} {tag x : Tag} {split d : Span} →
+    t ≡ WithData x d →
+    tag ≡ tagIn t →
+    split ≡ splitIn p t →
     Stepped a (base + s .n) 2 q s e e′ r (tagged c s p l q tag split) →
     Emits a (base + r .n) e′ e″ r′ (dated r p d) →
     Stepped a (base + s .n) 3 q s e e″ r′ (readBy c s p l q t)
-read-data c base p l {a} {q} {s} {r} {r′} {e} {e′} {e″} {t} {tag} {split} {d} et es h f =
-    let k : Stepped a (base + s .n) 2 q s e e′ r (tagged c s p l q tag (at p d)) = rw (← es) h in
-    rw et (stepped-then base (λ (x : State). cond (eqb (x .section .kind) 0) [] (entry 5 (p + d .start) (d .len) (x .section .kind) ∷ [])) few k (tagged-counts c s p l q tag (at p d)) f)
+read-data c base p l {a} {q} {s} {r} {r′} {e} {e′} {e″} {t} {tag} {x} {split} {d} et eg es h f =
+    let k : Stepped a (base + s .n) 2 q s e e′ r (tagged c s p l q x (at p d)) = rw (← ap tagIn et, ← ap (splitIn p) et, ← eg, ← es) h in
+    rw et (stepped-then base (λ (x : State). cond (eqb (x .section .kind) 0) [] (entry 5 (p + d .start) (d .len) (x .section .kind) ∷ [])) few k (tagged-counts c s p l q x (at p d)) f)
   where
     go : (x : State) (t : Bool) → length (cond t [] (entry 5 (p + d .start) (d .len) (x .section .kind) ∷ [])) ≤ 1
-    go x true = omega arith
-    go x false = omega arith
+    go y true = omega arith
+    go y false = omega arith
 
     few : (x : State) → length (cond (eqb (x .section .kind) 0) [] (entry 5 (p + d .start) (d .len) (x .section .kind) ∷ [])) ≤ 1
-    few x = go x (eqb (x .section .kind) 0)
+    few y = go y (eqb (y .section .kind) 0)
 
 -- ---- sections closed before a tag
 
@@ -195,6 +198,11 @@ read-closed c base p w l t {a} {m} {s} {r} {r′} {e} {e′} {e″} h k =
     }
 
 -- ---- where the data of a tag's line ends
+
+pub tag-inside : (t : TagReading) {tag : Tag} (n : ℕ) → tag ≡ tagIn t → readingPlaced t n → TagInside tag n
+tag-inside (Plain x) n e h = rw e h
+tag-inside (WithComment x d) n e h = rw e (h .0)
+tag-inside (WithData x d) n e h = rw e (h .0)
 
 pub no-span-ends : {d : Span} (q : ℕ) → d ≡ noSpan → d .start + d .len ≤ q
 no-span-ends q e = rw e (omega arith)

@@ -241,12 +241,30 @@ tagged c s p l q t split =
 abbrev pub directed : State → ℕ → Span → Out State
 directed s p d = adding s (entry 3 (p + d .start) (d .len) (s .tags) ∷ [])
 
+-- The entry of a data line, where a section of the kind is open, and their number.
+abbrev pub dataEntries : ℕ → ℕ → Span → List Entry
+dataEntries kind p d = cond (eqb kind 0) [] (entry 5 (p + d .start) (d .len) kind ∷ [])
+
+abbrev pub dataOut : ℕ → ℕ → Span → Out ℕ
+dataOut kind p d = record { state = length (dataEntries kind p d); entries = dataEntries kind p d }
+
 -- A data line, where a section is open.
 abbrev pub dated : State → ℕ → Span → Out State
-dated s p d = adding s (cond (eqb (s .section .kind) 0) [] (entry 5 (p + d .start) (d .len) (s .section .kind) ∷ []))
+dated s p d = adding s (dataEntries (s .section .kind) p d)
 
 abbrev pub at : ℕ → Span → Span
 at p d = record { start = p + d .start; len = d .len }
+
+-- The tag of a tag line, and what is split off it as section data.
+abbrev pub tagIn : TagReading → Tag
+tagIn (Plain t) = t
+tagIn (WithComment t d) = t
+tagIn (WithData t d) = t
+
+abbrev pub splitIn : ℕ → TagReading → Span
+splitIn p (Plain t) = noSpan
+splitIn p (WithComment t d) = noSpan
+splitIn p (WithData t d) = at p d
 
 abbrev pub readBy : Conventions → State → ℕ → List ℕ → ℕ → TagReading → Out State
 readBy c s p l q (Plain t) = tagged c s p l q t noSpan
@@ -275,6 +293,10 @@ braced r s p l =
 -- A line inside commentary.
 unfoldable pub inNote : List ℕ → State → ℕ → List ℕ → Out State
 inNote r s p l = cond (hasBrace l) (blocked r s (s .block) (p + lastBrace l)) (record { state = s; entries = [] })
+
+-- A line that adds nothing.
+abbrev pub unchanged : State → Out State
+unchanged s = record { state = s; entries = [] }
 
 abbrev pub lineBy : Conventions → List ℕ → State → ℕ → List ℕ → Line → Out State
 lineBy c r s p l Blank = record { state = s; entries = [] }

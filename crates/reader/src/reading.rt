@@ -1,15 +1,17 @@
 // The lines of a record: what each does to the board, and the entries that it adds.
 ghost use mathlib.Core.Path.{_≡_};
+ghost use mathlib.Core.Bool.{cond};
 ghost use Prim.Native.Nat.{_+_, _-_, _*_, _≤_, _<_, _^_};
 ghost use lib.ListN.{length};
 ghost use Rattle.reader.specs.Pieces.{Emits};
 ghost use Rattle.tables.specs.Text.{isWhite};
 ghost use Rattle.tables.specs.Letters.{every};
 ghost use Rattle.reader.specs.Tag.{TagInside, cut};
-ghost use Rattle.reader.specs.Lines.{readingPlaced};
+ghost use Rattle.reader.specs.Lines.{lineKind, linePlaced, readingPlaced};
+ghost use Rattle.reader.specs.declared.line.Line.the-variants.{Blank};
 ghost use Rattle.reader.specs.Play.{Seated};
 ghost use Rattle.reader.specs.Sections.{countOf};
-ghost use Rattle.reader.specs.Boards.{countedState, closedState, noSpan, at, noted, Sound, Stepped, noState, auctionClosed, playClosed, tableClosed, boardClosed, LastStored, closed, tagged, directed, dated, readBy, readTag, blocked, braced, inNote, lineOut, recordOut};
+ghost use Rattle.reader.specs.Boards.{countedState, closedState, noSpan, at, noted, Sound, Stepped, noState, auctionClosed, playClosed, tableClosed, boardClosed, LastStored, closed, tagged, directed, dataOut, dated, tagIn, splitIn, readBy, readTag, blocked, braced, inNote, unchanged, recordOut};
 use crate::apply::apply_tag;
 use crate::apply::no_board;
 use crate::apply::no_open;
@@ -201,6 +203,25 @@ pub fn close_sections(
     after_section(s, board_closed(b, o, n, w), k)
 }
 
+// The same before a tag, where mostly none is open: the test stands in the caller, so that the state is not handed over for nothing.
+fn close_open(
+    c: Conventions,
+    r: &[u8],
+    s: State,
+    a: usize,
+    base: usize,
+    entries: &mut [u32],
+) -> State
+    requires { ⌜ (a + length (now r) ≤ 16777215) × (base + s .n ≤ 2 ^ 57) × Sound (length (now r)) s ⌝ }
+    ensures { λ t. ⌜ Stepped a (base + s .n) (6 * length (now (r .entry)) + 1) (length (now (r .entry))) s (now (entries .entry)) (now (entries .exit)) t (closed c (now (r .entry)) s) ⌝ }
+{
+    let o = s.section;
+    if o.kind == 0 {
+        return s;
+    }
+    close_sections(c, r, s, a, base, entries)
+}
+
 fn cut_span<'a>(s: &'a [u8], d: Span) -> &'a [u8]
     ensures { λ r. ⌜ now r ≡ cut d (now (s .entry)) ⌝ }
 {
@@ -295,19 +316,17 @@ fn directive_step(s: State, p: usize, d: Span, a: usize, base: usize, entries: &
     counted(s, 1)
 }
 
-// A data line.
-fn data_step(s: State, p: usize, d: Span, a: usize, base: usize, entries: &mut [u32]) -> State
-    requires { ⌜ (a + p + d .start + d .len ≤ 2 ^ 40) × (base + s .n ≤ 2 ^ 59) ⌝ }
-    ensures { λ t. ⌜ Emits a (base + s .n) (now (entries .entry)) (now (entries .exit)) t (dated s p d) ⌝ }
+// The entry of a data line, where a section of the kind is open; how many entries there are.
+fn put_data(kind: usize, p: usize, d: Span, a: usize, n: usize, entries: &mut [u32]) -> usize
+    requires { ⌜ a + p + d .start + d .len ≤ 2 ^ 40 ⌝ }
+    ensures { λ r. ⌜ Emits a n (now (entries .entry)) (now (entries .exit)) r (dataOut kind p d) × (r ≤ 1) ⌝ }
 {
-    let o = s.section;
-    let kind = o.kind;
     if kind == 0 {
-        return counted(s, 0);
+        return 0;
     }
     put_entry(
         entries,
-        base + s.n,
+        n,
         a,
         Entry {
             kind: 5,
@@ -316,7 +335,39 @@ fn data_step(s: State, p: usize, d: Span, a: usize, base: usize, entries: &mut [
             z: kind,
         },
     );
-    counted(s, 1)
+    1
+}
+
+// A data line.
+fn data_step(s: State, p: usize, d: Span, a: usize, base: usize, entries: &mut [u32]) -> State
+    requires { ⌜ (a + p + d .start + d .len ≤ 2 ^ 40) × (base + s .n ≤ 2 ^ 59) ⌝ }
+    ensures { λ t. ⌜ Emits a (base + s .n) (now (entries .entry)) (now (entries .exit)) t (dated s p d) ⌝ }
+{
+    let o = s.section;
+    let k = put_data(o.kind, p, d, a, base + s.n, entries);
+    counted(s, k)
+}
+
+fn tag_of(t: TagReading) -> Tag
+    ensures { λ r. ⌜ r ≡ tagIn t ⌝ }
+{
+    match t {
+        TagReading::Plain(tag) => tag,
+        TagReading::WithComment(tag, _) => tag,
+        TagReading::WithData(tag, _) => tag,
+    }
+}
+
+// What is split off a tag line at p, as a part of the record.
+fn split_of(p: usize, n: usize, t: TagReading) -> Span
+    requires { ⌜ (p + n < 2 ^ 63) × readingPlaced t n ⌝ }
+    ensures { λ r. ⌜ (r ≡ splitIn p t) × (r .start + r .len ≤ p + n) ⌝ }
+{
+    match t {
+        TagReading::Plain(_) => no_span(),
+        TagReading::WithComment(_, _) => no_span(),
+        TagReading::WithData(_, d) => placed_span(p, d),
+    }
 }
 
 // A tag with its comment or its data.
@@ -333,16 +384,13 @@ fn tag_read(
     requires { ⌜ (a + p + length (now l) ≤ 16777215) × (base + s .n ≤ 2 ^ 58) × Sound p s × (s .tags ≤ 2 ^ 58) × readingPlaced t (length (now l)) ⌝ }
     ensures { λ r. ⌜ Stepped a (base + s .n) 3 (p + length (now (l .entry))) s (now (entries .entry)) (now (entries .exit)) r (readBy c s p (now (l .entry)) (p + length (now (l .entry))) t) ⌝ }
 {
+    let tag = tag_of(t);
+    let split = split_of(p, l.len(), t);
+    let next = tag_step(c, s, p, l, tag, split, a, base, entries);
     match t {
-        TagReading::Plain(tag) => tag_step(c, s, p, l, tag, no_span(), a, base, entries),
-        TagReading::WithComment(tag, d) => {
-            let next = tag_step(c, s, p, l, tag, no_span(), a, base, entries);
-            directive_step(next, p, d, a, base, entries)
-        }
-        TagReading::WithData(tag, d) => {
-            let next = tag_step(c, s, p, l, tag, placed_span(p, d), a, base, entries);
-            data_step(next, p, d, a, base, entries)
-        }
+        TagReading::Plain(_) => next,
+        TagReading::WithComment(_, d) => directive_step(next, p, d, a, base, entries),
+        TagReading::WithData(_, d) => data_step(next, p, d, a, base, entries),
     }
 }
 
@@ -361,7 +409,7 @@ fn tag_line(
     requires { ⌜ (a + length (now r) ≤ 16777215) × (p + length (now l) ≤ length (now r)) × (base + s .n ≤ 2 ^ 57) × Sound p s × (s .tags ≤ 2 ^ 58) × readingPlaced t (length (now l)) ⌝ }
     ensures { λ q. ⌜ Stepped a (base + s .n) (6 * length (now (r .entry)) + 4) (p + length (now (l .entry))) s (now (entries .entry)) (now (entries .exit)) q (readTag c (now (r .entry)) s p (now (l .entry)) t) ⌝ }
 {
-    let next = close_sections(c, r, s, a, base, entries);
+    let next = close_open(c, r, s, a, base, entries);
     tag_read(c, next, p, l, t, a, base, entries)
 }
 
@@ -463,9 +511,18 @@ fn note_line(
     s
 }
 
-// One line of the record r, at p.
-fn read_line(
-    c: Conventions,
+// The kind of a line; inside commentary it does not matter.
+fn kind_in(noting: bool, l: &[u8]) -> Line
+    ensures { λ r. ⌜ (r ≡ cond noting Blank (lineKind (now (l .entry)))) × linePlaced r (length (now (l .entry))) ⌝ }
+{
+    if noting {
+        return Line::Blank;
+    }
+    line_kind(l)
+}
+
+// A line that holds nothing, unless it is one inside commentary.
+fn quiet_line(
     r: &[u8],
     s: State,
     p: usize,
@@ -474,24 +531,18 @@ fn read_line(
     base: usize,
     entries: &mut [u32],
 ) -> State
-    requires { ⌜ (a + length (now r) ≤ 16777215) × (p + length (now l) ≤ length (now r)) × (base + s .n ≤ 2 ^ 57) × Sound p s × (s .tags ≤ 2 ^ 58) ⌝ }
-    ensures { λ t. ⌜ Stepped a (base + s .n) (6 * length (now (r .entry)) + 4) (p + length (now (l .entry))) s (now (entries .entry)) (now (entries .exit)) t (lineOut c (now (r .entry)) s p (now (l .entry))) ⌝ }
+    requires { ⌜ (a + p + length (now l) ≤ 16777215) × (base + s .n ≤ 2 ^ 57) × (s .block ≤ p + 1) ⌝ }
+    ensures { λ t. ⌜ Emits a (base + s .n) (now (entries .entry)) (now (entries .exit)) t (cond (s .noting) (inNote (now (r .entry)) s p (now (l .entry))) (unchanged s)) × (t .block ≤ p + 1) ⌝ }
 {
     let noting = s.noting;
     if noting {
         return note_line(r, s, p, l, a, base, entries);
     }
-    match line_kind(l) {
-        Line::Blank => s,
-        Line::Bracket => s,
-        Line::Brace => brace_line(r, s, p, l, a, base, entries),
-        Line::Directive(d) => directive_step(s, p, d, a, base, entries),
-        Line::Data(d) => data_step(s, p, d, a, base, entries),
-        Line::Tag(t) => tag_line(c, r, s, p, l, t, a, base, entries),
-    }
+    s
 }
 
-// The board of a record's own text r, which starts at a of its edition; base entries stand before its own.
+// The board of a record's own text r, which starts at a of its edition; base entries stand before its own. A data line changes the
+// count alone.
 pub fn read_board(c: Conventions, r: &[u8], a: usize, base: usize, entries: &mut [u32]) -> State
     requires { ⌜ (a + length (now r) ≤ 16777215) × (base ≤ 2 ^ 56) ⌝ }
     ensures { λ t. ⌜ Emits a base (now (entries .entry)) (now (entries .exit)) t (recordOut c (now (r .entry))) × (t .n ≤ 100663300 * length (now (r .entry)) + 100663300) ⌝ }
@@ -500,10 +551,32 @@ pub fn read_board(c: Conventions, r: &[u8], a: usize, base: usize, entries: &mut
     let mut p = 0;
     while p < r.len() {
         let rest = from(r, p);
-        let n = index_of(rest, 10);
-        let l = upto(rest, n + 1);
-        s = read_line(c, r, s, p, l, a, base, entries);
-        p = p + l.len();
+        let l = upto(rest, index_of(rest, 10) + 1);
+        match kind_in(s.noting, l) {
+            Line::Data(d) => {
+                let o = s.section;
+                let n = put_data(o.kind, p, d, a, base + s.n, entries);
+                s.n = s.n + n;
+                p += l.len();
+            }
+            Line::Tag(t) => {
+                s = tag_line(c, r, s, p, l, t, a, base, entries);
+                p += l.len();
+            }
+            Line::Directive(d) => {
+                s = directive_step(s, p, d, a, base, entries);
+                p += l.len();
+            }
+            Line::Brace => {
+                s = brace_line(r, s, p, l, a, base, entries);
+                p += l.len();
+            }
+            Line::Blank => {
+                s = quiet_line(r, s, p, l, a, base, entries);
+                p += l.len();
+            }
+            Line::Bracket => p += l.len(),
+        }
     }
     close_sections(c, r, s, a, base, entries)
 }

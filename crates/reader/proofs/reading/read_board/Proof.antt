@@ -1,10 +1,13 @@
 use Rattle.reader.proofs.LinesLaws.{LinesLeft, lines-start, lines-next, lines-done}
+use Rattle.reader.proofs.ReadingLaws.{kind-data, kind-directive, kind-tag, kind-brace, kind-bracket, line-bracket, line-directed, line-dated, line-tag, line-braced, line-quiet}
 use Rattle.reader.proofs.TagStepLaws.{sound-later}
-use Rattle.reader.proofs.SectionLaws.{line-at}
-use Rattle.reader.specs.Store.{put}
+use Rattle.reader.proofs.SectionLaws.{LineAt, line-at}
+use Rattle.reader.specs.Boards.{countedState}
 use native.Mathlib.Omega.{arith}
-use mathlib.Core.Path.{sym, ap, _∙_}
+use mathlib.Core.Path.{ap}
 use denote.Ref.{now}
+use Prim.Native.Nat.{_-_}
+use lib.ListN.{length}
 use Prim.Native.Nat.{_-_, _≤_}
 use mathlib.Core.Path.{_≡_}
 use lib.ListN.{length, drop}
@@ -13,9 +16,14 @@ use Rattle.reader.proofs.reading.read_board.Statement.{statement}
 use Rattle.reader.proofs.reading.read_board.Tie as tie
 use Rattle.reader.proofs.reading.read_board.Reads as reads
 use Rattle.reader.proofs.reading.read_board.Lts as lts
+use Rattle.reader.proofs.reading.brace_line.Reads as brace-line-reads
 use Rattle.reader.proofs.reading.close_sections.Reads as close-sections-reads
+use Rattle.reader.proofs.reading.directive_step.Reads as directive-step-reads
+use Rattle.reader.proofs.reading.kind_in.Reads as kind-in-reads
 use Rattle.reader.proofs.reading.no_state.Reads as no-state-reads
-use Rattle.reader.proofs.reading.read_line.Reads as read-line-reads
+use Rattle.reader.proofs.reading.put_data.Reads as put-data-reads
+use Rattle.reader.proofs.reading.quiet_line.Reads as quiet-line-reads
+use Rattle.reader.proofs.reading.tag_line.Reads as tag-line-reads
 use Rattle.tables.proofs.text.from.Reads as from-reads
 use Rattle.tables.proofs.text.index_of.Reads as index-of-reads
 use Rattle.tables.proofs.text.upto.Reads as upto-reads
@@ -25,6 +33,13 @@ Inv-loop c r a base entries₀ s₀ p₀ entries s p = LinesLeft c r a base entr
 
 abbrev μ-loop : tie.MeasureT-loop
 μ-loop c r a base entries₀ s₀ p₀ entries s p = length r - p
+
+line-of :
+    (c : tie.After-upto Inv-loop μ-loop) →
+    LineAt (now (c .before .before .before .before .before .before .before .before .args .r)) (c .before .before .before .before .loop .p) (now (c .upto .result))
+line-of c =
+    let k = c .before .before .before in
+    line-at (now (k .before .before .before .before .before .args .r)) (k .before .loop .p) (now (c .upto .result)) (k .loop-test .taken) (rw (← c .before .before .from .ensures, ← c .before .index-of .ensures .0) (c .upto .ensures))
 
 no-state-requires : tie.Need-no-state-requires Inv-loop μ-loop
 no-state-requires c κs = search needs
@@ -44,46 +59,193 @@ add-upto c = search needs
 upto-requires : tie.Need-upto-requires Inv-loop μ-loop
 upto-requires c κs = search needs
 
-read-line-requires : tie.Need-read-line-requires Inv-loop μ-loop
-read-line-requires c κs =
-    let a = c .before .before .before .before .before .before .before .before .before .args in
-    let l = c .before .before .before .before .before .loop in
-    let x = line-at (now (a .r)) (l .p) (now (c .before .upto .result)) (c .before .before .before .before .loop-test .taken) (rw (← c .before .before .before .from .ensures, ← c .before .before .index-of .ensures .0) (c .before .upto .ensures)) in
-    (c .before .before .before .before .before .before .before .before .before .pre .0, x .inside, omega (arith, l .inv .few, l .inv .inside, c .before .before .before .before .before .before .before .before .before .pre .0, c .before .before .before .before .before .before .before .before .before .pre .1), l .inv .sound, omega (arith, l .inv .tags-few, l .inv .inside, c .before .before .before .before .before .before .before .before .before .pre .0))
+kind-in-requires : tie.Need-kind-in-requires Inv-loop μ-loop
+kind-in-requires c κs = search needs
+
+enum-known-d : tie.Need-enum-known-d Inv-loop μ-loop
+enum-known-d c = search needs
+
+add-put-data : tie.Need-add-put-data Inv-loop μ-loop
+add-put-data c = omega (arith, c .before .before .before .before .before .before .before .before .before .before .loop .inv .few, c .before .before .before .before .before .before .before .before .before .before .loop .inv .inside, c .before .before .before .before .before .before .before .before .before .before .before .before .before .before .pre .0, c .before .before .before .before .before .before .before .before .before .before .before .before .before .before .pre .1)
+
+put-data-requires : tie.Need-put-data-requires Inv-loop μ-loop
+put-data-requires c κs =
+    let x = line-of (c .before .before .before .before .before .before .before) in
+    let k = rw (c .before .before .before .before .d .given .1) at (c .before .before .before .before .before .before .kind-in .ensures .1) in
+    omega (arith, x .inside, c .before .before .before .before .before .before .before .before .before .before .before .before .before .before .before .pre .0, k)
+
+add-s : tie.Need-add-s Inv-loop μ-loop
+add-s c = omega (arith, c .before .before .before .put-data .ensures .1, c .before .before .before .before .before .before .before .before .before .before .before .before .before .before .before .loop .inv .few, c .before .before .before .before .before .before .before .before .before .before .before .before .before .before .before .loop .inv .inside, c .before .before .before .before .before .before .before .before .before .before .before .before .before .before .before .before .before .before .before .pre .0)
 
 add-p : tie.Need-add-p Inv-loop μ-loop
 add-p c =
-    let a = c .before .before .before .before .before .before .before .before .before .before .before .before .args in
-    let l = c .before .before .before .before .before .before .before .before .loop in
-    let x = line-at (now (a .r)) (l .p) (now (c .before .before .before .before .upto .result)) (c .before .before .before .before .before .before .before .loop-test .taken) (rw (← c .before .before .before .before .before .before .from .ensures, ← c .before .before .before .before .before .index-of .ensures .0) (c .before .before .before .before .upto .ensures)) in
-    omega (arith, x .inside, c .before .before .before .before .before .before .before .before .before .before .before .before .pre .0)
+    let x = line-of (c .before .before .before .before .before .before .before .before .before .before .before) in
+    omega (arith, x .inside, c .before .before .before .before .before .before .before .before .before .before .before .before .before .before .before .before .before .before .before .pre .0)
 
 loop-less : tie.Need-loop-less Inv-loop μ-loop
 loop-less c =
-    let a = c .before .before .before .before .before .before .before .before .before .before .before .before .args in
-    let l = c .before .before .before .before .before .before .before .before .loop in
-    let x = line-at (now (a .r)) (l .p) (now (c .before .before .before .before .upto .result)) (c .before .before .before .before .before .before .before .loop-test .taken) (rw (← c .before .before .before .before .before .before .from .ensures, ← c .before .before .before .before .before .index-of .ensures .0) (c .before .before .before .before .upto .ensures)) in
+    let x = line-of (c .before .before .before .before .before .before .before .before .before .before .before) in
     omega (arith, x .inside, x .filled)
 
 loop-again : tie.Need-loop-again Inv-loop μ-loop
 loop-again c =
-    let a = c .before .before .before .before .before .before .before .before .before .before .before .before .args in
-    let l = c .before .before .before .before .before .before .before .before .loop in
-    let x = line-at (now (a .r)) (l .p) (now (c .before .before .before .before .upto .result)) (c .before .before .before .before .before .before .before .loop-test .taken) (rw (← c .before .before .before .before .before .before .from .ensures, ← c .before .before .before .before .before .index-of .ensures .0) (c .before .before .before .before .upto .ensures)) in
-    lines-next (l .inv) _ x _ _ (c .before .before .read-line .ensures) (omega (arith, c .before .before .before .before .before .before .before .before .before .before .before .before .pre .0)) (search needs)
+    let a = c .before .before .before .before .before .before .before .before .before .before .before .before .before .before .before .before .before .before .before .args in
+    let v = c .before .before .before .before .before .before .before .before .before .before .before .before .before .before .before .loop in
+    let x = line-of (c .before .before .before .before .before .before .before .before .before .before .before) in
+    let k = kind-data (c .before .before .before .before .before .before .before .before .before .before .kind-in .ensures .0) (c .before .before .before .before .before .before .before .before .d .given .1) in
+    lines-next (v .inv) _ x _ _
+    (line-dated (a .c) (now (a .r)) (v .s) (v .p) (now (c .before .before .before .before .before .before .before .before .before .before .before .upto .result)) (a .a) _ _ (v .inv .sound) (omega arith) _ (k .0) (k .1) (record { answer = ap (countedState (v .s)) (c .before .before .before .put-data .ensures .0 .answer); words = c .before .before .before .put-data .ensures .0 .words }))
+    (omega (arith, c .before .before .before .before .before .before .before .before .before .before .before .before .before .before .before .before .before .before .before .pre .0)) (search needs)
+
+enum-known-t : tie.Need-enum-known-t Inv-loop μ-loop
+enum-known-t c = search needs
+
+tag-line-requires : tie.Need-tag-line-requires Inv-loop μ-loop
+tag-line-requires c κs =
+    let v = c .before .before .before .before .before .before .before .before .before .loop .inv in
+    let x = line-of (c .before .before .before .before .before) in
+    (c .before .before .before .before .before .before .before .before .before .before .before .before .before .pre .0, x .inside, omega (arith, v .few, v .inside, c .before .before .before .before .before .before .before .before .before .before .before .before .before .pre .0, c .before .before .before .before .before .before .before .before .before .before .before .before .before .pre .1), v .sound, omega (arith, v .tags-few, v .inside, c .before .before .before .before .before .before .before .before .before .before .before .before .before .pre .0), rw (c .before .before .t .given .1) at (c .before .before .before .before .kind-in .ensures .1))
+
+add-p-2 : tie.Need-add-p-2 Inv-loop μ-loop
+add-p-2 c =
+    let x = line-of (c .before .before .before .before .before .before .before .before) in
+    omega (arith, x .inside, c .before .before .before .before .before .before .before .before .before .before .before .before .before .before .before .before .pre .0)
+
+loop-less-2 : tie.Need-loop-less-2 Inv-loop μ-loop
+loop-less-2 c =
+    let x = line-of (c .before .before .before .before .before .before .before .before) in
+    omega (arith, x .inside, x .filled)
+
+loop-again-2 : tie.Need-loop-again-2 Inv-loop μ-loop
+loop-again-2 c =
+    let a = c .before .before .before .before .before .before .before .before .before .before .before .before .before .before .before .before .args in
+    let v = c .before .before .before .before .before .before .before .before .before .before .before .before .loop in
+    let x = line-of (c .before .before .before .before .before .before .before .before) in
+    let k = kind-tag (c .before .before .before .before .before .before .before .kind-in .ensures .0) (c .before .before .before .before .before .t .given .1) in
+    lines-next (v .inv) _ x _ _
+    (line-tag (a .c) (now (a .r)) (v .s) (v .p) (now (c .before .before .before .before .before .before .before .before .upto .result)) (a .a) _ _ (v .inv .sound) (omega arith) _ (k .0) (k .1) (c .before .before .tag-line .ensures))
+    (omega (arith, c .before .before .before .before .before .before .before .before .before .before .before .before .before .before .before .before .pre .0)) (search needs)
+
+enum-known-d-2 : tie.Need-enum-known-d-2 Inv-loop μ-loop
+enum-known-d-2 c = search needs
+
+directive-step-requires : tie.Need-directive-step-requires Inv-loop μ-loop
+directive-step-requires c κs =
+    let v = c .before .before .before .before .before .before .before .before .before .loop .inv in
+    let x = line-of (c .before .before .before .before .before) in
+    let k = rw (c .before .before .d2 .given .1) at (c .before .before .before .before .kind-in .ensures .1) in
+    (omega (arith, x .inside, c .before .before .before .before .before .before .before .before .before .before .before .before .before .pre .0, k), omega (arith, v .few, v .inside, c .before .before .before .before .before .before .before .before .before .before .before .before .before .pre .0, c .before .before .before .before .before .before .before .before .before .before .before .before .before .pre .1))
+
+add-p-3 : tie.Need-add-p-3 Inv-loop μ-loop
+add-p-3 c =
+    let x = line-of (c .before .before .before .before .before .before .before .before) in
+    omega (arith, x .inside, c .before .before .before .before .before .before .before .before .before .before .before .before .before .before .before .before .pre .0)
+
+loop-less-3 : tie.Need-loop-less-3 Inv-loop μ-loop
+loop-less-3 c =
+    let x = line-of (c .before .before .before .before .before .before .before .before) in
+    omega (arith, x .inside, x .filled)
+
+loop-again-3 : tie.Need-loop-again-3 Inv-loop μ-loop
+loop-again-3 c =
+    let a = c .before .before .before .before .before .before .before .before .before .before .before .before .before .before .before .before .args in
+    let v = c .before .before .before .before .before .before .before .before .before .before .before .before .loop in
+    let x = line-of (c .before .before .before .before .before .before .before .before) in
+    let k = kind-directive (c .before .before .before .before .before .before .before .kind-in .ensures .0) (c .before .before .before .before .before .d2 .given .1) in
+    lines-next (v .inv) _ x _ _
+    (line-directed (a .c) (now (a .r)) (v .s) (v .p) (now (c .before .before .before .before .before .before .before .before .upto .result)) (a .a) _ _ (v .inv .sound) (omega arith) _ (k .0) (k .1) (c .before .before .directive-step .ensures))
+    (omega (arith, c .before .before .before .before .before .before .before .before .before .before .before .before .before .before .before .before .pre .0)) (search needs)
+
+enum-told : tie.Need-enum-told Inv-loop μ-loop
+enum-told c = search needs
+
+brace-line-requires : tie.Need-brace-line-requires Inv-loop μ-loop
+brace-line-requires c κs =
+    let v = c .before .before .before .before .before .before .before .before .loop .inv in
+    let x = line-of (c .before .before .before .before) in
+    (omega (arith, x .inside, c .before .before .before .before .before .before .before .before .before .before .before .before .pre .0), omega (arith, v .few, v .inside, c .before .before .before .before .before .before .before .before .before .before .before .before .pre .0, c .before .before .before .before .before .before .before .before .before .before .before .before .pre .1))
+
+add-p-4 : tie.Need-add-p-4 Inv-loop μ-loop
+add-p-4 c =
+    let x = line-of (c .before .before .before .before .before .before .before) in
+    omega (arith, x .inside, c .before .before .before .before .before .before .before .before .before .before .before .before .before .before .before .pre .0)
+
+loop-less-4 : tie.Need-loop-less-4 Inv-loop μ-loop
+loop-less-4 c =
+    let x = line-of (c .before .before .before .before .before .before .before) in
+    omega (arith, x .inside, x .filled)
+
+loop-again-4 : tie.Need-loop-again-4 Inv-loop μ-loop
+loop-again-4 c =
+    let a = c .before .before .before .before .before .before .before .before .before .before .before .before .before .before .before .args in
+    let v = c .before .before .before .before .before .before .before .before .before .before .before .loop in
+    let x = line-of (c .before .before .before .before .before .before .before) in
+    let k = kind-brace (c .before .before .before .before .before .before .kind-in .ensures .0) (c .before .before .before .before .enum-told .given .1) in
+    lines-next (v .inv) _ x _ _
+    (line-braced (a .c) (now (a .r)) (v .s) (v .p) (now (c .before .before .before .before .before .before .before .upto .result)) (a .a) _ _ (v .inv .sound) (omega arith) (k .0) (k .1) (c .before .before .brace-line .ensures .0) (c .before .before .brace-line .ensures .1))
+    (omega (arith, c .before .before .before .before .before .before .before .before .before .before .before .before .before .before .before .pre .0)) (search needs)
+
+enum-told-2 : tie.Need-enum-told-2 Inv-loop μ-loop
+enum-told-2 c = search needs
+
+quiet-line-requires : tie.Need-quiet-line-requires Inv-loop μ-loop
+quiet-line-requires c κs =
+    let v = c .before .before .before .before .before .before .before .before .loop .inv in
+    let x = line-of (c .before .before .before .before) in
+    (omega (arith, x .inside, c .before .before .before .before .before .before .before .before .before .before .before .before .pre .0), omega (arith, v .few, v .inside, c .before .before .before .before .before .before .before .before .before .before .before .before .pre .0, c .before .before .before .before .before .before .before .before .before .before .before .before .pre .1), v .sound .block-before)
+
+add-p-5 : tie.Need-add-p-5 Inv-loop μ-loop
+add-p-5 c =
+    let x = line-of (c .before .before .before .before .before .before .before) in
+    omega (arith, x .inside, c .before .before .before .before .before .before .before .before .before .before .before .before .before .before .before .pre .0)
+
+loop-less-5 : tie.Need-loop-less-5 Inv-loop μ-loop
+loop-less-5 c =
+    let x = line-of (c .before .before .before .before .before .before .before) in
+    omega (arith, x .inside, x .filled)
+
+loop-again-5 : tie.Need-loop-again-5 Inv-loop μ-loop
+loop-again-5 c =
+    let a = c .before .before .before .before .before .before .before .before .before .before .before .before .before .before .before .args in
+    let v = c .before .before .before .before .before .before .before .before .before .before .before .loop in
+    let x = line-of (c .before .before .before .before .before .before .before) in
+    lines-next (v .inv) _ x _ _
+    (line-quiet (a .c) (now (a .r)) (v .s) (v .p) (now (c .before .before .before .before .before .before .before .upto .result)) (a .a) _ _ (v .inv .sound) (omega arith) (c .before .before .before .before .before .before .kind-in .ensures .0) (c .before .before .before .before .enum-told2 .given .1) (c .before .before .quiet-line .ensures .0) (c .before .before .quiet-line .ensures .1))
+    (omega (arith, c .before .before .before .before .before .before .before .before .before .before .before .before .before .before .before .pre .0)) (search needs)
+
+enum-told-3 : tie.Need-enum-told-3 Inv-loop μ-loop
+enum-told-3 c = search needs
+
+add-p-6 : tie.Need-add-p-6 Inv-loop μ-loop
+add-p-6 c =
+    let x = line-of (c .before .before .before) in
+    omega (arith, x .inside, c .before .before .before .before .before .before .before .before .before .before .before .pre .0)
+
+loop-less-6 : tie.Need-loop-less-6 Inv-loop μ-loop
+loop-less-6 c =
+    let x = line-of (c .before .before .before) in
+    omega (arith, x .inside, x .filled)
+
+loop-again-6 : tie.Need-loop-again-6 Inv-loop μ-loop
+loop-again-6 c =
+    let a = c .before .before .before .before .before .before .before .before .before .before .before .args in
+    let v = c .before .before .before .before .before .before .before .loop in
+    let x = line-of (c .before .before .before) in
+    let k = kind-bracket (c .before .before .kind-in .ensures .0) (c .enum-told3 .given .1) in
+    lines-next (v .inv) _ x _ _
+    (line-bracket (a .c) (now (a .r)) (v .s) (v .p) (now (c .before .before .before .upto .result)) (a .a) _ _ (v .inv .sound) (omega arith) (k .0) (k .1))
+    (omega (arith, c .before .before .before .before .before .before .before .before .before .before .before .pre .0)) (search needs)
 
 close-sections-requires : tie.Need-close-sections-requires Inv-loop μ-loop
 close-sections-requires c κs =
-    let l = c .before .before .loop in
-    (c .before .before .before .before .before .before .pre .0, omega (arith, l .inv .few, l .inv .inside, c .before .before .before .before .before .before .pre .0, c .before .before .before .before .before .before .pre .1), sound-later (l .inv .inside) (l .inv .sound))
+    let v = c .before .before .loop .inv in
+    (c .before .before .before .before .before .before .pre .0, omega (arith, v .few, v .inside, c .before .before .before .before .before .before .pre .0, c .before .before .before .before .before .before .pre .1), sound-later (v .inside) (v .sound))
 
 same-length : tie.Need-same-length Inv-loop μ-loop
 same-length c = search needs
 
 returns : tie.Need-returns Inv-loop μ-loop
-returns c =
-    let l = c .before .before .before .before .before .loop in
-    lines-done (l .inv) (c .before .before .before .before .loop-test .left) _ _ (c .before .before .close-sections .ensures) (omega (arith, c .before .before .before .before .before .before .before .before .before .pre .0))
+returns c = lines-done (c .before .before .before .before .before .loop .inv) (c .before .before .before .before .loop-test .left) _ _ (c .before .before .close-sections .ensures) (omega (arith, c .before .before .before .before .before .before .before .before .before .pre .0))
 
 pub read-board-spec : {M : Type 1} → statement M
 read-board-spec =
@@ -97,10 +259,38 @@ read-board-spec =
     index-of-requires
     add-upto
     upto-requires
-    read-line-requires
+    kind-in-requires
+    enum-known-d
+    add-put-data
+    put-data-requires
+    add-s
     add-p
     loop-less
     loop-again
+    enum-known-t
+    tag-line-requires
+    add-p-2
+    loop-less-2
+    loop-again-2
+    enum-known-d-2
+    directive-step-requires
+    add-p-3
+    loop-less-3
+    loop-again-3
+    enum-told
+    brace-line-requires
+    add-p-4
+    loop-less-4
+    loop-again-4
+    enum-told-2
+    quiet-line-requires
+    add-p-5
+    loop-less-5
+    loop-again-5
+    enum-told-3
+    add-p-6
+    loop-less-6
+    loop-again-6
     close-sections-requires
     same-length
     returns)

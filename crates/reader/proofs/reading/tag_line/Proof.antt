@@ -5,15 +5,15 @@ use borrow.Author.Needs.{needs}
 use Rattle.reader.proofs.reading.tag_line.Statement.{statement}
 use Rattle.reader.proofs.reading.tag_line.Tie as tie
 
-close-sections-requires : tie.Need-close-sections-requires
-close-sections-requires c κs =
+close-open-requires : tie.Need-close-open-requires
+close-open-requires c κs =
     let s = c .before .before .before .before in
     (s .pre .0, s .pre .2, sound-later (omega (arith, s .pre .1)) (s .pre .3))
 
 tag-read-requires : tie.Need-tag-read-requires
 tag-read-requires c κs =
     let s = c .before .before .before .before .before .before .before .before in
-    let k = c .before .before .before .close-sections .ensures in
+    let k = c .before .before .before .close-open .ensures in
     let w = now (s .args .r) in
     (omega (arith, s .pre .0, s .pre .1), omega (arith, s .pre .0, s .pre .2, k .grows), rw (k .emits .answer) (closed-sound (s .args .c) w (s .args .s) (s .pre .3)), rw (k .emits .answer, closed-tags (s .args .c) w (s .args .s)) (s .pre .4), s .pre .5)
 
@@ -23,7 +23,7 @@ same-length c = search needs
 returns : tie.Need-returns
 returns c =
     let a = c .before .before .before .before .before .before .before .before .before .before .before .args in
-    read-closed (a .c) (a .base) (a .p) (now (a .r)) (now (a .l)) (a .t) (c .before .before .before .before .before .before .close-sections .ensures) (c .before .before .tag-read .ensures)
+    read-closed (a .c) (a .base) (a .p) (now (a .r)) (now (a .l)) (a .t) (c .before .before .before .before .before .before .close-open .ensures) (c .before .before .tag-read .ensures)
 
 pub tag-line-spec : {M : Type 1} → statement M
-tag-line-spec = tie.close (tie.spec close-sections-requires tag-read-requires same-length returns)
+tag-line-spec = tie.close (tie.spec close-open-requires tag-read-requires same-length returns)
