@@ -340,7 +340,7 @@ TextEntriesFew c text = omega (arith, from-few c 0 (recordsOf text), records-fit
 pub EntriesFit : (c : Conventions) (text : List ℕ) → length text ≤ 16777215 → length (entriesOf c text) < 4294967296
 EntriesFit c text h = omega (arith, TextEntriesFew c text)
 
-cards-few : (c : Conventions) (a n : ℕ) (rs : List (List ℕ)) → length (cardsFrom c a n rs) ≡ length rs
+pub cards-few : (c : Conventions) (a n : ℕ) (rs : List (List ℕ)) → length (cardsFrom c a n rs) ≡ length rs
 cards-few c a n [] = refl
 cards-few c a n (r ∷ rs) = ap suc (cards-few c (a + length r) (n + length (recordOut c r .entries)) rs)
 

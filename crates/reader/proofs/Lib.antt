@@ -4,7 +4,11 @@ pub mod ApplyLaws
 pub mod ApplyPins
 pub mod AuctionLaws
 pub mod BoardLaws
+pub mod CardLength
+pub mod CardPlaced
 pub mod CardSets
+pub mod CardShape
+pub mod CaseNumbers
 pub mod Cases
 pub mod Counts
 pub mod DealBack
@@ -12,6 +16,7 @@ pub mod DealLaws
 pub mod DealPins
 pub mod EditionLaws
 pub mod EntryLaws
+pub mod Fellows
 pub mod Inside
 pub mod LineLaws
 pub mod LinePins
@@ -24,9 +29,11 @@ pub mod PlayLaws
 pub mod ReadingLaws
 pub mod RecordLaws
 pub mod RecordPins
+pub mod Relocated
 pub mod Seams
 pub mod SectionLaws
 pub mod SectionPins
+pub mod StandLaws
 pub mod StoreLaws
 pub mod TagLaws
 pub mod TagStepLaws
@@ -37,3 +44,4 @@ pub mod WalkLaws
 pub mod WordLaws
 pub mod WordPins
 pub mod WordTokens
+pub mod WordsPlaced

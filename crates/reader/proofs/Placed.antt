@@ -255,7 +255,7 @@ words-placed a n m e h i =
           rw (ne-eqb (e .kind) 8 y) (omega (arith, i .inside y));
     }
 
-all-words : {A B : Type 0} {P : A → Type 0} {Q : B → Type 0} (f : A → B) {xs : List A} → ((x : A) → P x → Q (f x)) → All P xs → All Q (map f xs)
+pub all-words : {A B : Type 0} {P : A → Type 0} {Q : B → Type 0} (f : A → B) {xs : List A} → ((x : A) → P x → Q (f x)) → All P xs → All Q (map f xs)
 all-words f g none = none
 all-words f g (one {x} p a) = one (g x p) (all-words f g a)
 

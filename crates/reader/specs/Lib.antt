@@ -12,3 +12,4 @@ pub mod Boards
 pub mod Records
 pub mod TagBytes
 pub mod Editions
+pub mod Fellows
