@@ -14,7 +14,9 @@ const USAGE: &str = "\
 usage: compare tables [--seed N]
        compare read [--seed N]
        compare bench [--seed N]
-       compare record tables PATH [--seed N]";
+       compare outside [--seed N]
+       compare record tables PATH [--seed N]
+       compare record read PATH [--seed N]";
 
 /// The seed of every run that names no other.
 const SEED: u64 = 20_240_501;
@@ -33,13 +35,9 @@ fn main() -> ExitCode {
             read::bench::run(seed);
             ExitCode::SUCCESS
         }
-        ["record", "tables", path] => match tables::record::run(seed, path.as_ref()) {
-            Ok(()) => ExitCode::SUCCESS,
-            Err(error) => {
-                eprintln!("compare: {path}: {error}");
-                ExitCode::from(2)
-            }
-        },
+        ["outside"] => exit(read::outside::run(seed)),
+        ["record", "tables", path] => recorded(path, tables::record::run(seed, path.as_ref())),
+        ["record", "read", path] => recorded(path, read::record::run(seed, path.as_ref())),
         _ => bad_usage(""),
     }
 }
@@ -62,6 +60,16 @@ fn exit(agreed: bool) -> ExitCode {
         ExitCode::SUCCESS
     } else {
         ExitCode::from(1)
+    }
+}
+
+fn recorded(path: &str, written: std::io::Result<()>) -> ExitCode {
+    match written {
+        Ok(()) => ExitCode::SUCCESS,
+        Err(error) => {
+            eprintln!("compare: {path}: {error}");
+            ExitCode::from(2)
+        }
     }
 }
 

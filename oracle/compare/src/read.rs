@@ -1,10 +1,13 @@
 //! Reading: editions read by the product and by the unchanged `reader.rs`.
 
 pub mod bench;
+mod chosen;
 mod generate;
 mod judge;
 mod model;
+pub mod outside;
 mod product;
+pub mod record;
 
 use crate::shrink::{shrink, Ways};
 use crate::tables::hex;
@@ -128,10 +131,9 @@ fn compare_words(words: &Words, model: &Reading) -> Checked {
     Ok(())
 }
 
-/// Lends sizes around each boundary.
-fn compare_sizes(product: &mut Product, text: &[u8]) -> Result<u64, String> {
-    let wanted = model::read(text);
-    let around = |count: usize, size: usize| {
+/// Lent sizes around each boundary: for the cards with each for the entries.
+fn around(wanted: &Reading) -> Vec<Lent> {
+    let around_one = |count: usize, size: usize| {
         let words = count * size;
         let mut sizes = vec![0, words, words + 1, words + size - 1, words + size];
         if count > 0 {
@@ -141,45 +143,71 @@ fn compare_sizes(product: &mut Product, text: &[u8]) -> Result<u64, String> {
         sizes.dedup();
         sizes
     };
-    let mut calls = 0;
-    for cards in around(wanted.boards(), CARD) {
-        for entries in around(wanted.entry_count(), ENTRY) {
-            calls += 1;
-            let lent = Lent { cards, entries };
-            compare_size(product, text, lent, &wanted)
-                .map_err(|error| format!("lent {lent:?}: {error}"))?;
+    let mut all = Vec::new();
+    for cards in around_one(wanted.boards(), CARD) {
+        for entries in around_one(wanted.entry_count(), ENTRY) {
+            all.push(Lent { cards, entries });
         }
+    }
+    all
+}
+
+/// Lends sizes around each boundary.
+fn compare_sizes(product: &mut Product, text: &[u8]) -> Result<u64, String> {
+    let wanted = model::read(text);
+    let mut calls = 0;
+    for lent in around(&wanted) {
+        calls += 1;
+        compare_size(product, text, lent, &wanted)
+            .map_err(|error| format!("lent {lent:?}: {error}"))?;
     }
     Ok(calls)
 }
 
-/// One call with what is lent, against the numbers that the model counts.
-fn compare_size(product: &mut Product, text: &[u8], lent: Lent, wanted: &Reading) -> Checked {
-    product.call(text, lent)?;
+/// The answer to a call with what is lent, by the numbers that the model counts.
+fn answer_for(length: usize, lent: Lent, wanted: &Reading) -> [u64; 5] {
     let boards = wanted.boards() as u64;
     let entries = wanted.entry_count() as u64;
-    let answer = if text.len() > LONGEST {
-        [1, 0, text.len() as u64, 0, 0]
+    if length > LONGEST {
+        [1, 0, length as u64, 0, 0]
     } else if ((lent.cards / CARD) as u64) < boards {
         [2, 0, boards, 0, 0]
     } else if ((lent.entries / ENTRY) as u64) < entries {
         [3, 0, entries, 0, 0]
     } else {
         [0, 0, 0, boards, entries]
-    };
-    if product.answer() != answer {
-        let seen = product.answer();
+    }
+}
+
+/// One call with what is lent.
+fn compare_size(product: &mut Product, text: &[u8], lent: Lent, wanted: &Reading) -> Checked {
+    product.call(text, lent)?;
+    let (cards, entries) = (product.cards(), product.entries());
+    compare_answer(text.len(), lent, wanted, product.answer(), cards, entries)
+}
+
+/// The answer and all lent words, against those of the model.
+fn compare_answer(
+    length: usize,
+    lent: Lent,
+    wanted: &Reading,
+    seen: &[u64],
+    cards: &[u32],
+    entries: &[u32],
+) -> Checked {
+    let answer = answer_for(length, lent, wanted);
+    if seen != answer {
         return Err(format!("answer\n  wanted {answer:?}\n  golavimes {seen:?}"));
     }
     let nothing = Vec::new();
     let taken = answer[0] == 0;
     for (what, seen, wanted) in [
-        ("cards", product.cards(), &wanted.cards),
-        ("entries", product.entries(), &wanted.entries),
+        ("cards", cards, &wanted.cards),
+        ("entries", entries, &wanted.entries),
     ] {
         let used = if taken { wanted } else { &nothing };
         if seen[..used.len()] != used[..] {
-            return Err(format!("{what} are not those of the generous call"));
+            return Err(format!("{what} are not those of the model"));
         }
         if seen[used.len()..].iter().any(|word| *word != 0) {
             return Err(format!("unused {what} are not zero"));

@@ -10,6 +10,8 @@
 //! Nothing checks these declarations against the library: keep them in step
 //! with its sources.
 
+use std::mem::MaybeUninit;
+
 /// A table: 20 bytes, cells N, S, E, W, each NT, S, H, D, C.
 pub type Table = [u8; 20];
 
@@ -139,6 +141,28 @@ pub fn read(text: &[u8], cards: &mut [u32], entries: &mut [u32], answer: &mut [u
             entries.as_mut_ptr(),
             entries.len(),
             answer.as_mut_ptr(),
+        )
+    }
+}
+
+/// Reads an edition into memory that nothing was stored in yet. The call stores
+/// into all of it.
+pub fn read_fresh(
+    text: &[u8],
+    cards: &mut [MaybeUninit<u32>],
+    entries: &mut [MaybeUninit<u32>],
+    answer: &mut [MaybeUninit<u64>; 5],
+) -> u64 {
+    // SAFETY: as in dd_table_to_pbn; the function writes before it reads.
+    unsafe {
+        c::golavimes_read(
+            text.as_ptr(),
+            text.len(),
+            cards.as_mut_ptr().cast(),
+            cards.len(),
+            entries.as_mut_ptr().cast(),
+            entries.len(),
+            answer.as_mut_ptr().cast(),
         )
     }
 }

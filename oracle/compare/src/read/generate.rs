@@ -103,9 +103,9 @@ pub fn all(seed: u64, give: &mut dyn FnMut(&'static str, &[u8]) -> bool) {
 
 // ---- Named texts ----
 
-const DEAL: &str = "N:AKQJT98765432... .AKQJT98765432.. ..AKQJT98765432. ...AKQJT98765432";
+pub const DEAL: &str = "N:AKQJT98765432... .AKQJT98765432.. ..AKQJT98765432. ...AKQJT98765432";
 
-const NAMED: [&str; 58] = [
+pub const NAMED: [&str; 58] = [
     "",
     "\n",
     "\r\n",
@@ -802,50 +802,130 @@ fn damaged(rng: &mut Rng, out: &mut Out) {
     }
 }
 
+/// Bytes that are no UTF-8, and white space that the domain leaves out.
+const OUTSIDE: [&[u8]; 12] = [
+    b"\x80",
+    b"\xff",
+    b"\xc3",
+    b"\xe2\x80",
+    b"\xc2\x85",
+    b"\xc2\xa0",
+    b"\xe2\x80\x83",
+    b"\xe3\x80\x80",
+    b"\xf0\x9f\x98",
+    b"\xe2\x80\xa8",
+    b"\xbf\xbf",
+    b"\xc0\x80",
+];
+
+/// An edition with some of these in it.
+fn edition_outside(rng: &mut Rng) -> Vec<u8> {
+    let mut text = edition(rng);
+    for _ in 0..1 + rng.below(3) {
+        let at = rng.below(text.len() + 1);
+        let odd = rng.pick(&OUTSIDE);
+        text.splice(at..at, odd.iter().copied());
+    }
+    text
+}
+
+/// The byte where characters count.
+fn texts_with_byte(byte: u8) -> Vec<Vec<u8>> {
+    let mut texts = Vec::new();
+    for place in [
+        "[Dealer \"#N\"]",
+        "[Dealer \"N#\"]",
+        "[Auction \"S#\"]\nP#",
+        "[Play \"N\"]\nS#2 S2#",
+    ] {
+        let text = place.bytes().map(|b| if b == b'#' { byte } else { b });
+        texts.push(text.collect());
+    }
+    let mut digits = b"[DoubleDummyTricks \"01234567890123456789\"]".to_vec();
+    digits[30] = byte;
+    texts.push(digits.clone());
+    digits.insert(30, b'1');
+    texts.push(digits);
+    texts
+}
+
 fn outside(rng: &mut Rng, out: &mut Out) {
-    const ODD: [&[u8]; 12] = [
-        b"\x80",
-        b"\xff",
-        b"\xc3",
-        b"\xe2\x80",
-        b"\xc2\x85",
-        b"\xc2\xa0",
-        b"\xe2\x80\x83",
-        b"\xe3\x80\x80",
-        b"\xf0\x9f\x98",
-        b"\xe2\x80\xa8",
-        b"\xbf\xbf",
-        b"\xc0\x80",
-    ];
     for _ in 0..150_000 {
-        let mut text = edition(rng);
-        for _ in 0..1 + rng.below(3) {
-            let at = rng.below(text.len() + 1);
-            let odd = rng.pick(&ODD);
-            text.splice(at..at, odd.iter().copied());
-        }
+        let text = edition_outside(rng);
         out.text(&text);
     }
-    // Each byte where characters count.
     for byte in 0x80..=0xff {
-        for place in [
-            "[Dealer \"#N\"]",
-            "[Dealer \"N#\"]",
-            "[Auction \"S#\"]\nP#",
-            "[Play \"N\"]\nS#2 S2#",
-        ] {
-            let text: Vec<u8> = place
-                .bytes()
-                .map(|b| if b == b'#' { byte } else { b })
-                .collect();
+        for text in texts_with_byte(byte) {
             out.text(&text);
         }
-        let mut digits = b"[DoubleDummyTricks \"01234567890123456789\"]".to_vec();
-        digits[30] = byte;
-        out.text(&digits);
-        digits.insert(30, b'1');
-        out.text(&digits);
     }
+}
+
+/// Some hundred texts that no text editor would write: what `outside` has, bytes
+/// at random, zeros, characters cut at the text's end.
+pub fn few_outside(seed: u64) -> Vec<Vec<u8>> {
+    let mut rng = Rng::new(seed);
+    let mut texts = Vec::new();
+    for byte in [0, 0x1c, 0x7f, 0x80, 0xbf, 0xc0, 0xc3, 0xe2, 0xf0, 0xff] {
+        texts.extend(texts_with_byte(byte));
+        texts.push(vec![byte]);
+    }
+    let whole: [&[u8]; 7] = [
+        b"[Dealer \"N\"]\n{c}",
+        b"[Play \"N\"]\nS2 SA S3 S4\n\n",
+        b"[Auction \"N\"]\n1C! P=1= AP",
+        b"[Deal \"N:A... - - -\"]\n[Board \"1\"]",
+        b"[DoubleDummyTricks \"01234567890123456789\"]",
+        b"[OptimumResultTable \"\"]\nN NT 1\n",
+        b"[A \"1\"]\n\n;c\n[B \"2\"] d\n\n",
+    ];
+    for text in whole {
+        for odd in OUTSIDE {
+            // Put in at a place, and the text's end there.
+            let at = rng.below(text.len() + 1);
+            texts.push([&text[..at], odd, &text[at..]].concat());
+            texts.push([&text[..at], odd].concat());
+            texts.push([odd, &text[at..]].concat());
+        }
+        let zero = rng.below(text.len() + 1);
+        texts.push([&text[..zero], b"\0\x80\0", &text[zero..]].concat());
+    }
+    let pieces: [&[u8]; 24] = [
+        b"[",
+        b"]",
+        b"\"",
+        b"{",
+        b"}",
+        b";",
+        b"%",
+        b"\n",
+        b"\n\n",
+        b"\r",
+        b" ",
+        b"\0",
+        b"\x80",
+        b"\xbf",
+        b"\xc3",
+        b"\xff",
+        b"[Play \"N\"]",
+        b"[Auction \"E\"]",
+        b"[Deal \"W:",
+        b"[A \"\"]",
+        b"SA ",
+        b"AP ",
+        b"1C",
+        b"=",
+    ];
+    for _ in 0..150 {
+        let random = (0..rng.below(48)).map(|_| rng.byte());
+        texts.push(random.collect());
+        let mixed: Vec<&[u8]> = (0..rng.below(24)).map(|_| rng.pick(&pieces)).collect();
+        texts.push(mixed.concat());
+    }
+    for _ in 0..60 {
+        texts.push(edition_outside(&mut rng));
+    }
+    texts
 }
 
 fn long(rng: &mut Rng, out: &mut Out) {
