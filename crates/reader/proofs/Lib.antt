@@ -23,6 +23,7 @@ pub mod LinePins
 pub mod LinesLaws
 pub mod NameLaws
 pub mod NamePins
+pub mod NextLaws
 pub mod PieceLaws
 pub mod Placed
 pub mod PlayLaws

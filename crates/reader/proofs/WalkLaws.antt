@@ -1,20 +1,19 @@
 -- Laws of walking a section's data.
-use Prim.Native.Nat.{ℕ, _+_, _-_, _*_, _≤_}
+use Prim.Native.Nat.{ℕ, suc, _+_, _-_, _*_, _≤_, _<_}
 use mathlib.Core.Path.{_≡_, refl, sym, ap, _∙_}
-use mathlib.Core.Bool.{Bool, true, false}
+use mathlib.Core.Bool.{Bool, true, false, cond}
 use mathlib.Core.List.{List, [], _∷_, _++_, map, append-assoc, append-nil}
 use native.Mathlib.Omega.{arith}
 use lib.Dec.{eqb}
-use lib.ListN.{length, take, drop, length-take, length-drop}
+use lib.ListN.{length, take, drop, length-take}
 use borrow.Author.Tests.{eq-eqb, ne-eqb}
 use Rattle.tables.specs.declared.letters.Conventions.{Conventions}
 use Rattle.tables.specs.Tables.{rowOf}
-use Rattle.tables.proofs.Laws.{by-cases, stop}
+use Rattle.tables.proofs.Laws.{by-cases}
 use Rattle.reader.specs.declared.store.Entry.{Entry}
 use Rattle.reader.specs.declared.auction.Bidding.{Bidding}
 use Rattle.reader.specs.declared.play.Tricks.{Tricks}
-use Rattle.reader.specs.declared.tag.Span.{Span}
-use Rattle.reader.specs.declared.line.Line.the-variants.{Data}
+use Rattle.reader.specs.declared.section.Next.{Next}
 use Rattle.reader.specs.declared.section.Open.{Open}
 use Rattle.reader.specs.declared.section.Rows.{Rows}
 use Rattle.reader.specs.declared.section.Walk.{Walk}
@@ -22,12 +21,11 @@ use Rattle.reader.specs.Store.{putAll, entryWords}
 use Rattle.reader.specs.Pieces.{Piece, piece, Out, Emits, andThen, outAll, rawLines}
 use Rattle.reader.specs.Auction.{bidding, calledPiece}
 use Rattle.reader.specs.Play.{playedPiece, Seated}
-use Rattle.reader.specs.Sections.{noteAfter, stopsAt, dataPiece, pieceOf, dataIn, splitPiece, linesData, sectionData, rowStored, rowedPiece, walked, noWalk, walkedAll, countOf, Walks}
+use Rattle.reader.specs.Sections.{dataIn, splitPiece, linesData, sectionData, nextData, NextPiece, rowStored, rowedPiece, walked, noWalk, walkedAll, countOf, Walks}
 use Rattle.reader.proofs.EntryLaws.{out-count}
 use Rattle.reader.proofs.AuctionLaws.{calls-counted}
 use Rattle.reader.proofs.PlayLaws.{none-seated, tricks-counted}
-use Rattle.reader.proofs.PieceLaws.{put-run, emits-none, ToEmit}
-use Rattle.reader.proofs.SectionLaws.{LineAt}
+use Rattle.reader.proofs.PieceLaws.{put-run, emits-none, ToEmit, emitted}
 
 -- ---- the number of entries
 
@@ -59,7 +57,7 @@ section-count c r o trump = omega (arith, no-count, walk-count c o trump noWalk 
 pub walk-none : (a n k : ℕ) (l : List ℕ) (w : Walk) → Seated (w .tricks) → Walks a n (countOf w + 3 * k) l l w (record { state = w; entries = [] })
 walk-none a n k l w s = record { emits = emits-none a n l w; seated = s; few = omega arith }
 
-pub walk-one : {a n m : ℕ} {l l′ : List ℕ} (f : Walk → Piece → Out Walk) (w : Walk) (q : Piece) {r : Walk} → Walks a n m l l′ r (f w q) → Walks a n m l l′ r (outAll f w (q ∷ []))
+walk-one : {a n m : ℕ} {l l′ : List ℕ} (f : Walk → Piece → Out Walk) (w : Walk) (q : Piece) {r : Walk} → Walks a n m l l′ r (f w q) → Walks a n m l l′ r (outAll f w (q ∷ []))
 walk-one {a} {n} {m} {l} {l′} f w q h =
     record {
       emits = record {
@@ -75,30 +73,18 @@ unfolding noWalk
 no-seated = none-seated
 
 -- What a section's walk starts with.
-pub start-seated : {w : Walk} → w ≡ noWalk → Seated (w .tricks)
+start-seated : {w : Walk} → w ≡ noWalk → Seated (w .tricks)
 start-seated e = rw e no-seated
 
-pub start-none : {w : Walk} → w ≡ noWalk → countOf w ≡ 0
+start-none : {w : Walk} → w ≡ noWalk → countOf w ≡ 0
 start-none e = rw e no-count
 
-pub split-none : (a n k : ℕ) (l : List ℕ) (w : Walk) → w ≡ noWalk → Walks a n (3 * k) l l w (record { state = noWalk; entries = [] })
-split-none a n k l w e =
-    record {
-      emits = record { answer = e; words = refl };
-      seated = start-seated e;
-      few = omega (arith, start-none e);
-    }
-
-pub split-one : (f : Walk → Piece → Out Walk) (a n k : ℕ) (l l′ : List ℕ) (w : Walk) (q : Piece) (r : Walk) → w ≡ noWalk → length (q .bytes) ≤ k
-    → Walks a (n + countOf w) (countOf w + 3 * length (q .bytes)) l l′ r (f w q) → Walks a n (3 * k) l l′ r (outAll f noWalk (q ∷ []))
-split-one f a n k l l′ w q r e h v =
-    let z : n + countOf w ≡ n = omega (arith, start-none e) in
-    let u = walk-one f w q (rw z at v) in
-    record {
-      emits = rw (← e) (u .emits);
-      seated = u .seated;
-      few = omega (arith, u .few, start-none e);
-    }
+-- One piece of at most k bytes.
+pub span-one : (f : Walk → Piece → Out Walk) (a n k : ℕ) (l l′ : List ℕ) (w : Walk) (q : Piece) (r : Walk) → length (q .bytes) ≤ k
+    → Walks a n (countOf w + 3 * length (q .bytes)) l l′ r (f w q) → Walks a n (countOf w + 3 * k) l l′ r (outAll f w (q ∷ []))
+span-one f a n k l l′ w q r h v =
+    let u = walk-one f w q v in
+    record { emits = u .emits; seated = u .seated; few = omega (arith, u .few) }
 
 pub piece-called : (c : Conventions) (o : Open) (trump : ℕ) (w : Walk) (q : Piece) (a base k : ℕ) (l l′ : List ℕ) (b : Bidding) → o .kind ≡ 1
     → Emits a (base + w .tricks .count + w .bidding .count) l l′ b (calledPiece c (w .bidding) q) → b .count ≤ w .bidding .count + 3 * k → Seated (w .tricks)
@@ -126,19 +112,6 @@ piece-row c o trump w q a n k l v g h e s =
 pub cut-short : (s line : List ℕ) (p n : ℕ) → s ≡ take n (drop p line) → length s ≤ n
 cut-short s line p n e = rw (e, length-take) (omega arith)
 
--- The one piece of a data line.
-pub line-one : (f : Walk → Piece → Out Walk) (a n p : ℕ) (l l′ line s : List ℕ) (d : Span) (w r : Walk) → s ≡ take (d .len) (drop (d .start) line) → d .start + d .len ≤ length line
-    → Walks a n (countOf w + 3 * length s) l l′ r (f w (piece (p + d .start) s))
-    → Walks a n (countOf w + 3 * length line) l l′ r (outAll f w (dataPiece p line (Data d)))
-line-one f a n p l l′ line s d w r e h v =
-    let u = walk-one f w (piece (p + d .start) s) v in
-    let g : length s ≤ length line = rw (e, length-take, length-drop) (omega arith) in
-    record {
-      emits = rw (← e) (u .emits);
-      seated = u .seated;
-      few = omega (arith, u .few);
-    }
-
 -- ---- the loop
 
 out-append : {A B : Type 0} (f : A → B → Out A) (s : A) (xs ys : List B) → outAll f s (xs ++ ys) ≡ andThen (outAll f s xs) (outAll f (outAll f s xs .state) ys)
@@ -156,61 +129,69 @@ emitting-run f a n₀ l₀ o l s n xs rest l′ s′ m t e em =
       words = rw (e .words, em, e .answer) (sym (put-run a n l (outAll f s xs .entries) (outAll f (outAll f s xs .state) rest .entries)) ∙ (ap (λ (x : Out _). putAll 4 l n (map (entryWords a) (x .entries))) (sym d) ∙ t .words));
     }
 
--- The walk over the lines of r from o .at on, at the place e; it began with w₀.
-pub record Walking (c : Conventions) (r : List ℕ) (o : Open) (trump a base : ℕ) (w₀ : Walk) (l₀ : List ℕ) (w : Walk) (noting : Bool) (e : ℕ) (l : List ℕ) : Type 0 where
-  pub left : ToEmit (walked c o trump) a (base + countOf w₀) l₀ (outAll (walked c o trump) w₀ (linesData r o)) l w (base + countOf w) (dataIn noting e (rawLines (drop e r)))
+-- The walk over the data of the section o: next is what is left of it.
+pub record Walking (c : Conventions) (r : List ℕ) (o : Open) (trump a base : ℕ) (l₀ : List ℕ) (w : Walk) (next : Next) (l : List ℕ) : Type 0 where
+  pub left : ToEmit (walked c o trump) a base l₀ (walkedAll c r o trump) l w (base + countOf w) (nextData r next)
   pub seated : Seated (w .tricks)
-  pub few : countOf w ≤ countOf w₀ + 3 * (e - o .at)
-  pub from-at : o .at ≤ e
-  pub inside : e ≤ length r
+  pub few : countOf w + 3 * next .piece .len ≤ 3 * (o .split .len + (next .at - o .at))
+  pub from-at : o .at ≤ next .at
+  pub inside : next .at ≤ length r
+  pub piece-inside : next .piece .start + next .piece .len ≤ length r
 
-module _ (c : Conventions) (r : List ℕ) (o : Open) (trump a base : ℕ) (w₀ : Walk) (l₀ : List ℕ) where
-  pub walking : o .at ≤ length r → Seated (w₀ .tricks) → Walking c r o trump a base w₀ l₀ w₀ false (o .at) l₀
-  walking h s = record { left = record { answer = refl; words = refl }; seated = s; few = omega arith; from-at = omega arith; inside = h }
+module _ (c : Conventions) (r : List ℕ) (o : Open) (trump a base : ℕ) (l₀ : List ℕ) where
+  all-left : (n : ℕ) → n ≡ base → ToEmit (walked c o trump) a base l₀ (walkedAll c r o trump) l₀ noWalk n (splitPiece r (o .split) ++ linesData r o)
+  unfolding walkedAll sectionData
+  all-left n e = record { answer = refl; words = rw e }
 
-  pub walk-on : (w : Walk) (noting : Bool) (e : ℕ) (l line : List ℕ) (w′ : Walk) (l′ : List ℕ)
-      → Walking c r o trump a base w₀ l₀ w noting e l → LineAt r e line → stopsAt noting line ≡ false
-      → Walks a (base + countOf w) (countOf w + 3 * length line) l l′ w′ (outAll (walked c o trump) w (pieceOf noting e line))
-      → Walking c r o trump a base w₀ l₀ w′ (noteAfter noting line) (e + length line) l′
-  walk-on w noting e l line w′ l′ v q s k =
-      let d : base + countOf w′ ≡ base + countOf w + length (outAll (walked c o trump) w (pieceOf noting e line) .entries) = rw (k .emits .answer) (omega (arith, walk-count c o trump w (pieceOf noting e line))) in
+  pub walking : (w : Walk) → w ≡ noWalk → o .at ≤ length r → o .split .start + o .split .len ≤ length r
+      → Walking c r o trump a base l₀ w (record { more = true; piece = o .split; at = o .at }) l₀
+  walking w e h i =
       record {
-        left = emitting-run (walked c o trump) a (base + countOf w₀) l₀ (outAll (walked c o trump) w₀ (linesData r o)) l w (base + countOf w) (pieceOf noting e line) (dataIn (noteAfter noting line) (e + length line) (rawLines (drop (e + length line) r))) l′ w′ (base + countOf w′)
-            (rw (q .lines, s) at (v .left))
-            (k .emits)
-            d;
-        seated = k .seated;
-        few = omega (arith, k .few, v .few, v .from-at);
-        from-at = omega (arith, v .from-at);
-        inside = q .inside;
+        left = rw e (all-left (base + countOf noWalk) (omega (arith, no-count)));
+        seated = start-seated e;
+        few = omega (arith, start-none e);
+        from-at = omega arith;
+        inside = h;
+        piece-inside = i;
       }
 
-  walk-done : (w : Walk) (noting : Bool) (e : ℕ) (l : List ℕ) → Walking c r o trump a base w₀ l₀ w noting e l → dataIn noting e (rawLines (drop e r)) ≡ []
-      → Walks a (base + countOf w₀) (countOf w₀ + 3 * (length r - o .at)) l₀ l w (outAll (walked c o trump) w₀ (linesData r o))
-  walk-done w noting e l v h =
-      let t = rw h at (v .left) in
-      record { emits = record { answer = t .answer; words = t .words }; seated = v .seated; few = omega (arith, v .few, v .inside) }
+  pub walk-on : (w : Walk) (next : Next) (l : List ℕ) (w′ : Walk) (next′ : Next) (l′ : List ℕ)
+      → Walking c r o trump a base l₀ w next l → next .more ≡ true
+      → Walks a (base + countOf w) (countOf w + 3 * next .piece .len) l l′ w′ (outAll (walked c o trump) w (splitPiece r (next .piece)))
+      → NextPiece r (next .at) next′ → Walking c r o trump a base l₀ w′ next′ l′
+  walk-on w next l w′ next′ l′ v m k q =
+      let ps : List Piece = splitPiece r (next .piece) in
+      let rest : List Piece = dataIn false (next .at) (rawLines (drop (next .at) r)) in
+      let d : base + countOf w′ ≡ base + countOf w + length (outAll (walked c o trump) w ps .entries) = rw (k .emits .answer) (omega (arith, walk-count c o trump w ps)) in
+      let e : nextData r next ≡ ps ++ rest = ap (λ (b : Bool). cond b (ps ++ rest) []) m in
+      let t : ToEmit (walked c o trump) a base l₀ (walkedAll c r o trump) l w (base + countOf w) (ps ++ rest) = rw e at (v .left) in
+      let u : ToEmit (walked c o trump) a base l₀ (walkedAll c r o trump) l′ w′ (base + countOf w′) rest = emitting-run (walked c o trump) a base l₀ (walkedAll c r o trump) l w (base + countOf w) ps rest l′ w′ (base + countOf w′) t (k .emits) d in
+      record {
+        left = rw (q .data-lines) at u;
+        seated = k .seated;
+        few = omega (arith, k .few, v .few, v .from-at, q .past);
+        from-at = omega (arith, v .from-at, q .past);
+        inside = q .inside;
+        piece-inside = q .piece-inside;
+      }
 
-  pub walk-stopped : (w : Walk) (noting : Bool) (e : ℕ) (l line : List ℕ) → Walking c r o trump a base w₀ l₀ w noting e l → LineAt r e line → stopsAt noting line ≡ true
-      → Walks a (base + countOf w₀) (countOf w₀ + 3 * (length r - o .at)) l₀ l w (outAll (walked c o trump) w₀ (linesData r o))
-  walk-stopped w noting e l line v q s = walk-done w noting e l v (rw (q .lines, s))
+  pub walk-ended : (w : Walk) (next : Next) (l : List ℕ) → Walking c r o trump a base l₀ w next l → next .more ≡ false
+      → Walks a base (3 * (o .split .len + (length r - o .at))) l₀ l w (walkedAll c r o trump)
+  walk-ended w next l v m =
+      let e : nextData r next ≡ [] = ap (λ (b : Bool). cond b (splitPiece r (next .piece) ++ dataIn false (next .at) (rawLines (drop (next .at) r))) []) m in
+      record { emits = emitted (rw e at (v .left)); seated = v .seated; few = omega (arith, v .few, v .inside) }
 
-  pub walk-ended : (w : Walk) (noting : Bool) (e : ℕ) (l : List ℕ) → Walking c r o trump a base w₀ l₀ w noting e l → length r ≤ e
-      → Walks a (base + countOf w₀) (countOf w₀ + 3 * (length r - o .at)) l₀ l w (outAll (walked c o trump) w₀ (linesData r o))
-  walk-ended w noting e l v z = walk-done w noting e l v (rw (stop r e z))
+-- What is left of a section: the bytes from the place of the lines not looked at on, and one for the piece at hand.
+abbrev pub leftOf : List ℕ → Next → ℕ
+leftOf r n = cond (n .more) (suc (length r - n .at)) 0
 
--- The split piece first, then the lines.
-pub walk-all : (c : Conventions) (r : List ℕ) (o : Open) (trump a base : ℕ) (l l′ l″ : List ℕ) (w w′ : Walk)
-    → Walks a base (3 * o .split .len) l l′ w (outAll (walked c o trump) noWalk (splitPiece r (o .split)))
-    → Walks a (base + countOf w) (countOf w + 3 * (length r - o .at)) l′ l″ w′ (outAll (walked c o trump) w (linesData r o))
-    → Walks a base (3 * (o .split .len + (length r - o .at))) l l″ w′ (walkedAll c r o trump)
-unfolding walkedAll sectionData
-walk-all c r o trump a base l l′ l″ w w′ h k =
-    let n : base + countOf w ≡ base + length (outAll (walked c o trump) noWalk (splitPiece r (o .split)) .entries) = rw (h .emits .answer) (omega (arith, no-count, walk-count c o trump noWalk (splitPiece r (o .split)))) in
-    let t = emitting-run (walked c o trump) a base l (outAll (walked c o trump) noWalk (splitPiece r (o .split) ++ linesData r o)) l noWalk base (splitPiece r (o .split)) (linesData r o) l′ w (base + countOf w)
-    (record { answer = refl; words = refl }) (h .emits) n in
-    record {
-      emits = record { answer = k .emits .answer ∙ t .answer; words = k .emits .words ∙ t .words };
-      seated = k .seated;
-      few = omega (arith, h .few, k .few);
-    }
+pub less-left : (r : List ℕ) (n n′ : Next) → n .more ≡ true → n .at ≤ length r → NextPiece r (n .at) n′ → leftOf r n′ < leftOf r n
+less-left r n n′ m h q =
+    let e : leftOf r n ≡ suc (length r - n .at) = ap (λ (b : Bool). cond b (suc (length r - n .at)) 0) m in
+    by-cases (n′ .more)
+    (λ t.
+    let f : leftOf r n′ ≡ suc (length r - n′ .at) = ap (λ (b : Bool). cond b (suc (length r - n′ .at)) 0) t in
+    omega (arith, e, f, q .later t, q .inside, h))
+    (λ t.
+    let f : leftOf r n′ ≡ 0 = ap (λ (b : Bool). cond b (suc (length r - n′ .at)) 0) t in
+    omega (arith, e, f))

@@ -5,7 +5,7 @@ ghost use lib.ListN.{length};
 ghost use Rattle.tables.specs.Tables.{rowOf};
 ghost use Rattle.reader.specs.Pieces.{outAll, piece};
 ghost use Rattle.reader.specs.Play.{Seated};
-ghost use Rattle.reader.specs.Sections.{noteAfter, stopsAt, pieceOf, splitPiece, linesData, rowStored, walked, noWalk, walkedAll, countOf, Walks};
+ghost use Rattle.reader.specs.Sections.{noteAfter, visitOf, noPiece, NextPiece, splitPiece, rowStored, walked, noWalk, walkedAll, countOf, Walks};
 use crate::auction::Bidding;
 use crate::auction::call_piece;
 use crate::auction::no_bidding;
@@ -61,21 +61,75 @@ pub fn note_after(noting: bool, l: &[u8]) -> bool
     false
 }
 
-// Whether the line closes a section: a tag or a blank line, outside commentary.
-fn stops_at(noting: bool, l: &[u8]) -> bool
-    ensures { λ r. ⌜ r ≡ stopsAt noting (now (l .entry)) ⌝ }
+// What a section makes of a line: it ends there, the line is passed, or it is data, trimmed.
+pub enum Visit {
+    Stop,
+    Pass,
+    Piece(Span),
+}
+
+// The next piece of a section's data, and where the lines after it start; `more` is false where the section has ended.
+pub struct Next {
+    pub more: bool,
+    pub piece: Span,
+    pub at: usize,
+}
+
+fn visit_line(noting: bool, l: &[u8]) -> Visit
+    ensures { λ r. ⌜ r ≡ visitOf noting (now (l .entry)) ⌝ }
 {
     if noting {
-        return false;
+        return Visit::Pass;
     }
     match line_kind(l) {
-        Line::Blank => true,
-        Line::Brace => false,
-        Line::Directive(_) => false,
-        Line::Tag(_) => true,
-        Line::Bracket => false,
-        Line::Data(_) => false,
+        Line::Blank => Visit::Stop,
+        Line::Brace => Visit::Pass,
+        Line::Directive(_) => Visit::Pass,
+        Line::Tag(_) => Visit::Stop,
+        Line::Bracket => Visit::Pass,
+        Line::Data(s) => Visit::Piece(s),
     }
+}
+
+fn no_piece(at: usize) -> Next
+    ensures { λ n. ⌜ n ≡ noPiece at ⌝ }
+{
+    Next {
+        more: false,
+        piece: Span { start: 0, len: 0 },
+        at,
+    }
+}
+
+// The section's next data line, of the lines from `at` on.
+fn next_piece(r: &[u8], at: usize) -> Next
+    requires { ⌜ (at ≤ length (now r)) × (length (now r) ≤ 2 ^ 40) ⌝ }
+    ensures { λ n. ⌜ NextPiece (now (r .entry)) at n ⌝ }
+{
+    let mut noting = false;
+    let mut e = at;
+    while e < r.len() {
+        let rest = from(r, e);
+        let l = upto(rest, index_of(rest, 10) + 1);
+        match visit_line(noting, l) {
+            Visit::Stop => return no_piece(e),
+            Visit::Pass => {
+                noting = note_after(noting, l);
+                e += l.len();
+            }
+            Visit::Piece(s) => {
+                return Next {
+                    more: true,
+                    piece: Span {
+                        start: e + s.start,
+                        len: s.len,
+                    },
+                    at: e + l.len(),
+                };
+            }
+        }
+    }
+    no_piece(e)
 }
 
 fn no_walk() -> Walk
@@ -162,60 +216,21 @@ fn walk_piece(
     }
 }
 
-// A line at the place `at` that does not close the section.
-fn walk_line(
-    c: Conventions,
-    o: Open,
-    trump: usize,
-    w: Walk,
-    noting: bool,
-    l: &[u8],
-    at: usize,
-    a: usize,
-    base: usize,
-    entries: &mut [u32],
-) -> Walk
-    requires { ⌜ Seated (w .tricks) × (a + at + length (now l) ≤ 2 ^ 40) × (base + countOf w ≤ 2 ^ 59) × (o .kind ≡ 2 → o .seat ≤ 3) ⌝ }
-    ensures { λ r. ⌜ Walks a (base + countOf w) (countOf w + 3 * length (now (l .entry))) (now (entries .entry)) (now (entries .exit)) r (outAll (walked c o trump) w (pieceOf noting at (now (l .entry)))) ⌝ }
-{
-    if noting {
-        return w;
-    }
-    match line_kind(l) {
-        Line::Blank => w,
-        Line::Brace => w,
-        Line::Directive(_) => w,
-        Line::Tag(_) => w,
-        Line::Bracket => w,
-        Line::Data(s) => walk_piece(
-            c,
-            o,
-            trump,
-            w,
-            upto(from(l, s.start), s.len),
-            at + s.start,
-            a,
-            base,
-            entries,
-        ),
-    }
-}
-
-// What was split off the section's tag line.
-fn walk_split(
+// The piece `s` of the record `r`, unless it is empty.
+fn walk_span(
     c: Conventions,
     r: &[u8],
     o: Open,
     trump: usize,
+    w: Walk,
+    s: Span,
     a: usize,
     base: usize,
     entries: &mut [u32],
 ) -> Walk
-    requires { ⌜ (a + length (now r) ≤ 2 ^ 40) × (base ≤ 2 ^ 58) × (o .split .start + o .split .len ≤ length (now r)) × (o .kind ≡ 2 → o .seat ≤ 3) ⌝ }
-    ensures { λ w. ⌜ Walks a base (3 * o .split .len) (now (entries .entry)) (now (entries .exit)) w (outAll (walked c o trump) noWalk (splitPiece (now (r .entry)) (o .split))) ⌝ }
+    requires { ⌜ Seated (w .tricks) × (a + length (now r) ≤ 2 ^ 40) × (base + countOf w ≤ 2 ^ 59) × (s .start + s .len ≤ length (now r)) × (o .kind ≡ 2 → o .seat ≤ 3) ⌝ }
+    ensures { λ v. ⌜ Walks a (base + countOf w) (countOf w + 3 * s .len) (now (entries .entry)) (now (entries .exit)) v (outAll (walked c o trump) w (splitPiece (now (r .entry)) s)) ⌝ }
 {
-    let s = o.split;
-    let w = no_walk();
     if s.len == 0 {
         return w;
     }
@@ -232,36 +247,6 @@ fn walk_split(
     )
 }
 
-// The section's data lines, up to the line that closes it; the walk goes on from `start`.
-fn walk_lines(
-    c: Conventions,
-    r: &[u8],
-    o: Open,
-    trump: usize,
-    start: Walk,
-    a: usize,
-    base: usize,
-    entries: &mut [u32],
-) -> Walk
-    requires { ⌜ Seated (start .tricks) × (a + length (now r) ≤ 2 ^ 40) × (base + countOf start ≤ 2 ^ 58 + 3 * 2 ^ 40) × (o .at ≤ length (now r)) × (o .kind ≡ 2 → o .seat ≤ 3) ⌝ }
-    ensures { λ w. ⌜ Walks a (base + countOf start) (countOf start + 3 * (length (now (r .entry)) - o .at)) (now (entries .entry)) (now (entries .exit)) w (outAll (walked c o trump) start (linesData (now (r .entry)) o)) ⌝ }
-{
-    let mut w = start;
-    let mut noting = false;
-    let mut e = o.at;
-    while e < r.len() {
-        let rest = from(r, e);
-        let l = upto(rest, index_of(rest, 10) + 1);
-        if stops_at(noting, l) {
-            return w;
-        }
-        w = walk_line(c, o, trump, w, noting, l, e, a, base, entries);
-        noting = note_after(noting, l);
-        e += l.len();
-    }
-    w
-}
-
 // All the data of the open section `o` of the record `r`, which starts at `a`; its entries stand from `base` on.
 pub fn walk_section(
     c: Conventions,
@@ -275,6 +260,17 @@ pub fn walk_section(
     requires { ⌜ (a + length (now r) ≤ 2 ^ 40) × (base ≤ 2 ^ 58) × (o .at ≤ length (now r)) × (o .split .start + o .split .len ≤ length (now r)) × (o .kind ≡ 2 → o .seat ≤ 3) ⌝ }
     ensures { λ w. ⌜ Walks a base (3 * (o .split .len + (length (now (r .entry)) - o .at))) (now (entries .entry)) (now (entries .exit)) w (walkedAll c (now (r .entry)) o trump) ⌝ }
 {
-    let w = walk_split(c, r, o, trump, a, base, entries);
-    walk_lines(c, r, o, trump, w, a, base, entries)
+    let split = o.split;
+    let mut w = no_walk();
+    let mut next = Next {
+        more: true,
+        piece: split,
+        at: o.at,
+    };
+    while next.more {
+        let s = next.piece;
+        w = walk_span(c, r, o, trump, w, s, a, base, entries);
+        next = next_piece(r, next.at);
+    }
+    w
 }

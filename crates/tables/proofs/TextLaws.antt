@@ -1,14 +1,14 @@
 -- Laws of fronts, trimming, fields, lines and characters.
 use Prim.Native.Nat.{ℕ, zero, suc, _+_, _-_, _≤_, _<_}
-use mathlib.Core.Path.{_≡_, refl, ap, _∙_}
-use mathlib.Core.Bool.{Bool, true, false, cond}
+use mathlib.Core.Path.{_≡_, refl, sym, ap, _∙_}
+use mathlib.Core.Bool.{Bool, true, false, cond, not}
 use mathlib.Core.List.{List, [], _∷_, _++_}
 use native.Mathlib.Omega.{arith}
 use lib.Dec.{eqb}
 use lib.ListN.{length, drop, take, getD}
 use lib.Seq.{take-suc}
-use borrow.Author.Tests.{le-leb, lt-leb, ne-eqb}
-use Rattle.tables.specs.Text.{isWhite, front, beyond, trimStart, keepEnd, trimEnd, prepend, fields, word, pastWord, lines, before, isInside, starts, characters, firstCharacter}
+use borrow.Author.Tests.{le-leb, lt-leb, eq-eqb, ne-eqb}
+use Rattle.tables.specs.Text.{isWhite, front, beyond, trimStart, keepEnd, trimEnd, prepend, fields, word, pastWord, lines, differs, before, isInside, starts, characters, firstCharacter}
 use Rattle.tables.proofs.Laws.{step, stop, by-cases}
 
 pub length-zero : (s : List ℕ) → length s ≡ 0 → s ≡ []
@@ -43,6 +43,21 @@ take-front p (b ∷ bs) = by-cases (p b) (λ e. rw e (ap (λ (l : List ℕ). b �
 pub drop-front : (p : ℕ → Bool) (s : List ℕ) → drop (length (front p s)) s ≡ beyond p s
 drop-front p [] = refl
 drop-front p (b ∷ bs) = by-cases (p b) (λ e. rw e (drop-front p bs)) (λ e. rw e)
+
+-- ---- the search for a byte, at the place i
+
+-- The place n of the first x is the i bytes passed and those before the first x of what is left.
+abbrev pub Sought : ℕ → ℕ → List ℕ → ℕ → Type 0
+Sought n x s i = n ≡ i + length (before x (drop i s))
+
+pub sought-here : {n : ℕ} (x : ℕ) (s : List ℕ) (i : ℕ) → i < length s → getD s i 0 ≡ x → Sought n x s i → i ≡ n
+sought-here x s i h e k = sym (k ∙ front-stop (differs x) s i h (ap not (eq-eqb (getD s i 0) x e)))
+
+pub sought-next : {n : ℕ} (x : ℕ) (s : List ℕ) (i j : ℕ) → j ≡ i + 1 → i < length s → (getD s i 0 ≡ x → ⊥) → Sought n x s i → Sought n x s j
+sought-next x s i j d h m k = rw d (k ∙ front-more (differs x) s i h (ap not (ne-eqb (getD s i 0) x m)))
+
+pub sought-end : {n : ℕ} (x : ℕ) (s : List ℕ) (i : ℕ) → length s ≤ i → Sought n x s i → i ≡ n
+sought-end x s i h k = sym (k ∙ front-end (differs x) s i h)
 
 -- ---- white space at the end
 

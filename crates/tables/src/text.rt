@@ -122,11 +122,12 @@ pub fn next_words(s: &[u8]) -> &[u8]
     trim_start(&s[n..])
 }
 
-// The number of bytes before the first `x`, all of them where there is none.
-pub fn index_of(s: &[u8], x: u8) -> usize
-    ensures { λ r. ⌜ (r ≡ length (before x (now (s .entry)))) × (r ≤ length (now (s .entry))) ⌝ }
+// The place of the first `x` from the place `start` on, the end where there is none.
+fn index_from(s: &[u8], x: u8, start: usize) -> usize
+    requires { ⌜ start ≤ length (now s) ⌝ }
+    ensures { λ r. ⌜ (r ≡ start + length (before x (drop start (now (s .entry))))) × (r ≤ length (now (s .entry))) ⌝ }
 {
-    let mut i = 0;
+    let mut i = start;
     while i < s.len() {
         if s[i] == x {
             return i;
@@ -134,6 +135,29 @@ pub fn index_of(s: &[u8], x: u8) -> usize
         i += 1;
     }
     i
+}
+
+// The number of bytes before the first `x`, all of them where there is none. Four bytes a turn.
+pub fn index_of(s: &[u8], x: u8) -> usize
+    ensures { λ r. ⌜ (r ≡ length (before x (now (s .entry)))) × (r ≤ length (now (s .entry))) ⌝ }
+{
+    let mut i = 0;
+    while i + 4 <= s.len() {
+        if s[i] == x {
+            return i;
+        }
+        if s[i + 1] == x {
+            return i + 1;
+        }
+        if s[i + 2] == x {
+            return i + 2;
+        }
+        if s[i + 3] == x {
+            return i + 3;
+        }
+        i += 4;
+    }
+    index_from(s, x, i)
 }
 
 pub fn is_inside(b: u8) -> bool
