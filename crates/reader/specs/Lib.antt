@@ -13,3 +13,4 @@ pub mod Records
 pub mod TagBytes
 pub mod Editions
 pub mod Fellows
+pub mod Plain
