@@ -1,0 +1,17 @@
+pub mod AnswerLaws
+pub mod BoardLaws
+pub mod BothLaws
+pub mod BoxLaws
+pub mod DealWords
+pub mod FoundLaws
+pub mod Inside
+pub mod Listed
+pub mod MeaningLaws
+pub mod Pins
+pub mod PlanLaws
+pub mod SearchLaws
+pub mod SlipLaws
+pub mod StateLaws
+pub mod StatesMean
+pub mod TextPins
+pub mod TotalsAdd

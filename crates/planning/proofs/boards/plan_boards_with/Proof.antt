@@ -1,0 +1,77 @@
+use Rattle.planning.proofs.AnswerLaws.{there, boards-told, boards-none}
+use borrow.Author.Needs.{needs}
+use Rattle.planning.proofs.boards.plan_boards_with.Statement.{statement}
+use Rattle.planning.proofs.boards.plan_boards_with.Tie as tie
+
+zero-numbers-requires : tie.Need-zero-numbers-requires
+zero-numbers-requires c κs = search needs
+
+read-both-requires : tie.Need-read-both-requires
+read-both-requires c κs = search needs
+
+enum-told : tie.Need-enum-told
+enum-told c = search needs
+
+enum-known-editions : tie.Need-enum-known-editions
+enum-known-editions c = search needs
+
+put-boards-requires : tie.Need-put-boards-requires
+put-boards-requires c κs = (there (c .before .before .before .before .before .before .before .before .before .before .before .before .before .before .read-both .ensures) (c .before .before .before .before .editions .given .1) .0 .room, there (c .before .before .before .before .before .before .before .before .before .before .before .before .before .before .read-both .ensures) (c .before .before .before .before .editions .given .1) .1 .room)
+
+same-length : tie.Need-same-length
+same-length c = search needs
+
+same-length-2 : tie.Need-same-length-2
+same-length-2 c = search needs
+
+same-length-3 : tie.Need-same-length-3
+same-length-3 c = search needs
+
+same-length-4 : tie.Need-same-length-4
+same-length-4 c = search needs
+
+same-length-5 : tie.Need-same-length-5
+same-length-5 c = search needs
+
+returns : tie.Need-returns
+returns c = boards-none (c .before .before .before .before .before .before .before .before .before .before .read-both .ensures) (c .enum-told .given .1) (c .before .before .before .before .before .before .before .before .before .before .before .before .before .before .before .before .before .zero-numbers .ensures)
+
+same-length-6 : tie.Need-same-length-6
+same-length-6 c = search needs
+
+same-length-7 : tie.Need-same-length-7
+same-length-7 c = search needs
+
+same-length-8 : tie.Need-same-length-8
+same-length-8 c = search needs
+
+same-length-9 : tie.Need-same-length-9
+same-length-9 c = search needs
+
+same-length-10 : tie.Need-same-length-10
+same-length-10 c = search needs
+
+returns-2 : tie.Need-returns-2
+returns-2 c = boards-told (c .before .before .before .before .before .before .before .before .before .before .before .before .before .before .before .before .before .read-both .ensures) (c .before .before .before .before .before .before .before .editions .given .1) (c .before .before .before .before .before .before .before .before .before .before .before .before .before .before .before .before .before .before .before .before .before .before .before .before .zero-numbers .ensures) (c .before .before .put-boards .ensures)
+
+pub plan-boards-with-spec : {M : Type 1} → statement M
+plan-boards-with-spec =
+    tie.close
+    (tie.spec
+    zero-numbers-requires
+    read-both-requires
+    enum-told
+    enum-known-editions
+    put-boards-requires
+    same-length
+    same-length-2
+    same-length-3
+    same-length-4
+    same-length-5
+    returns
+    same-length-6
+    same-length-7
+    same-length-8
+    same-length-9
+    same-length-10
+    returns-2)

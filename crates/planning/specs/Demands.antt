@@ -1,0 +1,230 @@
+-- What planning promises beyond its contracts, as statements; the file of proofs/ that proves each is named beside it. A card is one that
+-- the definitions read from its edition's text.
+use Prim.Native.Nat.{ℕ, suc, _+_, _-_, _*_, _/_, _≤_, _<_}
+use mathlib.Core.Path.{_≡_}
+use mathlib.Core.Logic.{_↔_}
+use mathlib.Core.Bool.{Bool, true, false}
+use mathlib.Core.List.{List, _∷_, _++_}
+use lib.ListN.{length, getD, take, drop, replicate}
+use Rattle.tables.specs.declared.letters.Conventions.{Conventions}
+use Rattle.reader.specs.declared.deal.Hands.{Hands}
+use Rattle.reader.specs.Deals.{wholeHands}
+use Rattle.reader.specs.Records.{AlikeBut}
+use Rattle.reader.specs.Editions.{isTaken, readingOf, cardsOf}
+use Rattle.planning.specs.declared.state.BoardState.{BoardState}
+use Rattle.planning.specs.declared.state.BoardState.the-variants.{Blank, Own, Old, Near, Twin, Solve}
+use Rattle.planning.specs.declared.plan.Totals.{Totals}
+use Rattle.planning.specs.declared.plan.Planned.{Planned}
+use Rattle.planning.specs.declared.plan.Planned.the-variants.{Listed}
+use Rattle.planning.specs.Cards.{handsOf, isWhole, hasTable, fits}
+use Rattle.planning.specs.States.{Judged, firstWith, stateAt}
+use Rattle.planning.specs.Slips.{slipOf, slipsOf, totalsOf, cardAt}
+use Rattle.planning.specs.Plans.{boardsOf, IsPlanned}
+
+-- ---- boards and their deals
+
+-- x is one of the cards.
+pub data Among (x : List ℕ) : List (List ℕ) → Type 0 where
+  here : {xs : List (List ℕ)} → Among x (x ∷ xs)
+  there : {y : List ℕ} {xs : List (List ℕ)} → Among x xs → Among x (y ∷ xs)
+
+-- A board with the deal h: it is whole, and its four hands are h.
+pub record WithDeal (h : Hands) (card : List ℕ) : Type 0 where
+  pub whole : isWhole card ≡ true
+  pub hands : handsOf card ≡ h
+
+-- A board with the deal h and a table.
+pub record Tabled (h : Hands) (card : List ℕ) : Type 0 where
+  pub deal : WithDeal h card
+  pub table : hasTable card ≡ true
+
+-- P holds of one of the cards.
+pub record Some (P : List ℕ → Type 0) (cards : List (List ℕ)) : Type 0 where
+  pub card : List ℕ
+  pub among : Among card cards
+  pub holds : P card
+
+-- P holds of none of the cards.
+abbrev pub None : (List ℕ → Type 0) → List (List ℕ) → Type 0
+None P cards = (x : List ℕ) → Among x cards → P x → ⊥
+
+-- The card number k, from 1, is the first of the cards that P holds of.
+pub record First (P : List ℕ → Type 0) (cards : List (List ℕ)) (k : ℕ) : Type 0 where
+  pub from-one : 1 ≤ k
+  pub is-there : k ≤ length cards
+  pub holds : P (cardAt cards k)
+  pub none-before : (i : ℕ) → 1 ≤ i → i < k → P (cardAt cards i) → ⊥
+
+-- ---- slips
+
+-- The slip number k, from 0, of lent numbers.
+abbrev pub slipHere : ℕ → List ℕ → List ℕ
+slipHere k slips = take 5 (drop (5 * k) slips)
+
+-- A slip holds the hands h.
+pub record Holds (h : Hands) (slip : List ℕ) : Type 0 where
+  pub north : getD slip 1 0 ≡ h .north
+  pub east : getD slip 2 0 ≡ h .east
+  pub south : getD slip 3 0 ≡ h .south
+  pub west : getD slip 4 0 ≡ h .west
+
+-- A deal is listed if one of the slips handed back, the first solve ones, holds its hands.
+pub record ListedIn (h : Hands) (solve : ℕ) (slips : List ℕ) : Type 0 where
+  pub slip : ℕ
+  pub below : slip < solve
+  pub holds : Holds h (slipHere slip slips)
+
+-- A new board has the deal h, and no board of either edition with the deal h has a table.
+pub record Unsolved (h : Hands) (olds news : List (List ℕ)) : Type 0 where
+  pub some-new : Some (WithDeal h) news
+  pub none-old : None (Tabled h) olds
+  pub none-new : None (Tabled h) news
+
+-- A slip is a board's position from 1 and its hands, and the state of the board at that position is solve.
+pub record OfSolve (js : List Judged) (news : List (List ℕ)) (slip : List ℕ) : Type 0 where
+  pub position : ℕ
+  pub from-one : 1 ≤ position
+  pub is-there : position ≤ length news
+  pub is : slip ≡ slipOf position (cardAt news position)
+  pub state : stateAt js position ≡ Solve
+
+-- A slip for the board at the position p.
+pub record SlipFor (p : ℕ) (card : List ℕ) (solve : ℕ) (slips : List ℕ) : Type 0 where
+  pub slip : ℕ
+  pub below : slip < solve
+  pub is : slipHere slip slips ≡ slipOf p card
+
+-- THEOREM (proofs/Listed.antt). Both editions taken and slips enough: a deal is listed exactly when it is unsolved, and once; every slip is
+-- that of a solve board, in board order, and every solve board has one; the rest of the lent numbers is zero, and holds no hands of 13
+-- cards.
+pub record ListedOnce (js : List Judged) (olds news : List (List ℕ)) (solve : ℕ) (slips : List ℕ) : Type 0 where
+  pub exactly : (h : Hands) → ListedIn h solve slips ↔ Unsolved h olds news
+  pub once : (h : Hands) (j k : ℕ) → j < solve → k < solve → Holds h (slipHere j slips) → Holds h (slipHere k slips) → j ≡ k
+  pub of-solve : (k : ℕ) → k < solve → OfSolve js news (slipHere k slips)
+  pub board-order : (j k : ℕ) → j < k → k < solve → getD (slipHere j slips) 0 0 < getD (slipHere k slips) 0 0
+  pub each-solve : (p : ℕ) → stateAt js p ≡ Solve → SlipFor p (cardAt news p) solve slips
+  pub rest-zero : drop (5 * solve) slips ≡ replicate (length slips - 5 * solve) 0
+  pub nowhere-else : (h : Hands) (k : ℕ) → wholeHands h ≡ true → Holds h (slipHere k slips) → k < solve
+
+abbrev pub ListedExactlyOnce : Type 0
+ListedExactlyOnce =
+    (c : Conventions) (old new oc oe nc ne slips oc′ oe′ nc′ ne′ slips′ : List ℕ) (t : Totals)
+    → IsPlanned c old new oc oe nc ne slips oc′ oe′ nc′ ne′ slips′ (Listed t)
+    → ListedOnce (boardsOf c old new) (cardsOf c old) (cardsOf c new) (t .solve) slips′
+
+-- THEOREM (proofs/Listed.antt). It is listed whenever both editions are taken and slips are enough, whatever else is lent.
+abbrev pub ListedWhenTaken : Type 0
+ListedWhenTaken =
+    (c : Conventions) (old new oc oe nc ne slips oc′ oe′ nc′ ne′ slips′ : List ℕ) (r : Planned)
+    → IsPlanned c old new oc oe nc ne slips oc′ oe′ nc′ ne′ slips′ r
+    → isTaken (readingOf c old (length oc) (length oe)) ≡ true
+    → isTaken (readingOf c new (length nc) (length ne)) ≡ true
+    → totalsOf (boardsOf c old new) .solve ≤ length slips / 5
+    → r ≡ Listed (totalsOf (boardsOf c old new))
+
+-- THEOREM (proofs/Listed.antt). Where every whole board of the new edition has a table, nothing is listed: every lent number is zero.
+abbrev pub NothingListed : Type 0
+NothingListed =
+    (c : Conventions) (old new oc oe nc ne slips oc′ oe′ nc′ ne′ slips′ : List ℕ) (t : Totals)
+    → IsPlanned c old new oc oe nc ne slips oc′ oe′ nc′ ne′ slips′ (Listed t)
+    → ((x : List ℕ) → Among x (cardsOf c new) → isWhole x ≡ true → hasTable x ≡ true)
+    → (t .solve ≡ 0) × (slips′ ≡ replicate (length slips′) 0)
+
+-- ---- inside the stretch
+
+-- Words 60 and 61, the record's start and end. A record lies in the front, in the stretch behind it, or in the back.
+abbrev pub InFront : List ℕ → List ℕ → Type 0
+InFront front card = getD card 61 0 ≤ length front
+
+abbrev pub InStretch : List ℕ → List ℕ → List ℕ → Type 0
+InStretch front middle card = (length front ≤ getD card 60 0) × (getD card 61 0 ≤ length (front ++ middle))
+
+abbrev pub InBack : List ℕ → List ℕ → List ℕ → Type 0
+InBack front middle card = length (front ++ middle) ≤ getD card 60 0
+
+-- The deal h is that of a board inside the stretch and of none outside, in the front or in the back.
+pub record OnlyInside (front middle : List ℕ) (h : Hands) (cards : List (List ℕ)) : Type 0 where
+  pub inside : Some (λ x. WithDeal h x × InStretch front middle x) cards
+  pub none-in-front : None (λ x. WithDeal h x × InFront front x) cards
+  pub none-in-back : None (λ x. WithDeal h x × InBack front middle x) cards
+
+-- For each whole board some board of the same deal has a table.
+abbrev pub AllSolved : List (List ℕ) → Type 0
+AllSolved cards = (x : List ℕ) → Among x cards → isWhole x ≡ true → Some (Tabled (handsOf x)) cards
+
+-- THEOREM (proofs/Inside.antt). Two editions alike but for a stretch, the old one solved: each listed deal is that of a new board inside
+-- the stretch and of none outside.
+abbrev pub ListedInside : Type 0
+ListedInside =
+    (c : Conventions) (front middle middle′ back oc oe nc ne slips oc′ oe′ nc′ ne′ slips′ : List ℕ) (t : Totals)
+    → AlikeBut front middle middle′ back
+    → IsPlanned c (front ++ (middle ++ back)) (front ++ (middle′ ++ back)) oc oe nc ne slips oc′ oe′ nc′ ne′ slips′ (Listed t)
+    → AllSolved (cardsOf c (front ++ (middle ++ back)))
+    → (h : Hands) → ListedIn h (t .solve) slips′
+    → OnlyInside front middle′ h (cardsOf c (front ++ (middle′ ++ back)))
+
+-- ---- states
+
+-- A whole board without a table.
+pub record Bare (card : List ℕ) : Type 0 where
+  pub whole : isWhole card ≡ true
+  pub no-table : hasTable card ≡ false
+
+-- What each state says of a board: blank, it is not whole; own, it has a table; old, an old board has deal and table; near, a new one
+-- has; twin, an earlier new board has the deal; solve, none of these. The source is the first such board.
+abbrev pub StateIs : List (List ℕ) → List (List ℕ) → List (List ℕ) → List ℕ → BoardState → Type 0
+StateIs olds news earlier card Blank = isWhole card ≡ false
+StateIs olds news earlier card Own = (isWhole card ≡ true) × (hasTable card ≡ true)
+StateIs olds news earlier card (Old k) = Bare card × First (Tabled (handsOf card)) olds k
+StateIs olds news earlier card (Near k) = Bare card × None (Tabled (handsOf card)) olds × First (Tabled (handsOf card)) news k
+StateIs olds news earlier card (Twin k) =
+    Bare card × None (Tabled (handsOf card)) olds × None (Tabled (handsOf card)) news × First (WithDeal (handsOf card)) earlier k
+StateIs olds news earlier card Solve =
+    Bare card × None (Tabled (handsOf card)) olds × None (Tabled (handsOf card)) news × None (WithDeal (handsOf card)) earlier
+
+-- THEOREM (proofs/StatesMean.antt). The state at a position of the new edition is s exactly when the board there is as s says.
+abbrev pub StatesMean : Type 0
+StatesMean =
+    (c : Conventions) (old new : List ℕ) (p : ℕ) → 1 ≤ p → p ≤ length (cardsOf c new) → (s : BoardState)
+    → (stateAt (boardsOf c old new) p ≡ s) ↔ StateIs (cardsOf c old) (cardsOf c new) (take (p - 1) (cardsOf c new)) (cardAt (cardsOf c new) p) s
+
+-- THEOREM (proofs/StatesMean.antt). Outside the positions 1 to boards the state is blank.
+abbrev pub BlankOutside : Type 0
+BlankOutside =
+    (c : Conventions) (old new : List ℕ)
+    → (stateAt (boardsOf c old new) 0 ≡ Blank) × ((p : ℕ) → length (cardsOf c new) < p → stateAt (boardsOf c old new) p ≡ Blank)
+
+-- THEOREM (proofs/StatesMean.antt). A twin's source stands before it and is a solve board.
+abbrev pub TwinsOfSolve : Type 0
+TwinsOfSolve =
+    (c : Conventions) (old new : List ℕ) (p k : ℕ) → stateAt (boardsOf c old new) p ≡ Twin k
+    → (1 ≤ k) × (k < p) × (stateAt (boardsOf c old new) k ≡ Solve)
+
+-- THEOREM (proofs/StatesMean.antt). The source of near is an own board.
+abbrev pub NearOfOwn : Type 0
+NearOfOwn = (c : Conventions) (old new : List ℕ) (p k : ℕ) → stateAt (boardsOf c old new) p ≡ Near k → stateAt (boardsOf c old new) k ≡ Own
+
+-- THEOREM (proofs/StatesMean.antt). What a state's search gives: 0 exactly when no card fits, and a number from 1 exactly when the card
+-- of that number is the first that fits.
+abbrev pub FirstMeans : Type 0
+FirstMeans =
+    (tabled : Bool) (d : List ℕ) (cards : List (List ℕ))
+    → ((firstWith tabled d cards ≡ 0) ↔ None (λ x. fits tabled d x ≡ true) cards)
+    × ((k : ℕ) → (firstWith tabled d cards ≡ suc k) ↔ First (λ x. fits tabled d x ≡ true) cards (suc k))
+
+-- ---- totals
+
+-- THEOREM (proofs/TotalsAdd.antt). Totals add up, whatever the boards; there are as many slips as solve boards.
+pub record AddUp (js : List Judged) (t : Totals) : Type 0 where
+  pub sum : t .boards ≡ t .blank + t .own + t .old + t .near + t .twin + t .solve
+  pub slips : length (slipsOf js) ≡ t .solve
+
+abbrev pub TotalsAddUp : Type 0
+TotalsAddUp = (js : List Judged) → AddUp js (totalsOf js)
+
+-- THEOREM (proofs/Listed.antt). Those that are handed back do, and are of as many boards as the new edition has.
+abbrev pub TotalsTold : Type 0
+TotalsTold =
+    (c : Conventions) (old new oc oe nc ne slips oc′ oe′ nc′ ne′ slips′ : List ℕ) (t : Totals)
+    → IsPlanned c old new oc oe nc ne slips oc′ oe′ nc′ ne′ slips′ (Listed t)
+    → (t .boards ≡ length (cardsOf c new)) × AddUp (boardsOf c old new) t

@@ -1,0 +1,6 @@
+pub mod Cards
+pub mod States
+pub mod Slips
+pub mod Plans
+pub mod Steps
+pub mod Demands

@@ -1,0 +1,144 @@
+-- The answers of planning, and its contracts.
+use Prim.Native.Nat.{ℕ, _+_, _*_, _/_, _≤_}
+use mathlib.Core.Path.{_≡_}
+use mathlib.Core.Bool.{Bool, true, false, cond}
+use mathlib.Core.List.{List, [], _∷_}
+use lib.Dec.{ltb}
+use lib.ListN.{length, replicate}
+use Rattle.tables.specs.declared.letters.Conventions.{Conventions}
+use Rattle.reader.specs.declared.edition.Reading.{Reading}
+use Rattle.reader.specs.declared.edition.Reading.the-variants.{Taken}
+use Rattle.reader.specs.declared.edition.Reading.the-variants as reading
+use Rattle.reader.specs.Store.{flat, padded, putAll}
+use Rattle.reader.specs.Editions.{readNumber, readCarries, readingOf, cardsOf, entriesOf}
+use Rattle.planning.specs.declared.state.BoardState.{BoardState}
+use Rattle.planning.specs.declared.state.BoardState.the-variants.{Blank}
+use Rattle.planning.specs.declared.behind.Behind.{Behind}
+use Rattle.planning.specs.declared.behind.Behind.the-variants.{Nothing}
+use Rattle.planning.specs.declared.editions.PlanRefusal.{PlanRefusal}
+use Rattle.planning.specs.declared.editions.PlanRefusal.the-variants.{Old, New, SlipsShort}
+use Rattle.planning.specs.declared.editions.Editions.{Editions}
+use Rattle.planning.specs.declared.editions.Editions.the-variants.{Both}
+use Rattle.planning.specs.declared.editions.Editions.the-variants as editions
+use Rattle.planning.specs.declared.plan.Totals.{Totals}
+use Rattle.planning.specs.declared.plan.Planned.{Planned}
+use Rattle.planning.specs.declared.plan.Planned.the-variants.{Listed}
+use Rattle.planning.specs.declared.plan.Planned.the-variants as planned
+use Rattle.planning.specs.States.{Judged, judged, stateAt}
+use Rattle.planning.specs.Slips.{slipsOf, totalsOf, countOf, behindAt, partOf, numbersFrom}
+
+-- ---- refusals: 1 to 3 of the old edition, then of the new, then 4 slips short (the boards to solve)
+
+abbrev pub planNumber : PlanRefusal → ℕ
+planNumber (Old f) = readNumber f
+planNumber (New f) = readNumber f
+planNumber (SlipsShort n) = 4
+
+abbrev pub planCarries : PlanRefusal → ℕ
+planCarries (Old f) = readCarries f
+planCarries (New f) = readCarries f
+planCarries (SlipsShort n) = n
+
+-- 0 none, 1 old, 2 new.
+abbrev pub planEdition : PlanRefusal → ℕ
+planEdition (Old f) = 1
+planEdition (New f) = 2
+planEdition (SlipsShort n) = 0
+
+-- ---- both editions
+
+abbrev pub newAfter : ℕ → Reading → Editions
+newAfter m (Taken boards entries) = Both m boards
+newAfter m (reading.Refused f) = editions.Refused (New f)
+
+abbrev pub bothAfter : Reading → Reading → Editions
+bothAfter (Taken boards entries) new = newAfter boards new
+bothAfter (reading.Refused f) new = editions.Refused (Old f)
+
+-- The answer for the texts, with lc card words and le entry words lent for the old edition, nc and ne for the new.
+unfoldable pub editionsOf : Conventions → List ℕ → List ℕ → ℕ → ℕ → ℕ → ℕ → Editions
+editionsOf c old new lc le nc ne = bothAfter (readingOf c old lc le) (readingOf c new nc ne)
+
+abbrev pub areBoth : Editions → Bool
+areBoth (Both m n) = true
+areBoth (editions.Refused f) = false
+
+-- n lent words afterwards: blocks and zeros behind them where all went well, nothing but zeros after a refusal.
+abbrev pub lent : Bool → ℕ → List (List ℕ) → List ℕ
+lent well n blocks = cond well (padded n (flat blocks)) (replicate n 0)
+
+-- The boards of the new edition.
+abbrev pub boardsOf : Conventions → List ℕ → List ℕ → List Judged
+boardsOf c old new = judged (cardsOf c old) (cardsOf c new)
+
+-- ---- the plan
+
+abbrev pub listedBy : ℕ → Totals → Planned
+listedBy lent t = cond (ltb lent (t .solve)) (planned.Refused (SlipsShort (t .solve))) (Listed t)
+
+abbrev pub plannedBy : Editions → ℕ → Totals → Planned
+plannedBy (Both m n) lent t = listedBy lent t
+plannedBy (editions.Refused f) lent t = planned.Refused f
+
+-- The answer; ls numbers are lent for slips, five a slip, and a tail too short for one counts as none.
+unfoldable pub plannedOf : Conventions → List ℕ → List ℕ → ℕ → ℕ → ℕ → ℕ → ℕ → Planned
+plannedOf c old new lc le nc ne ls = plannedBy (editionsOf c old new lc le nc ne) (ls / 5) (totalsOf (boardsOf c old new))
+
+abbrev pub isListed : Planned → Bool
+isListed (Listed t) = true
+isListed (planned.Refused f) = false
+
+-- ---- contracts
+
+-- Lent cards and entries of both editions afterwards.
+pub record BoxesAfter (c : Conventions) (well : Bool) (old new oc oe nc ne oc′ oe′ nc′ ne′ : List ℕ) : Type 0 where
+  pub old-cards : oc′ ≡ lent well (length oc) (cardsOf c old)
+  pub old-entries : oe′ ≡ lent well (length oe) (entriesOf c old)
+  pub new-cards : nc′ ≡ lent well (length nc) (cardsOf c new)
+  pub new-entries : ne′ ≡ lent well (length ne) (entriesOf c new)
+
+-- Both editions are read.
+pub record BothRead (c : Conventions) (old new oc oe nc ne oc′ oe′ nc′ ne′ : List ℕ) (r : Editions) : Type 0 where
+  pub answer : r ≡ editionsOf c old new (length oc) (length oe) (length nc) (length ne)
+  pub boxes : BoxesAfter c (areBoth r) old new oc oe nc ne oc′ oe′ nc′ ne′
+
+-- The contract of plan: the answer, and every lent number.
+pub record IsPlanned (c : Conventions) (old new oc oe nc ne slips oc′ oe′ nc′ ne′ slips′ : List ℕ) (r : Planned) : Type 0 where
+  pub answer : r ≡ plannedOf c old new (length oc) (length oe) (length nc) (length ne) (length slips)
+  pub boxes : BoxesAfter c (isListed r) old new oc oe nc ne oc′ oe′ nc′ ne′
+  pub slips-after : slips′ ≡ lent (isListed r) (length slips) (slipsOf (boardsOf c old new))
+
+-- The state at a position: blank after a refusal.
+abbrev pub stateBy : Editions → List Judged → ℕ → BoardState
+stateBy (Both m n) js p = stateAt js p
+stateBy (editions.Refused f) js p = Blank
+
+-- The record behind a board: nothing after a refusal.
+abbrev pub behindBy : Editions → Conventions → List ℕ → List ℕ → ℕ → Behind
+behindBy (Both m n) c old new p = behindAt (cardsOf c old) (cardsOf c new) (boardsOf c old new) p
+behindBy (editions.Refused f) c old new p = Nothing
+
+-- ls lent numbers afterwards: five a board, as many whole ones as fit, and zeros behind them; zeros after a refusal.
+abbrev pub boardsAfter : Editions → Conventions → List ℕ → List ℕ → ℕ → List ℕ
+boardsAfter (Both m n) c old new ls = putAll 5 (replicate ls 0) 0 (numbersFrom (cardsOf c old) (cardsOf c new) (boardsOf c old new))
+boardsAfter (editions.Refused f) c old new ls = replicate ls 0
+
+-- The contract of state_at: whether both editions were taken, and the state.
+pub record StateTold (c : Conventions) (old new oc oe nc ne oc′ oe′ nc′ ne′ : List ℕ) (p : ℕ) (r : Editions) (s : BoardState) : Type 0 where
+  pub editions-read : BothRead c old new oc oe nc ne oc′ oe′ nc′ ne′ r
+  pub state : s ≡ stateBy r (boardsOf c old new) p
+
+-- The contract of place_behind: the places of the record behind a board.
+pub record BehindTold (c : Conventions) (old new oc oe nc ne oc′ oe′ nc′ ne′ : List ℕ) (p : ℕ) (r : Editions) (b : Behind) : Type 0 where
+  pub editions-read : BothRead c old new oc oe nc ne oc′ oe′ nc′ ne′ r
+  pub behind : b ≡ behindBy r c old new p
+
+-- The contract of record_behind: a part of the old or the new text, empty where there is nothing.
+pub record PartTold (c : Conventions) (old new oc oe nc ne oc′ oe′ nc′ ne′ : List ℕ) (p : ℕ) (part : List ℕ) : Type 0 where
+  pub bytes : part ≡ partOf old new (behindBy (editionsOf c old new (length oc) (length oe) (length nc) (length ne)) c old new p)
+  pub boxes : BoxesAfter c (areBoth (editionsOf c old new (length oc) (length oe) (length nc) (length ne))) old new oc oe nc ne oc′ oe′ nc′ ne′
+
+-- The contract of plan_boards: five numbers a board.
+pub record BoardsTold (c : Conventions) (old new oc oe nc ne numbers oc′ oe′ nc′ ne′ numbers′ : List ℕ) (r : Editions) : Type 0 where
+  pub editions-read : BothRead c old new oc oe nc ne oc′ oe′ nc′ ne′ r
+  pub numbers-after : numbers′ ≡ boardsAfter r c old new (length numbers)

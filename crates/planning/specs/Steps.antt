@@ -1,0 +1,61 @@
+-- What the inner functions of planning answer: a board of lent cards, totals board by board, and the end of planning.
+use Prim.Native.Nat.{ℕ, _+_, _≤_, _/_}
+use mathlib.Core.Path.{_≡_}
+use mathlib.Core.Bool.{Bool, cond}
+use mathlib.Core.List.{List}
+use lib.Dec.{eqb}
+use lib.ListN.{length}
+use Rattle.reader.specs.Store.{zeros}
+use Rattle.planning.specs.declared.state.BoardState.{BoardState}
+use Rattle.planning.specs.declared.plan.Totals.{Totals}
+use Rattle.planning.specs.declared.plan.Planned.{Planned}
+use Rattle.planning.specs.Cards.{cardsIn, cardHere}
+use Rattle.planning.specs.States.{Judged, stateOf, stateNumber}
+use Rattle.planning.specs.Plans.{listedBy, isListed}
+
+-- The board at index k of the lent cards of the new edition.
+abbrev pub boardHere : List (List ℕ) → List (List ℕ) → ℕ → List ℕ → Judged
+boardHere olds news k box = record { position = k + 1; card = cardHere k box; state = stateOf olds news (cardsIn k box) (cardHere k box) }
+
+-- A count of the boards whose state has the number k, with one board more.
+abbrev pub tally : ℕ → BoardState → ℕ → ℕ
+tally k s n = cond (eqb (stateNumber s) k) (n + 1) n
+
+-- Totals with one board more, of the state s.
+unfoldable pub counted : Totals → BoardState → Totals
+counted t s = record {
+  boards = t .boards + 1;
+  blank = tally 0 s (t .blank);
+  own = tally 1 s (t .own);
+  old = tally 2 s (t .old);
+  near = tally 3 s (t .near);
+  twin = tally 4 s (t .twin);
+  solve = tally 5 s (t .solve);
+}
+
+-- No board.
+abbrev pub noTotals : Totals
+noTotals = record { boards = 0; blank = 0; own = 0; old = 0; near = 0; twin = 0; solve = 0 }
+
+-- No count is above n.
+pub record Within (n : ℕ) (t : Totals) : Type 0 where
+  pub boards : t .boards ≤ n
+  pub blank : t .blank ≤ n
+  pub own : t .own ≤ n
+  pub old : t .old ≤ n
+  pub near : t .near ≤ n
+  pub twin : t .twin ≤ n
+  pub solve : t .solve ≤ n
+
+-- Lent words of both editions, kept or set to 0.
+pub record Kept (well : Bool) (oc oe nc ne oc′ oe′ nc′ ne′ : List ℕ) : Type 0 where
+  pub old-cards : oc′ ≡ cond well oc (zeros oc)
+  pub old-entries : oe′ ≡ cond well oe (zeros oe)
+  pub new-cards : nc′ ≡ cond well nc (zeros nc)
+  pub new-entries : ne′ ≡ cond well ne (zeros ne)
+
+-- The answer for the totals, and all lent words: as they were, or zeros after a refusal.
+pub record PlanFinished (oc oe nc ne slips : List ℕ) (t : Totals) (r : Planned) (oc′ oe′ nc′ ne′ slips′ : List ℕ) : Type 0 where
+  pub answer : r ≡ listedBy (length slips / 5) t
+  pub boxes : Kept (isListed r) oc oe nc ne oc′ oe′ nc′ ne′
+  pub slips-after : slips′ ≡ cond (isListed r) slips (zeros slips)

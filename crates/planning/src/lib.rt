@@ -1,0 +1,10 @@
+// Layer 3: what still needs solving, given an old and a new edition.
+pub mod behind; // the record behind a board
+pub mod boards; // every board's state and record, from one reading
+pub mod cards; // the words of a card that planning reads
+pub mod editions; // both editions read
+pub mod numbers; // blocks of five numbers stored into lent slices
+pub mod plan; // totals and slips
+pub mod search; // the first board with a deal
+pub mod state; // the state of a board
+pub mod state_at; // the state of a board, by position

@@ -1,0 +1,189 @@
+// The plan: how many boards are in each state, and a slip for each board to solve.
+ghost use mathlib.Core.Path.{_≡_};
+ghost use mathlib.Core.Bool.{cond, false};
+ghost use Prim.Native.Nat.{_+_, _*_, _≤_, _<_, _^_};
+ghost use lib.ListN.{length};
+ghost use Rattle.tables.specs.Letters.{builtIn};
+ghost use Rattle.reader.specs.Store.{put, putAll};
+ghost use Rattle.planning.specs.Cards.{cardHere, cardsIn};
+ghost use Rattle.planning.specs.States.{judged, isSolve};
+ghost use Rattle.planning.specs.Slips.{slipOf, slipsOf, totalsOf};
+ghost use Rattle.planning.specs.Plans.{IsPlanned};
+ghost use Rattle.planning.specs.Steps.{counted, Within, Kept, PlanFinished};
+use crate::cards::deal_at;
+use crate::editions::Editions;
+use crate::editions::PlanRefusal;
+use crate::editions::read_both;
+use crate::numbers::put_five;
+use crate::numbers::zero_numbers;
+use crate::state::BoardState;
+use crate::state::state_number;
+use crate::state::state_of;
+use reader::deal::hands_of_words;
+use reader::store::zero;
+use tables::letters::Conventions;
+use tables::letters::built_in;
+
+pub struct Totals {
+    pub boards: u64,
+    pub blank: u64,
+    pub own: u64,
+    pub old: u64,
+    pub near: u64,
+    pub twin: u64,
+    pub solve: u64,
+}
+
+// Listed with the totals, or refused, which leaves all lent words zero.
+pub enum Planned {
+    Listed(Totals),
+    Refused(PlanRefusal),
+}
+
+// Totals with one board more.
+fn counted(mut t: Totals, s: BoardState) -> Totals
+    requires { ⌜ Within (2 ^ 60) t ⌝ }
+    ensures { λ r. ⌜ r ≡ counted t s ⌝ }
+{
+    t.boards += 1;
+    match s {
+        BoardState::Blank => t.blank += 1,
+        BoardState::Own => t.own += 1,
+        BoardState::Old(_) => t.old += 1,
+        BoardState::Near(_) => t.near += 1,
+        BoardState::Twin(_) => t.twin += 1,
+        BoardState::Solve => t.solve += 1,
+    }
+    t
+}
+
+// The slip of the board at index k: its position from 1 and its hands.
+fn slip_of(cards: &[u32], k: usize) -> [u64; 5]
+    requires { ⌜ 64 * k + 64 ≤ length (now cards) ⌝ }
+    ensures { λ r. ⌜ r ≡ slipOf (k + 1) (cardHere k (now (cards .entry))) ⌝ }
+{
+    let h = hands_of_words(deal_at(cards, k));
+    [(k + 1) as u64, h.north, h.east, h.south, h.west]
+}
+
+// Stores the slip of the board at index k as the n-th, where the board is to be solved.
+fn put_slip(slips: &mut [u64], n: usize, cards: &[u32], k: usize, s: BoardState)
+    requires { ⌜ 64 * k + 64 ≤ length (now cards) ⌝ }
+    ensures { λ _. ⌜ now (slips .exit) ≡ cond (isSolve s) (put 5 (now (slips .entry)) n (slipOf (k + 1) (cardHere k (now (cards .entry))))) (now (slips .entry)) ⌝ }
+{
+    if state_number(s) == 5 {
+        put_five(slips, n, slip_of(cards, k));
+    }
+}
+
+// The totals of all boards of the new edition, and their slips.
+fn list_boards(
+    old_cards: &[u32],
+    olds: usize,
+    new_cards: &[u32],
+    news: usize,
+    slips: &mut [u64],
+) -> Totals
+    requires { ⌜ (64 * olds ≤ length (now «old_cards»)) × (64 * news ≤ length (now «new_cards»)) ⌝ }
+    ensures { λ r. ⌜ (r ≡ totalsOf (judged (cardsIn olds (now («old_cards» .entry))) (cardsIn news (now («new_cards» .entry))))) × (now (slips .exit) ≡ putAll 5 (now (slips .entry)) 0 (slipsOf (judged (cardsIn olds (now («old_cards» .entry))) (cardsIn news (now («new_cards» .entry)))))) ⌝ }
+{
+    let mut t = Totals {
+        boards: 0,
+        blank: 0,
+        own: 0,
+        old: 0,
+        near: 0,
+        twin: 0,
+        solve: 0,
+    };
+    let mut k = 0;
+    while k < news {
+        let s = state_of(old_cards, olds, new_cards, news, k);
+        put_slip(slips, t.solve as usize, new_cards, k, s);
+        t = counted(t, s);
+        k += 1;
+    }
+    t
+}
+
+// Sets all cards and entries to 0.
+fn zero_boxes(
+    old_cards: &mut [u32],
+    old_entries: &mut [u32],
+    new_cards: &mut [u32],
+    new_entries: &mut [u32],
+)
+    ensures { λ _. ⌜ Kept false (now («old_cards» .entry)) (now («old_entries» .entry)) (now («new_cards» .entry)) (now («new_entries» .entry)) (now («old_cards» .exit)) (now («old_entries» .exit)) (now («new_cards» .exit)) (now («new_entries» .exit)) ⌝ }
+{
+    zero(old_cards);
+    zero(old_entries);
+    zero(new_cards);
+    zero(new_entries);
+}
+
+// The answer for the totals; all lent words are set to 0 where it is a refusal.
+fn finish_plan(
+    old_cards: &mut [u32],
+    old_entries: &mut [u32],
+    new_cards: &mut [u32],
+    new_entries: &mut [u32],
+    slips: &mut [u64],
+    t: Totals,
+) -> Planned
+    ensures { λ r. ⌜ PlanFinished (now («old_cards» .entry)) (now («old_entries» .entry)) (now («new_cards» .entry)) (now («new_entries» .entry)) (now (slips .entry)) t r (now («old_cards» .exit)) (now («old_entries» .exit)) (now («new_cards» .exit)) (now («new_entries» .exit)) (now (slips .exit)) ⌝ }
+{
+    let solve = t.solve;
+    if ((slips.len() / 5) as u64) < solve {
+        zero_boxes(old_cards, old_entries, new_cards, new_entries);
+        zero_numbers(slips);
+        return Planned::Refused(PlanRefusal::SlipsShort(solve));
+    }
+    Planned::Listed(t)
+}
+
+// Plans by the given conventions.
+pub fn plan_with(
+    c: Conventions,
+    old: &[u8],
+    new: &[u8],
+    old_cards: &mut [u32],
+    old_entries: &mut [u32],
+    new_cards: &mut [u32],
+    new_entries: &mut [u32],
+    slips: &mut [u64],
+) -> Planned
+    ensures { λ r. ⌜ IsPlanned c (now (old .entry)) (now (new .entry)) (now («old_cards» .entry)) (now («old_entries» .entry)) (now («new_cards» .entry)) (now («new_entries» .entry)) (now (slips .entry)) (now («old_cards» .exit)) (now («old_entries» .exit)) (now («new_cards» .exit)) (now («new_entries» .exit)) (now (slips .exit)) r ⌝ }
+{
+    zero_numbers(slips);
+    match read_both(c, old, new, old_cards, old_entries, new_cards, new_entries) {
+        Editions::Refused(f) => Planned::Refused(f),
+        Editions::Both(olds, news) => {
+            let t = list_boards(old_cards, olds as usize, new_cards, news as usize, slips);
+            finish_plan(old_cards, old_entries, new_cards, new_entries, slips, t)
+        }
+    }
+}
+
+// Plans a new edition, given an old one: what is in which state, and a slip for each board to solve.
+pub fn plan(
+    old: &[u8],
+    new: &[u8],
+    old_cards: &mut [u32],
+    old_entries: &mut [u32],
+    new_cards: &mut [u32],
+    new_entries: &mut [u32],
+    slips: &mut [u64],
+) -> Planned
+    ensures { λ r. ⌜ IsPlanned builtIn (now (old .entry)) (now (new .entry)) (now («old_cards» .entry)) (now («old_entries» .entry)) (now («new_cards» .entry)) (now («new_entries» .entry)) (now (slips .entry)) (now («old_cards» .exit)) (now («old_entries» .exit)) (now («new_cards» .exit)) (now («new_entries» .exit)) (now (slips .exit)) r ⌝ }
+{
+    plan_with(
+        built_in(),
+        old,
+        new,
+        old_cards,
+        old_entries,
+        new_cards,
+        new_entries,
+        slips,
+    )
+}
