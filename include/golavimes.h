@@ -3,8 +3,12 @@
  *
  * Link with libgolavimes.a, which `rt staticlib golavimes` writes to
  * target/staticlib. It is for x86-64 Linux. docs/FORMAT.md says what every
- * answer means. Today the reading of a text and the five functions on
- * double-dummy tables are here.
+ * answer means. Here are
+ *   - reading: golavimes_read;
+ *   - planning, what is left to be solved in a new edition when an old one is
+ *     at hand: golavimes_plan, golavimes_boards, golavimes_state,
+ *     golavimes_record_behind;
+ *   - tables: five functions on double-dummy tables.
  *
  * Every function
  *   - returns the refusal number, 0 for none, and puts it into answer[0] too;
@@ -20,13 +24,16 @@
  *     is read or written there, so any pointer that is not null will do.
  *   - The length of a text, a value or a page is a number of bytes; that of
  *     cards or entries is a number of uint32_t words, not of bytes and not of
- *     cards or entries. That many are there. A table has exactly 20 bytes, an
- *     answer 3, 4 or 5 numbers as declared.
- *   - An answer is aligned as uint64_t is; cards and entries as uint32_t is,
- *     also where their length is 0. Bytes need no alignment.
- *   - What is lent to be written (page, table, cards, entries, answer) overlaps
- *     nothing else that is lent to the same call. No other thread reads or
- *     writes it, or writes what is lent to be read, until the call returns.
+ *     cards or entries; that of slips or boards is a number of uint64_t numbers,
+ *     not of bytes and not of slips or boards. That many are there. A table has
+ *     exactly 20 bytes, an answer 3 to 10 numbers as declared.
+ *   - Answers, slips and boards are aligned as uint64_t is; cards and entries as
+ *     uint32_t is, also where their length is 0. Bytes need no alignment.
+ *   - What is lent to be written (page, table, cards, entries, slips, boards,
+ *     answer) overlaps nothing else that is lent to the same call, so the boxes
+ *     of the old and of the new edition are apart. The two texts are only read
+ *     and may be the same memory. No other thread reads or writes what is lent
+ *     to be written, or writes what is lent to be read, until the call returns.
  *
  * How Rattle's types are passed: a slice, `&[u8]` or `&mut [u32]`, is a pointer
  * and then its length, in elements, in two parameters; an array, `&[u8; 20]` or
@@ -38,11 +45,11 @@
  *
  * The answer array
  *   answer[0]  the refusal number, 0 for none
- *   answer[1]  the edition that a refusal is about: always 0 here
+ *   answer[1]  the edition that the refusal is about: planning gives 1 for the
+ *              old one and 2 for the new one with refusals 1 to 3; else 0
  *   answer[2]  the number that the refusal carries, 0 without a refusal
- *   answer[3]  (writers of tables) the bytes written, 0 after a refusal
- *   answer[3]  (golavimes_read) the boards, 0 after a refusal
- *   answer[4]  (golavimes_read) the entries, 0 after a refusal
+ *   answer[3]  and what follows: what the function answers, as said at each
+ *              function; 0 after a refusal
  */
 #ifndef GOLAVIMES_H
 #define GOLAVIMES_H
@@ -55,11 +62,12 @@ extern "C" {
 #endif
 
 /* Refusals, and what answer[2] then carries. Each is given on its condition
- * and on no other. Numbers 4 to 6 are not used by the functions of today. */
+ * and on no other. The functions here do not use 5 and 6. */
 enum {
     GOLAVIMES_OVERLONG = 1,      /* the text has more than 16777215 bytes; its length */
     GOLAVIMES_BOX_FULL = 2,      /* it has more boards than cards were lent; all its boards */
     GOLAVIMES_LIST_FULL = 3,     /* it has more entries than were lent; all its entries */
+    GOLAVIMES_SLIPS_SHORT = 4,   /* fewer slips were lent than there are deals to solve; those */
     GOLAVIMES_PAGE_FULL = 7,     /* the text is longer than the page; its length in bytes */
     GOLAVIMES_LENGTH = 8,        /* the trimmed value is not 20 characters; how many it is */
     GOLAVIMES_DIGIT = 9,         /* a character is no digit; the index of the first, from 0 */
@@ -79,10 +87,65 @@ enum {
     GOLAVIMES_ROWS_PAGE = 180 /* 160 with cells below 100, 140 with cells below 10 */
 };
 
-/* The uint32_t words of a card and of an entry. */
+/* The most bytes that a text may have. */
+enum {
+    GOLAVIMES_TEXT_LIMIT = 16777215
+};
+
+/* The uint32_t words of a card and of an entry, the uint64_t numbers of a slip
+ * and of a board in golavimes_boards. */
 enum {
     GOLAVIMES_CARD_WORDS = 64,
-    GOLAVIMES_ENTRY_WORDS = 4
+    GOLAVIMES_ENTRY_WORDS = 4,
+    GOLAVIMES_SLIP_NUMBERS = 5,
+    GOLAVIMES_BOARD_NUMBERS = 5
+};
+
+/* The words of a card, from 0. Seats N, E, S, W are 0 to 3, none is 4. Suits C,
+ * D, H, S are 0 to 3. Words 39 to 50 are the place of an entry plus 1, 0 for
+ * none; the entry is a tag value. Words 62 and 63 are 0. */
+enum {
+    GOLAVIMES_WORD_FIRST_ENTRY = 0,
+    GOLAVIMES_WORD_ENTRIES = 1,
+    GOLAVIMES_WORD_HAS_NUMBER = 2,   /* 1 if there is a board number */
+    GOLAVIMES_WORD_NUMBER = 3,
+    GOLAVIMES_WORD_DEALER = 4,
+    GOLAVIMES_WORD_VULNERABLE = 5,   /* 0 None, 1 NS, 2 EW, 3 All */
+    GOLAVIMES_WORD_DECLARER = 6,
+    GOLAVIMES_WORD_HAS_RESULT = 7,   /* 1 if there is a result */
+    GOLAVIMES_WORD_RESULT = 8,       /* the result plus 128 */
+    GOLAVIMES_WORD_DEAL = 9,         /* 0 none, 1 parsed, 2 kept unparsed */
+    GOLAVIMES_WORD_HANDS = 10,       /* N, E, S, W, two words each, the low one first */
+    GOLAVIMES_WORD_CELLS = 18,       /* 20 words, in the order of the cells */
+    GOLAVIMES_WORD_TABLE = 38,       /* 0 none, 1 DoubleDummyTricks, 2 OptimumResultTable */
+    GOLAVIMES_WORD_BOARD_ID = 39,
+    GOLAVIMES_WORD_EVENT = 40,
+    GOLAVIMES_WORD_SITE = 41,
+    GOLAVIMES_WORD_DATE = 42,
+    GOLAVIMES_WORD_CONTRACT = 43,
+    GOLAVIMES_WORD_NAMES = 44,       /* of the players N, E, S, W, a word each */
+    GOLAVIMES_WORD_UNPARSED_DEAL = 48,
+    GOLAVIMES_WORD_OPTIMUM_SCORE = 49,
+    GOLAVIMES_WORD_PAR_CONTRACT = 50,
+    GOLAVIMES_WORD_AUCTION = 51,     /* its first entry plus 1; 52 its entries, 53 its dealer, */
+                                     /* 54 its end: 0 none, 1 +, 2 * */
+    GOLAVIMES_WORD_PLAY = 55,        /* its first entry plus 1; 56 its entries, 57 its leader, */
+                                     /* 58 its end, 59 its trump suit, 4 for none */
+    GOLAVIMES_WORD_RECORD_START = 60, /* the record's first byte in the text */
+    GOLAVIMES_WORD_RECORD_END = 61    /* the byte behind its last */
+};
+
+/* The kinds of an entry, its word 0. But for a trick, word 1 is the start in the
+ * text, word 2 the length in bytes, and word 3 what is said here, else 0. */
+enum {
+    GOLAVIMES_KIND_NAME = 1,       /* of a tag; its value is the next entry */
+    GOLAVIMES_KIND_VALUE = 2,
+    GOLAVIMES_KIND_DIRECTIVE = 3,  /* the tags before it in its record */
+    GOLAVIMES_KIND_COMMENTARY = 4, /* the tags before it in its record */
+    GOLAVIMES_KIND_DATA = 5,       /* a data line: 1 auction, 2 play, 3 optimum */
+    GOLAVIMES_KIND_CALL = 6,       /* the code of the call */
+    GOLAVIMES_KIND_ANNOTATION = 7, /* of the call before it */
+    GOLAVIMES_KIND_TRICK = 8       /* leader, winner or 4, four slots, a byte each, lowest first */
 };
 
 /*
@@ -96,6 +159,14 @@ enum {
  * Card k, from 0, is the 64 words from cards[64 * k] on; entry k is the 4 words
  * from entries[4 * k] on. Card words that name an entry hold its k plus 1, and
  * 0 for none; word 0, where the board's entries begin, holds k itself.
+ *
+ * A hand is a number of 52 bits: bit 13 * suit + rank is 1 for each of its
+ * cards, with suits C, D, H, S from 0, and rank 0 for the 2, up to 12 for the
+ * ace. North's is card[10] + ((uint64_t)card[11] << 32); East's, South's and
+ * West's follow. A card's words 10 to 17 hold the last deal that parsed even
+ * where word 9 is 2.
+ *
+ * answer[3] is the boards of the text, answer[4] their entries.
  *
  * cards_length and entries_length are words, so that 64 * b words lend b cards
  * and 4 * m words lend m entries. Words left over at the end, too few for a card
@@ -120,7 +191,12 @@ enum {
  *     entries, m;
  *   - then with 64 * b and 4 * m words, which is taken.
  * Each call reads the whole text. A host that lends a guess first often needs
- * one call alone. A text of n bytes has at most n boards.
+ * one call alone.
+ *
+ * A text of n bytes has at most n boards and at most 4 * n entries; both are
+ * proved. So 64 * n words of cards and 16 * n words of entries are never too
+ * few. They take 320 bytes of memory for each byte of the text, far more than
+ * real collections need, so this is for short texts; else ask.
  */
 uint64_t golavimes_read(const uint8_t *text, size_t text_length, uint32_t *cards,
                         size_t cards_length, uint32_t *entries, size_t entries_length,
@@ -154,9 +230,10 @@ uint64_t golavimes_read(const uint8_t *text, size_t text_length, uint32_t *cards
  *     } else {
  *         for (k = 0; k < read[3]; k++) {
  *             const uint32_t *card = cards + GOLAVIMES_CARD_WORDS * k;
- *             printf("board %lu:", (unsigned long)card[3]);
- *             if (card[40] != 0) {
- *                 const uint32_t *event = entries + GOLAVIMES_ENTRY_WORDS * (card[40] - 1);
+ *             uint32_t event_place = card[GOLAVIMES_WORD_EVENT];
+ *             printf("board %lu:", (unsigned long)card[GOLAVIMES_WORD_NUMBER]);
+ *             if (event_place != 0) {
+ *                 const uint32_t *event = entries + GOLAVIMES_ENTRY_WORDS * (event_place - 1);
  *                 printf(" %.*s", (int)event[2], (const char *)text + event[1]);
  *             }
  *             printf("\n");
@@ -167,11 +244,181 @@ uint64_t golavimes_read(const uint8_t *text, size_t text_length, uint32_t *cards
  */
 
 /*
+ * Planning. An old and a new edition of a collection go in as text. Each board
+ * of the new edition gets a state that says where its double-dummy table comes
+ * from, and the deals that still need solving are listed.
+ *
+ * A board has a deal if word 9 of its card is 1 and each hand has 13 cards; no
+ * other board has one. Deals are the same if the four hands are. A board has a
+ * table if word 38 is not 0.
+ *
+ * The state is the first that fits:
+ *   blank  the board has no deal
+ *   own    it has a table
+ *   old    a board of the old edition has the same deal and a table
+ *   near   a board of the new edition has the same deal and a table
+ *   twin   an earlier board of the new edition has the same deal
+ *   solve  none of these
+ * `from` is the first board that makes it old, near or twin, counted from 1 in
+ * its own edition; 0 for blank, own and solve. That of near may stand behind the
+ * board; that of twin is always a solve board.
+ *
+ * A deal is listed exactly when a board of the new edition has it and no board
+ * of either edition that has it has a table; and it is listed once.
+ *
+ * The record behind a board is a part of one of the texts: the record of board
+ * `from` of the old edition for old, that of board `from` of the new edition for
+ * near and twin, else the board's own. A record is never empty.
+ *
+ * Every planning function takes the same two texts and four boxes: cards and
+ * entries of the old edition, cards and entries of the new one, in words. They
+ * are written as golavimes_read writes them, each for its text, and nothing that
+ * stood in them is believed: each call reads both texts anew.
+ *
+ * Refusals, in the order tested:
+ *   1, 2, 3  of the old edition, as golavimes_read gives them; answer[1] is 1
+ *   1, 2, 3  of the new edition; answer[1] is 2
+ *   4        golavimes_plan alone: fewer slips are lent than boards have the
+ *            state solve; answer[1] is 0 and answer[2] is solve
+ * After a refusal every word of the four boxes, every slip and every number of
+ * boards is 0, also those of the edition that the refusal is not about. After
+ * success what is not used is 0.
+ *
+ * How much to lend. The bounds of golavimes_read hold for each edition's boxes,
+ * and slips are never more than the new edition's boards. A host that does not
+ * know the sizes asks: it lends nothing at first, and after each refusal 2, 3 or
+ * 4 lends the carried number to what the refusal is about, 64 words a card, 4 an
+ * entry, 5 numbers a slip. What was lent so is never too little again, so the
+ * sixth call at the latest is taken, unless a text is refused with 1.
+ */
+
+/* The editions, in answer[1] and for the record behind a board. */
+enum {
+    GOLAVIMES_EDITION_NONE = 0,
+    GOLAVIMES_EDITION_OLD = 1,
+    GOLAVIMES_EDITION_NEW = 2
+};
+
+/* The states. */
+enum {
+    GOLAVIMES_STATE_BLANK = 0,
+    GOLAVIMES_STATE_OWN = 1,
+    GOLAVIMES_STATE_OLD = 2,
+    GOLAVIMES_STATE_NEAR = 3,
+    GOLAVIMES_STATE_TWIN = 4,
+    GOLAVIMES_STATE_SOLVE = 5
+};
+
+/*
+ * The totals, and the list of deals to solve.
+ *
+ * answer[3] is the boards of the new edition. Those of each state follow:
+ * answer[4] blank, [5] own, [6] old, [7] near, [8] twin, [9] solve; so
+ * answer[4 + s] is that of state s, and answer[3] is the sum of the six.
+ *
+ * slips_length is a number of uint64_t, so that 5 * s lend s slips; numbers left
+ * over at the end count as none and are zeroed too. Slip k, from 0, is the 5
+ * numbers from slips[5 * k] on: the position of a solve board in the new
+ * edition, from 1, and its hands N, E, S, W, with the bits said above. Slips
+ * stand in the order of the boards, answer[9] of them.
+ */
+uint64_t golavimes_plan(const uint8_t *old_text, size_t old_text_length,
+                        const uint8_t *new_text, size_t new_text_length,
+                        uint32_t *old_cards, size_t old_cards_length,
+                        uint32_t *old_entries, size_t old_entries_length,
+                        uint32_t *new_cards, size_t new_cards_length,
+                        uint32_t *new_entries, size_t new_entries_length,
+                        uint64_t *slips, size_t slips_length, uint64_t answer[10]);
+
+/*
+ * All boards of the new edition at once.
+ *
+ * answer[3] is the boards of the new edition. boards_length is a number of
+ * uint64_t, so that 5 * b lend b boards. Board k, from 0, is the 5 numbers from
+ * boards[5 * k] on: its state, its `from`, and the record behind it as edition
+ * (1 old, 2 new), start and end, places in that edition's text; the end is the
+ * byte behind its last.
+ *
+ * Too few numbers are no refusal: as many boards are written as fit whole, the
+ * first ones, and zeros behind them. Compare answer[3] with what was lent.
+ */
+uint64_t golavimes_boards(const uint8_t *old_text, size_t old_text_length,
+                          const uint8_t *new_text, size_t new_text_length,
+                          uint32_t *old_cards, size_t old_cards_length,
+                          uint32_t *old_entries, size_t old_entries_length,
+                          uint32_t *new_cards, size_t new_cards_length,
+                          uint32_t *new_entries, size_t new_entries_length,
+                          uint64_t *boards, size_t boards_length, uint64_t answer[4]);
+
+/*
+ * One board of the new edition by its position, from 1. answer[3] is its state,
+ * answer[4] its `from`. At a position outside 1 to the number of boards, which
+ * is no refusal, both are 0.
+ *
+ * A call reads both texts; for many boards golavimes_boards is the quicker way.
+ */
+uint64_t golavimes_state(const uint8_t *old_text, size_t old_text_length,
+                         const uint8_t *new_text, size_t new_text_length,
+                         uint32_t *old_cards, size_t old_cards_length,
+                         uint32_t *old_entries, size_t old_entries_length,
+                         uint32_t *new_cards, size_t new_cards_length,
+                         uint32_t *new_entries, size_t new_entries_length,
+                         uint64_t position, uint64_t answer[5]);
+
+/*
+ * The record behind one board of the new edition by its position, from 1.
+ * answer[3] is its edition (1 old, 2 new), answer[4] its start in that edition's
+ * text, answer[5] its length in bytes. At a position outside 1 to the number of
+ * boards, which is no refusal, all three are 0.
+ */
+uint64_t golavimes_record_behind(const uint8_t *old_text, size_t old_text_length,
+                                 const uint8_t *new_text, size_t new_text_length,
+                                 uint32_t *old_cards, size_t old_cards_length,
+                                 uint32_t *old_entries, size_t old_entries_length,
+                                 uint32_t *new_cards, size_t new_cards_length,
+                                 uint32_t *new_entries, size_t new_entries_length,
+                                 uint64_t position, uint64_t answer[6]);
+
+/*
+ * Example, in C: each deal to solve is handed to a solver. The texts are short,
+ * so their bounds are lent at once; n and m are their lengths. (One more word is
+ * asked of malloc, since it may give a null pointer for 0 bytes.)
+ *
+ *     uint64_t plan[10], k;
+ *     uint32_t *old_cards = malloc((64 * n + 1) * sizeof(uint32_t));
+ *     uint32_t *old_entries = malloc((16 * n + 1) * sizeof(uint32_t));
+ *     uint32_t *new_cards = malloc((64 * m + 1) * sizeof(uint32_t));
+ *     uint32_t *new_entries = malloc((16 * m + 1) * sizeof(uint32_t));
+ *     uint64_t *slips = malloc((5 * m + 1) * sizeof(uint64_t));
+ *     if (!old_cards || !old_entries || !new_cards || !new_entries || !slips) {
+ *         printf("no memory\n");
+ *     } else if (golavimes_plan(old_text, n, new_text, m, old_cards, 64 * n, old_entries, 16 * n,
+ *                               new_cards, 64 * m, new_entries, 16 * m, slips, 5 * m, plan)
+ *                != 0) {
+ *         printf("refusal %d, edition %d, %lu\n", (int)plan[0], (int)plan[1],
+ *                (unsigned long)plan[2]);
+ *     } else {
+ *         for (k = 0; k < plan[4 + GOLAVIMES_STATE_SOLVE]; k++) {
+ *             const uint64_t *slip = slips + GOLAVIMES_SLIP_NUMBERS * k;
+ *             solve(slip[0], slip[1], slip[2], slip[3], slip[4]);
+ *         }
+ *     }
+ *     free(old_cards);
+ *     free(old_entries);
+ *     free(new_cards);
+ *     free(new_entries);
+ *     free(slips);
+ *
+ * examples/host is a whole program, with texts of any length and a real solver.
+ */
+
+/*
  * Writers of tables. They write the text of a table to the start of the page
  * and zeros behind it, to the page's end. Where the page is shorter than the
  * text, the whole page is zeroed, refusal 7 is given, and answer[2] is the
  * length that is needed; a page of that length is enough. The text does not end
- * in a zero byte: its length is answer[3]. Cells may hold any byte.
+ * in a zero byte: its length is answer[3], 0 after a refusal. Cells may hold any
+ * byte.
  */
 
 /* The value of a DoubleDummyTricks tag: 20 digits, 0 to 9 and a to d. A cell

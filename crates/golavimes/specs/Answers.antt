@@ -1,6 +1,6 @@
 -- What the C functions hand back. An answer array is: refusal number (0 none), edition (0 none), carried number, then the values, which
 -- are 0 after a refusal. Each function also returns the refusal number.
-use Prim.Native.Nat.{ℕ}
+use Prim.Native.Nat.{ℕ, _-_}
 use mathlib.Core.Path.{_≡_}
 use mathlib.Core.List.{List, [], _∷_}
 use lib.ListN.{length, getD}
@@ -18,6 +18,20 @@ use Rattle.reader.specs.declared.edition.Reading.{Reading}
 use Rattle.reader.specs.declared.edition.Reading.the-variants.{Taken}
 use Rattle.reader.specs.declared.edition.Reading.the-variants as edition
 use Rattle.reader.specs.Editions.{readNumber, readCarries, readingOf, lentAfter, cardsOf, entriesOf}
+use Rattle.planning.specs.declared.state.BoardState.{BoardState}
+use Rattle.planning.specs.declared.behind.Behind.{Behind}
+use Rattle.planning.specs.declared.behind.Behind.the-variants.{InOld, InNew, Nothing}
+use Rattle.planning.specs.declared.editions.PlanRefusal.{PlanRefusal}
+use Rattle.planning.specs.declared.editions.Editions.{Editions}
+use Rattle.planning.specs.declared.editions.Editions.the-variants.{Both}
+use Rattle.planning.specs.declared.editions.Editions.the-variants as editions
+use Rattle.planning.specs.declared.plan.Planned.{Planned}
+use Rattle.planning.specs.declared.plan.Planned.the-variants.{Listed}
+use Rattle.planning.specs.declared.plan.Planned.the-variants as planned
+use Rattle.planning.specs.States.{stateNumber, fromOf}
+use Rattle.planning.specs.Slips.{slipsOf}
+use Rattle.planning.specs.Plans.{planNumber, planEdition, planCarries, editionsOf, areBoth, plannedOf, isListed, lent, boardsOf, BoxesAfter, stateBy, behindBy, boardsAfter}
+use Rattle.golavimes.specs.declared.Head.{Head}
 
 -- A writer's answer: the value is the bytes written.
 abbrev pub writtenNumbers : Written → List ℕ
@@ -33,6 +47,43 @@ decodedNumbers (decoded.Refused f) = refusalNumber f ∷ 0 ∷ refusalCarries f 
 abbrev pub readingNumbers : Reading → List ℕ
 readingNumbers (Taken boards entries) = 0 ∷ 0 ∷ 0 ∷ boards ∷ entries ∷ []
 readingNumbers (edition.Refused f) = readNumber f ∷ 0 ∷ readCarries f ∷ 0 ∷ 0 ∷ []
+
+-- The first three numbers of planning's answers: refusal, edition (0 none, 1 old, 2 new), carried number.
+abbrev pub refusedHead : PlanRefusal → Head
+refusedHead f = record { refusal = planNumber f; edition = planEdition f; carried = planCarries f }
+
+abbrev pub editionsHead : Editions → Head
+editionsHead (Both m n) = record { refusal = 0; edition = 0; carried = 0 }
+editionsHead (editions.Refused f) = refusedHead f
+
+abbrev pub headThen : Head → List ℕ → List ℕ
+headThen h values = h .refusal ∷ h .edition ∷ h .carried ∷ values
+
+-- A plan's answer: the totals.
+abbrev pub planNumbers : Planned → List ℕ
+planNumbers (Listed t) = 0 ∷ 0 ∷ 0 ∷ t .boards ∷ t .blank ∷ t .own ∷ t .old ∷ t .near ∷ t .twin ∷ t .solve ∷ []
+planNumbers (planned.Refused f) = headThen (refusedHead f) (0 ∷ 0 ∷ 0 ∷ 0 ∷ 0 ∷ 0 ∷ 0 ∷ [])
+
+-- A state's answer: its number (0 blank to 5 solve) and its source board.
+abbrev pub stateNumbers : Editions → BoardState → List ℕ
+stateNumbers r s = headThen (editionsHead r) (stateNumber s ∷ fromOf s ∷ [])
+
+-- A record's answer: the edition of the part (0 empty, 1 old, 2 new), its start and its length.
+abbrev pub partNumbers : Behind → List ℕ
+partNumbers (InOld a e) = 1 ∷ a ∷ (e - a) ∷ []
+partNumbers (InNew a e) = 2 ∷ a ∷ (e - a) ∷ []
+partNumbers Nothing = 0 ∷ 0 ∷ 0 ∷ []
+
+abbrev pub behindNumbers : Editions → Behind → List ℕ
+behindNumbers r b = headThen (editionsHead r) (partNumbers b)
+
+-- The boards of the new edition.
+abbrev pub boardsIn : Editions → ℕ
+boardsIn (Both m n) = n
+boardsIn (editions.Refused f) = 0
+
+abbrev pub boardsNumbers : Editions → List ℕ
+boardsNumbers r = headThen (editionsHead r) (boardsIn r ∷ [])
 
 -- bs is written on a lent page, whatever the page and the answer held.
 pub record WroteOut (bs page page′ answer′ : List ℕ) (r : ℕ) : Type 0 where
@@ -51,4 +102,30 @@ pub record EditionOut (c : Conventions) (text cards entries cards′ entries′ 
   pub told : answer′ ≡ readingNumbers (readingOf c text (length cards) (length entries))
   pub cards-after : cards′ ≡ lentAfter (readingOf c text (length cards) (length entries)) (length cards) (cardsOf c text)
   pub entries-after : entries′ ≡ lentAfter (readingOf c text (length cards) (length entries)) (length entries) (entriesOf c text)
+  pub returned : r ≡ getD answer′ 0 0
+
+-- Two editions are planned, whatever was lent and whatever it held.
+pub record PlanOut (c : Conventions) (old new oc oe nc ne slips oc′ oe′ nc′ ne′ slips′ answer′ : List ℕ) (r : ℕ) : Type 0 where
+  pub told : answer′ ≡ planNumbers (plannedOf c old new (length oc) (length oe) (length nc) (length ne) (length slips))
+  pub boxes : BoxesAfter c (isListed (plannedOf c old new (length oc) (length oe) (length nc) (length ne) (length slips))) old new oc oe nc ne oc′ oe′ nc′ ne′
+  pub slips-after : slips′ ≡ lent (isListed (plannedOf c old new (length oc) (length oe) (length nc) (length ne) (length slips))) (length slips) (slipsOf (boardsOf c old new))
+  pub returned : r ≡ getD answer′ 0 0
+
+-- The state at a position.
+pub record StateOut (c : Conventions) (old new oc oe nc ne oc′ oe′ nc′ ne′ : List ℕ) (p : ℕ) (answer′ : List ℕ) (r : ℕ) : Type 0 where
+  pub told : answer′ ≡ stateNumbers (editionsOf c old new (length oc) (length oe) (length nc) (length ne)) (stateBy (editionsOf c old new (length oc) (length oe) (length nc) (length ne)) (boardsOf c old new) p)
+  pub boxes : BoxesAfter c (areBoth (editionsOf c old new (length oc) (length oe) (length nc) (length ne))) old new oc oe nc ne oc′ oe′ nc′ ne′
+  pub returned : r ≡ getD answer′ 0 0
+
+-- The record behind the board at a position.
+pub record BehindOut (c : Conventions) (old new oc oe nc ne oc′ oe′ nc′ ne′ : List ℕ) (p : ℕ) (answer′ : List ℕ) (r : ℕ) : Type 0 where
+  pub told : answer′ ≡ behindNumbers (editionsOf c old new (length oc) (length oe) (length nc) (length ne)) (behindBy (editionsOf c old new (length oc) (length oe) (length nc) (length ne)) c old new p)
+  pub boxes : BoxesAfter c (areBoth (editionsOf c old new (length oc) (length oe) (length nc) (length ne))) old new oc oe nc ne oc′ oe′ nc′ ne′
+  pub returned : r ≡ getD answer′ 0 0
+
+-- Every board's state and the record behind it.
+pub record BoardsOut (c : Conventions) (old new oc oe nc ne boards oc′ oe′ nc′ ne′ boards′ answer′ : List ℕ) (r : ℕ) : Type 0 where
+  pub told : answer′ ≡ boardsNumbers (editionsOf c old new (length oc) (length oe) (length nc) (length ne))
+  pub boxes : BoxesAfter c (areBoth (editionsOf c old new (length oc) (length oe) (length nc) (length ne))) old new oc oe nc ne oc′ oe′ nc′ ne′
+  pub boards-after : boards′ ≡ boardsAfter (editionsOf c old new (length oc) (length oe) (length nc) (length ne)) c old new (length boards)
   pub returned : r ≡ getD answer′ 0 0

@@ -1,9 +1,15 @@
 // The C boundary: thin functions on byte and number slices over the layers. include/golavimes.h is kept by hand beside this file.
 ghost use mathlib.Core.Path.{_≡_};
+ghost use Prim.Native.Nat.{_-_};
 ghost use lib.ListN.{getD};
-ghost use Rattle.golavimes.specs.Answers.{writtenNumbers, decodedNumbers, readingNumbers, WroteOut, ReadOut, EditionOut};
+ghost use Rattle.golavimes.specs.Answers.{writtenNumbers, decodedNumbers, readingNumbers, refusedHead, editionsHead, planNumbers, stateNumbers, behindNumbers, boardsNumbers, WroteOut, ReadOut, EditionOut, PlanOut, StateOut, BehindOut, BoardsOut};
 ghost use Rattle.tables.specs.Letters.{builtIn};
 ghost use Rattle.tables.specs.Tables.{digitsText, headerText, rowsText, tableOfDigits, tableOfRows};
+use planning::behind::Behind;
+use planning::editions::Editions;
+use planning::editions::PlanRefusal;
+use planning::plan::Planned;
+use planning::state::BoardState;
 use reader::edition::Reading;
 use tables::dd::Decoded;
 use tables::dd::TableRead;
@@ -140,6 +146,219 @@ pub extern "C" fn golavimes_read(
     ensures { λ r. ⌜ EditionOut builtIn (now (text .entry)) (now (cards .entry)) (now (entries .entry)) (now (cards .exit)) (now (entries .exit)) (now (answer .exit)) r ⌝ }
 {
     let numbers = reading_numbers(reader::edition::read_pbn(text, cards, entries));
+    *answer = numbers;
+    numbers[0]
+}
+
+// The first three numbers of planning's answers.
+pub struct Head {
+    pub refusal: u64,
+    pub edition: u64,
+    pub carried: u64,
+}
+
+fn refused_head(f: PlanRefusal) -> Head
+    ensures { λ r. ⌜ r ≡ refusedHead f ⌝ }
+{
+    Head {
+        refusal: planning::editions::plan_number(f),
+        edition: planning::editions::plan_edition(f),
+        carried: planning::editions::plan_carried(f),
+    }
+}
+
+fn editions_head(r: Editions) -> Head
+    ensures { λ h. ⌜ h ≡ editionsHead r ⌝ }
+{
+    match r {
+        Editions::Both(_, _) => Head {
+            refusal: 0,
+            edition: 0,
+            carried: 0,
+        },
+        Editions::Refused(f) => refused_head(f),
+    }
+}
+
+fn plan_numbers(p: Planned) -> [u64; 10]
+    ensures { λ r. ⌜ r ≡ planNumbers p ⌝ }
+{
+    match p {
+        Planned::Listed(t) => [
+            0,
+            0,
+            0,
+            t.boards,
+            t.blank,
+            t.own,
+            t.old,
+            t.near,
+            t.twin,
+            t.solve,
+        ],
+        Planned::Refused(f) => {
+            let h = refused_head(f);
+            [h.refusal, h.edition, h.carried, 0, 0, 0, 0, 0, 0, 0]
+        }
+    }
+}
+
+// Plans two editions: totals, and a slip for each board to solve.
+#[no_mangle]
+pub extern "C" fn golavimes_plan(
+    old: &[u8],
+    new: &[u8],
+    old_cards: &mut [u32],
+    old_entries: &mut [u32],
+    new_cards: &mut [u32],
+    new_entries: &mut [u32],
+    slips: &mut [u64],
+    answer: &mut [u64; 10],
+) -> u64
+    ensures { λ r. ⌜ PlanOut builtIn (now (old .entry)) (now (new .entry)) (now («old_cards» .entry)) (now («old_entries» .entry)) (now («new_cards» .entry)) (now («new_entries» .entry)) (now (slips .entry)) (now («old_cards» .exit)) (now («old_entries» .exit)) (now («new_cards» .exit)) (now («new_entries» .exit)) (now (slips .exit)) (now (answer .exit)) r ⌝ }
+{
+    let p = planning::plan::plan(
+        old,
+        new,
+        old_cards,
+        old_entries,
+        new_cards,
+        new_entries,
+        slips,
+    );
+    let numbers = plan_numbers(p);
+    *answer = numbers;
+    numbers[0]
+}
+
+fn state_numbers(r: Editions, s: BoardState) -> [u64; 5]
+    ensures { λ n. ⌜ n ≡ stateNumbers r s ⌝ }
+{
+    let h = editions_head(r);
+    [
+        h.refusal,
+        h.edition,
+        h.carried,
+        planning::state::state_number(s),
+        planning::state::from_of(s),
+    ]
+}
+
+// The state of the new edition's board at a position from 1.
+#[no_mangle]
+pub extern "C" fn golavimes_state(
+    old: &[u8],
+    new: &[u8],
+    old_cards: &mut [u32],
+    old_entries: &mut [u32],
+    new_cards: &mut [u32],
+    new_entries: &mut [u32],
+    position: u64,
+    answer: &mut [u64; 5],
+) -> u64
+    ensures { λ r. ⌜ StateOut builtIn (now (old .entry)) (now (new .entry)) (now («old_cards» .entry)) (now («old_entries» .entry)) (now («new_cards» .entry)) (now («new_entries» .entry)) (now («old_cards» .exit)) (now («old_entries» .exit)) (now («new_cards» .exit)) (now («new_entries» .exit)) position (now (answer .exit)) r ⌝ }
+{
+    let t = planning::state_at::state_at(
+        old,
+        new,
+        old_cards,
+        old_entries,
+        new_cards,
+        new_entries,
+        position,
+    );
+    let editions = t.editions;
+    let state = t.state;
+    let numbers = state_numbers(editions, state);
+    *answer = numbers;
+    numbers[0]
+}
+
+// e - a, or 0.
+fn less(e: u64, a: u64) -> u64
+    ensures { λ r. ⌜ r ≡ e - a ⌝ }
+{
+    if e <= a {
+        return 0;
+    }
+    e - a
+}
+
+fn behind_numbers(r: Editions, b: Behind) -> [u64; 6]
+    ensures { λ n. ⌜ n ≡ behindNumbers r b ⌝ }
+{
+    let h = editions_head(r);
+    match b {
+        Behind::InOld(a, e) => [h.refusal, h.edition, h.carried, 1, a, less(e, a)],
+        Behind::InNew(a, e) => [h.refusal, h.edition, h.carried, 2, a, less(e, a)],
+        Behind::Nothing => [h.refusal, h.edition, h.carried, 0, 0, 0],
+    }
+}
+
+// The record behind the new edition's board at a position from 1: which edition's, its start and its length.
+#[no_mangle]
+pub extern "C" fn golavimes_record_behind(
+    old: &[u8],
+    new: &[u8],
+    old_cards: &mut [u32],
+    old_entries: &mut [u32],
+    new_cards: &mut [u32],
+    new_entries: &mut [u32],
+    position: u64,
+    answer: &mut [u64; 6],
+) -> u64
+    ensures { λ r. ⌜ BehindOut builtIn (now (old .entry)) (now (new .entry)) (now («old_cards» .entry)) (now («old_entries» .entry)) (now («new_cards» .entry)) (now («new_entries» .entry)) (now («old_cards» .exit)) (now («old_entries» .exit)) (now («new_cards» .exit)) (now («new_entries» .exit)) position (now (answer .exit)) r ⌝ }
+{
+    let t = planning::behind::place_behind(
+        old,
+        new,
+        old_cards,
+        old_entries,
+        new_cards,
+        new_entries,
+        position,
+    );
+    let editions = t.editions;
+    let behind = t.behind;
+    let numbers = behind_numbers(editions, behind);
+    *answer = numbers;
+    numbers[0]
+}
+
+fn boards_numbers(r: Editions) -> [u64; 4]
+    ensures { λ n. ⌜ n ≡ boardsNumbers r ⌝ }
+{
+    let h = editions_head(r);
+    match r {
+        Editions::Both(_, n) => [h.refusal, h.edition, h.carried, n],
+        Editions::Refused(_) => [h.refusal, h.edition, h.carried, 0],
+    }
+}
+
+// Five numbers for each board of the new edition: state, source board, and edition, start and end of the record behind it.
+#[no_mangle]
+pub extern "C" fn golavimes_boards(
+    old: &[u8],
+    new: &[u8],
+    old_cards: &mut [u32],
+    old_entries: &mut [u32],
+    new_cards: &mut [u32],
+    new_entries: &mut [u32],
+    boards: &mut [u64],
+    answer: &mut [u64; 4],
+) -> u64
+    ensures { λ r. ⌜ BoardsOut builtIn (now (old .entry)) (now (new .entry)) (now («old_cards» .entry)) (now («old_entries» .entry)) (now («new_cards» .entry)) (now («new_entries» .entry)) (now (boards .entry)) (now («old_cards» .exit)) (now («old_entries» .exit)) (now («new_cards» .exit)) (now («new_entries» .exit)) (now (boards .exit)) (now (answer .exit)) r ⌝ }
+{
+    let t = planning::boards::plan_boards(
+        old,
+        new,
+        old_cards,
+        old_entries,
+        new_cards,
+        new_entries,
+        boards,
+    );
+    let numbers = boards_numbers(t);
     *answer = numbers;
     numbers[0]
 }
