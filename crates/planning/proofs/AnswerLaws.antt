@@ -31,17 +31,17 @@ use Rattle.planning.specs.Slips.{slipsOf, countOf, totalsOf, behindAt, p
 use Rattle.planning.specs.Plans.{editionsOf, areBoth, lent, boardsOf, listedBy, plannedOf, isListed, BoxesAfter, BothRead, IsPlanned, behindBy, StateTold, BehindTold, PartTold, BoardsTold}
 use Rattle.planning.specs.Steps.{PlanFinished}
 use Rattle.planning.proofs.BothLaws.{CardsThere, both-cards}
-use Rattle.planning.proofs.PlanLaws.{slips-count, slip-blocks}
+use Rattle.planning.proofs.SlipLaws.{slips-count, slips-five}
 
 -- ---- the end of planning
 
 -- Lent words, kept or set to 0.
-kept : (b : Bool) (L : ℕ) {p w w′ : List ℕ} → w ≡ p → length w ≡ L → w′ ≡ cond b w (zeros w) → w′ ≡ cond b p (replicate L 0)
+pub kept : (b : Bool) (L : ℕ) {p w w′ : List ℕ} → w ≡ p → length w ≡ L → w′ ≡ cond b w (zeros w) → w′ ≡ cond b p (replicate L 0)
 kept true L e el f = f ∙ e
 kept false L e el f = f ∙ rw el
 
 -- Where the answer is no refusal, the slips fit.
-listed-fits : (ls : ℕ) (t : Totals) → isListed (listedBy (ls / 5) t) ≡ true → 5 * t .solve ≤ ls
+pub listed-fits : (ls : ℕ) (t : Totals) → isListed (listedBy (ls / 5) t) ≡ true → 5 * t .solve ≤ ls
 listed-fits ls t e = go (ltb (ls / 5) (t .solve)) refl e
   where
     go : (f : Bool) → ltb (ls / 5) (t .solve) ≡ f → isListed (cond f (planned.Refused (SlipsShort (t .solve))) (Listed t)) ≡ true → 5 * t .solve ≤ ls
@@ -54,9 +54,9 @@ slips-end : (b : Bool) (L : ℕ) {xs : List (List ℕ)} {w w′ : List ℕ} → 
 slips-end true L k h el e f = f ∙ e ∙ put-zeros 5 L k (h refl)
 slips-end false L k h el e f = f ∙ rw el
 
-solve-is : (js : List Judged) → totalsOf js .solve ≡ countOf 5 js
+pub solve-sum : (js : List Judged) → totalsOf js .solve ≡ countOf 5 js
 unfolding totalsOf
-solve-is js = refl
+solve-sum js = refl
 
 -- ---- answers, given both editions read
 
@@ -69,7 +69,7 @@ module _ {c : Conventions} {old new oc oe nc ne oc′ oe′ nc′ ne′ : List �
   pub there : {m n : ℕ} → r ≡ Both m n → CardsThere c old oc′ m × CardsThere c new nc′ n
   there e = both-cards (as-told e) (CardsWhole c old) (CardsWhole c new)
 
-  boards-are : {m n : ℕ} → r ≡ Both m n → judged (cardsIn m oc′) (cardsIn n nc′) ≡ boardsOf c old new
+  pub boards-are : {m n : ℕ} → r ≡ Both m n → judged (cardsIn m oc′) (cardsIn n nc′) ≡ boardsOf c old new
   boards-are e = rw (there e .0 .cards, there e .1 .cards)
 
   pub state-told : {m n p : ℕ} {s : BoardState} → r ≡ Both m n → s ≡ stateAt (judged (cardsIn m oc′) (cardsIn n nc′)) p → StateTold c old new oc oe nc ne oc′ oe′ nc′ ne′ p (Both m n) s
@@ -119,7 +119,7 @@ module _ {c : Conventions} {old new oc oe nc ne oc′ oe′ nc′ ne′ : List �
       let et : t ≡ totalsOf js = f .0 ∙ ap totalsOf same in
       let el : length ps ≡ ls = lp ∙ ap length z ∙ length-replicate ls 0 in
       let eq : q ≡ listedBy (ls / 5) t = g .answer ∙ ap (λ (k : ℕ). listedBy (k / 5) t) el in
-      let es : t .solve ≡ length (slipsOf js) = ap (λ (x : Totals). x .solve) et ∙ solve-is js ∙ sym (slips-count js) in
+      let es : t .solve ≡ length (slipsOf js) = ap (λ (x : Totals). x .solve) et ∙ solve-sum js ∙ sym (slips-count js) in
       let ep : ps ≡ putAll 5 (replicate ls 0) 0 (slipsOf js) = f .1 ∙ ap (λ (x : List ℕ). putAll 5 x 0 (slipsOf (judged (cardsIn m oc′) (cardsIn n nc′)))) z ∙ ap (λ (x : List Judged). putAll 5 (replicate ls 0) 0 (slipsOf x)) same in
       let boxes : BoxesAfter c true old new oc oe nc ne oc′ oe′ nc′ ne′ = rw well at (b .boxes) in
       record {
@@ -131,7 +131,7 @@ module _ {c : Conventions} {old new oc oe nc ne oc′ oe′ nc′ ne′ : List �
               new-cards = kept (isListed q) (length nc) (boxes .new-cards) ln (g .boxes .new-cards);
               new-entries = kept (isListed q) (length ne) (boxes .new-entries) lm (g .boxes .new-entries);
             };
-        slips-after = slips-end (isListed q) ls (slip-blocks js) (λ h. omega (arith, listed-fits ls t (sym (ap isListed eq) ∙ h), es)) el ep (g .slips-after);
+        slips-after = slips-end (isListed q) ls (slips-five js) (λ h. omega (arith, listed-fits ls t (sym (ap isListed eq) ∙ h), es)) el ep (g .slips-after);
       }
 
 -- The record behind a board, as a part of a text.

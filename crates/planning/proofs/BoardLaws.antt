@@ -59,7 +59,7 @@ left-none os ns k n box h =
     let e : n - k ≡ 0 = omega arith in
     rw e
 
-judged-count : (os ns : List (List ℕ)) (p : ℕ) (e xs : List (List ℕ)) → length (judgedFrom os ns p e xs) ≡ length xs
+pub judged-count : (os ns : List (List ℕ)) (p : ℕ) (e xs : List (List ℕ)) → length (judgedFrom os ns p e xs) ≡ length xs
 judged-count os ns p e [] = refl
 judged-count os ns p e (x ∷ xs) = rw (judged-count os ns (p + 1) (e ++ (x ∷ [])) xs)
 
@@ -84,10 +84,10 @@ state-drop [] (suc k) = refl
 state-drop (j ∷ js) zero = refl
 state-drop (j ∷ js) (suc k) = state-drop js k
 
-state-none : (js : List Judged) (k : ℕ) → length js ≤ k → stateFrom js k ≡ Blank
-state-none [] k h = refl
-state-none (j ∷ js) zero h = absurd (omega arith)
-state-none (j ∷ js) (suc k) h = state-none js k (omega arith)
+pub past-none : (js : List Judged) (k : ℕ) → length js ≤ k → stateFrom js k ≡ Blank
+past-none [] k h = refl
+past-none (j ∷ js) zero h = absurd (omega arith)
+past-none (j ∷ js) (suc k) h = past-none js k (omega arith)
 
 behind-drop : (os ns : List (List ℕ)) (js : List Judged) (k : ℕ) → behindFrom os ns js k ≡ behindFrom os ns (drop k js) 0
 behind-drop os ns [] zero = refl
@@ -113,7 +113,7 @@ module _ (os : List (List ℕ)) (n k : ℕ) (box : List ℕ) where
   pub state-past : {p : ℕ} → p ≡ k + 1 → n ≤ k → Blank ≡ stateAt (judged os (cardsIn n box)) p
   state-past {p} e h =
       let g : suc k ≡ p = omega arith in
-      sym (state-none (judged os (cardsIn n box)) k (rw (boards-count os n box) h)) ∙ ap (stateAt (judged os (cardsIn n box))) g
+      sym (past-none (judged os (cardsIn n box)) k (rw (boards-count os n box) h)) ∙ ap (stateAt (judged os (cardsIn n box))) g
 
   pub behind-here : {p : ℕ} {s : BoardState} {b : Behind} → p ≡ k + 1 → k < n → s ≡ stateOf os (cardsIn n box) (cardsIn k box) (cardHere k box)
       → b ≡ behindState os (cardsIn n box) (cardAt (cardsIn n box) p) s → b ≡ behindAt os (cardsIn n box) (judged os (cardsIn n box)) p

@@ -1,29 +1,51 @@
 -- Laws of reading both editions: one for each answer.
-use Prim.Native.Nat.{ℕ, _+_, _*_, _-_, _≤_}
-use mathlib.Core.Path.{_≡_, sym, ap, _∙_}
+use Prim.Native.Nat.{ℕ, _+_, _*_, _-_, _≤_, _<_}
+use mathlib.Core.Path.{_≡_, refl, sym, ap, _∙_}
+use mathlib.Core.Bool.{true, false}
 use mathlib.Core.List.{List}
 use native.Mathlib.Omega.{arith}
+use lib.Dec.{ltb}
 use lib.ListN.{length, length-append, length-replicate}
+use borrow.Author.Tests.{lt-ltb, le-ltb, ltb-false}
 use Rattle.tables.specs.declared.letters.Conventions.{Conventions}
 use Rattle.reader.specs.declared.edition.ReadRefusal.{ReadRefusal}
+use Rattle.reader.specs.declared.edition.ReadRefusal.the-variants.{Overlong}
 use Rattle.reader.specs.declared.edition.Reading.{Reading}
 use Rattle.reader.specs.declared.edition.Reading.the-variants.{Taken}
 use Rattle.reader.specs.declared.edition.Reading.the-variants as reading
-use Rattle.tables.proofs.Laws.{clash}
+use Rattle.tables.proofs.Laws.{by-cases, clash}
 use Rattle.reader.specs.Store.{flat, padded, zeros}
-use Rattle.reader.specs.Editions.{Whole, readingOf, cardsOf, IsRead}
+use Rattle.reader.specs.Editions.{Whole, readingOf, cardsOf, IsRead, isTaken}
 use Rattle.planning.specs.declared.editions.PlanRefusal.the-variants.{Old, New}
 use Rattle.planning.specs.declared.editions.Editions.{Editions}
 use Rattle.planning.specs.declared.editions.Editions.the-variants.{Both}
 use Rattle.planning.specs.declared.editions.Editions.the-variants as editions
-use Rattle.planning.specs.Plans.{bothAfter, editionsOf, areBoth, BothRead}
+use Rattle.planning.specs.Plans.{bothAfter, editionsOf, limitedOf, limitedBoth, areBoth, BothRead, IsLimited, BothLimited}
 use Rattle.planning.specs.Cards.{cardsIn}
 use Rattle.planning.proofs.BoxLaws.{cards-back, taken-fits}
 
-module _ {c : Conventions} {old new oc oe nc ne oc′ oe′ : List ℕ} {r : Reading} (i : IsRead c old oc oe r oc′ oe′) where
+-- ---- an edition with a limit
+
+pub limited-long : {c : Conventions} {limit n : ℕ} {text cards entries cards′ entries′ : List ℕ} → n ≡ length text → limit < n → cards′ ≡ zeros cards → entries′ ≡ zeros entries
+    → IsLimited c limit text cards entries (reading.Refused (Overlong n)) cards′ entries′
+unfolding limitedOf
+limited-long {c} {limit} {n} {text} en h ec ee =
+    let e : ltb limit (length text) ≡ true = lt-ltb limit (length text) (omega arith) in
+    record { answer = rw (e, en); cards-after = ec; entries-after = ee }
+
+pub limited-read : {c : Conventions} {limit n : ℕ} {text cards entries cards′ entries′ : List ℕ} {r : Reading} → n ≡ length text → n ≤ limit → IsRead c text cards entries r cards′ entries′
+    → IsLimited c limit text cards entries r cards′ entries′
+unfolding limitedOf
+limited-read {c} {limit} {n} {text} en h i =
+    let e : ltb limit (length text) ≡ false = le-ltb limit (length text) (omega arith) in
+    record { answer = rw e (i .answer); cards-after = i .cards-after; entries-after = i .entries-after }
+
+-- ---- both editions with a limit: one law for each answer
+
+module _ {c : Conventions} {limit : ℕ} {old new oc oe nc ne oc′ oe′ : List ℕ} {r : Reading} (i : IsLimited c limit old oc oe r oc′ oe′) where
   pub old-refused : {f : ReadRefusal} {nc′ ne′ : List ℕ} → r ≡ reading.Refused f → nc′ ≡ zeros nc → ne′ ≡ zeros ne
-      → BothRead c old new oc oe nc ne oc′ oe′ nc′ ne′ (editions.Refused (Old f))
-  unfolding editionsOf
+      → BothLimited c limit old new oc oe nc ne oc′ oe′ nc′ ne′ (editions.Refused (Old f))
+  unfolding limitedBoth
   old-refused e ec ee = record {
     answer = rw (← i .answer, e);
     boxes = record {
@@ -34,10 +56,10 @@ module _ {c : Conventions} {old new oc oe nc ne oc′ oe′ : List ℕ} {r : Rea
     };
   }
 
-  pub new-refused : {m x : ℕ} {f : ReadRefusal} {s : Reading} {nc′ ne′ oc″ oe″ : List ℕ} → r ≡ Taken m x → IsRead c new nc ne s nc′ ne′ → s ≡ reading.Refused f
+  pub new-refused : {m x : ℕ} {f : ReadRefusal} {s : Reading} {nc′ ne′ oc″ oe″ : List ℕ} → r ≡ Taken m x → IsLimited c limit new nc ne s nc′ ne′ → s ≡ reading.Refused f
       → length oc′ ≡ length oc → length oe′ ≡ length oe → oc″ ≡ zeros oc′ → oe″ ≡ zeros oe′
-      → BothRead c old new oc oe nc ne oc″ oe″ nc′ ne′ (editions.Refused (New f))
-  unfolding editionsOf
+      → BothLimited c limit old new oc oe nc ne oc″ oe″ nc′ ne′ (editions.Refused (New f))
+  unfolding limitedBoth
   new-refused e j e₂ lc le ec ee = record {
     answer = rw (← i .answer, e, ← j .answer, e₂);
     boxes = record {
@@ -48,9 +70,9 @@ module _ {c : Conventions} {old new oc oe nc ne oc′ oe′ : List ℕ} {r : Rea
     };
   }
 
-  pub both-taken : {m x n y : ℕ} {s : Reading} {nc′ ne′ : List ℕ} → r ≡ Taken m x → IsRead c new nc ne s nc′ ne′ → s ≡ Taken n y
-      → BothRead c old new oc oe nc ne oc′ oe′ nc′ ne′ (Both m n)
-  unfolding editionsOf
+  pub both-taken : {m x n y : ℕ} {s : Reading} {nc′ ne′ : List ℕ} → r ≡ Taken m x → IsLimited c limit new nc ne s nc′ ne′ → s ≡ Taken n y
+      → BothLimited c limit old new oc oe nc ne oc′ oe′ nc′ ne′ (Both m n)
+  unfolding limitedBoth
   both-taken e j e₂ = record {
     answer = rw (← i .answer, e, ← j .answer, e₂);
     boxes = record {
@@ -60,6 +82,33 @@ module _ {c : Conventions} {old new oc oe nc ne oc′ oe′ : List ℕ} {r : Rea
       new-entries = rw e₂ at (j .entries-after);
     };
   }
+
+-- With the limit of every text nothing more is refused.
+limited-all : (c : Conventions) (text : List ℕ) (lc le : ℕ) → limitedOf c 16777215 text lc le ≡ readingOf c text lc le
+unfolding limitedOf readingOf
+limited-all c text lc le = by-cases (ltb 16777215 (length text)) (λ e. rw e) (λ e. rw e)
+
+pub both-all : {c : Conventions} {old new oc oe nc ne oc′ oe′ nc′ ne′ : List ℕ} {r : Editions} → BothLimited c 16777215 old new oc oe nc ne oc′ oe′ nc′ ne′ r
+    → BothRead c old new oc oe nc ne oc′ oe′ nc′ ne′ r
+unfolding limitedBoth editionsOf
+both-all {c} {old} {new} {oc} {oe} {nc} {ne} b = record {
+  answer = b .answer ∙ rw (limited-all c old (length oc) (length oe), limited-all c new (length nc) (length ne));
+  boxes = b .boxes;
+}
+
+-- ---- both were taken
+
+pub both-are-taken : (r s : Reading) → areBoth (bothAfter r s) ≡ true → (isTaken r ≡ true) × (isTaken s ≡ true)
+both-are-taken (Taken b e) (Taken d g) h = (refl, refl)
+both-are-taken (Taken b e) (reading.Refused f) h = clash h
+both-are-taken (reading.Refused f) s h = clash h
+
+pub taken-short : (c : Conventions) (text : List ℕ) (lc le : ℕ) → isTaken (readingOf c text lc le) ≡ true → length text ≤ 16777215
+unfolding readingOf
+taken-short c text lc le h =
+    by-cases (ltb 16777215 (length text))
+    (λ e. clash (rw e at h))
+    (λ e. omega (arith, ltb-false 16777215 (length text) e))
 
 -- ---- the cards of both editions, where both were taken
 

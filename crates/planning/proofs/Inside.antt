@@ -23,6 +23,7 @@ use Rattle.planning.specs.Cards.{handsOf}
 use Rattle.planning.specs.Slips.{cardFrom}
 use Rattle.planning.specs.Plans.{bothAfter, editionsOf, areBoth}
 use Rattle.planning.specs.Demands.{Among, here, WithDeal, Tabled, None, InFront, InStretch, InBack, AllSolved, ListedInside}
+use Rattle.planning.proofs.BothLaws.{both-are-taken, taken-short}
 use Rattle.planning.proofs.FoundLaws.{numbered, among-right}
 use Rattle.planning.proofs.DealWords.{SameDeal, SameWhole}
 use Rattle.planning.proofs.Listed.{told, listed-exactly-once}
@@ -33,36 +34,24 @@ card-behind : (xs : List (List ℕ)) (x : List ℕ) (ys : List (List ℕ)) → c
 card-behind [] x ys = refl
 card-behind (y ∷ xs) x ys = card-behind xs x ys
 
-stands-card : {l : List (List ℕ)} {k : ℕ} {x : List ℕ} → Stands l k (x ∷ []) → cardFrom l k ≡ x
+pub stands-card : {l : List (List ℕ)} {k : ℕ} {x : List ℕ} → Stands l k (x ∷ []) → cardFrom l k ≡ x
 stands-card {l} {k} {x} s = rw (s .whole, ← s .count) (card-behind (s .before) x (s .after))
 
 stands-among : {l : List (List ℕ)} {k : ℕ} {x : List ℕ} → Stands l k (x ∷ []) → Among x l
 stands-among {l} {k} {x} s = rw (s .whole) (among-right (s .before) here)
 
 -- Words 60 and 61 of a text that was taken.
-starts-at : (c : Conventions) (a n : ℕ) (r : List ℕ) → a + length r ≤ 16777215 → getD (cardOf c a n r) 60 0 ≡ a
+pub starts-at : (c : Conventions) (a n : ℕ) (r : List ℕ) → a + length r ≤ 16777215 → getD (cardOf c a n r) 60 0 ≡ a
 starts-at c a n r h = word-back c a n r 22 ∙ omega arith
 
-ends-at : (c : Conventions) (a n : ℕ) (r : List ℕ) → a + length r ≤ 16777215 → getD (cardOf c a n r) 61 0 ≡ a + length r
+pub ends-at : (c : Conventions) (a n : ℕ) (r : List ℕ) → a + length r ≤ 16777215 → getD (cardOf c a n r) 61 0 ≡ a + length r
 ends-at c a n r h = word-back c a n r 23 ∙ omega arith
 
 -- ---- both editions were taken
 
-read-short : (c : Conventions) (text : List ℕ) (lc le : ℕ) → isTaken (readingOf c text lc le) ≡ true → length text ≤ 16777215
-unfolding readingOf
-read-short c text lc le e =
-    by-cases (ltb 16777215 (length text))
-    (λ t. clash (rw t at e))
-    (λ t. ltb-false 16777215 (length text) t)
-
-both-taken : (x y : Reading) → areBoth (bothAfter x y) ≡ true → isTaken y ≡ true
-both-taken (Taken m n) (Taken k l) e = refl
-both-taken (Taken m n) (reading.Refused f) e = e
-both-taken (reading.Refused f) y e = clash e
-
 new-short : (c : Conventions) (old new : List ℕ) (lc le nc ne : ℕ) → areBoth (editionsOf c old new lc le nc ne) ≡ true → length new ≤ 16777215
 unfolding editionsOf
-new-short c old new lc le nc ne e = read-short c new nc ne (both-taken (readingOf c old lc le) (readingOf c new nc ne) e)
+new-short c old new lc le nc ne e = taken-short c new nc ne (both-are-taken (readingOf c old lc le) (readingOf c new nc ne) e .1)
 
 -- ---- a new board with an unsolved deal
 

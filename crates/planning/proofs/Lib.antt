@@ -5,10 +5,15 @@ pub mod BoxLaws
 pub mod DealWords
 pub mod FoundLaws
 pub mod Inside
+pub mod LineLaws
 pub mod Listed
+pub mod ListingLaws
+pub mod ListingTheorems
 pub mod MeaningLaws
+pub mod Numbered
 pub mod Pins
 pub mod PlanLaws
+pub mod RecordsBehind
 pub mod SearchLaws
 pub mod SlipLaws
 pub mod StateLaws

@@ -29,12 +29,13 @@ use Rattle.planning.specs.States.{Judged, firstFrom, judgedFrom, judged,
 use Rattle.planning.specs.Slips.{slipOf, slipsOf, totalsOf, countOf, cardFrom, cardAt}
 use Rattle.planning.specs.Plans.{bothAfter, editionsOf, areBoth, plannedBy, plannedOf, boardsOf, IsPlanned}
 use Rattle.planning.specs.Demands.{Among, WithDeal, First, slipHere, Holds, Unsolved, OfSolve, ListedOnce, ListedExactlyOnce, ListedWhenTaken, NothingListed, TotalsTold}
+use Rattle.planning.proofs.AnswerLaws.{solve-sum}
 use Rattle.planning.proofs.FoundLaws.{Tells, zero-none, found-is-first, card-among, take-card}
 use Rattle.planning.proofs.DealWords.{Handed, CardsHanded}
 use Rattle.planning.proofs.MeaningLaws.{SaysAt, here-says, state-here, tells-deal}
 use Rattle.planning.proofs.StatesMean.{states-mean, board-at, first-solves}
-use Rattle.planning.proofs.SlipLaws.{SlipOfBoard, slip-board, board-slip, place-is, in-order, fives-length, fives-here, slips-five}
-use Rattle.planning.proofs.TotalsAdd.{slips-count, totals-add-up, judged-count}
+use Rattle.planning.proofs.SlipLaws.{SlipOfBoard, slip-board, board-slip, place-is, in-order, fives-length, fives-here, slips-five, slips-count}
+use Rattle.planning.proofs.TotalsAdd.{totals-add-up, boards-all}
 
 -- ---- a slip and its hands
 
@@ -55,7 +56,7 @@ take-more (suc n) zero (x ∷ xs) h l = omega arith
 take-more (suc n) (suc i) (x ∷ xs) h l = let z = take-more n i xs (omega arith) (omega arith) in omega arith
 
 -- Behind words that are followed by zeros.
-behind-zero : (ws : List ℕ) (n m : ℕ) (back : List ℕ) → length ws ≡ m → back ≡ padded n ws → drop m back ≡ replicate (length back - m) 0
+pub behind-zero : (ws : List ℕ) (n m : ℕ) (back : List ℕ) → length ws ≡ m → back ≡ padded n ws → drop m back ≡ replicate (length back - m) 0
 behind-zero ws n m back l q =
     let zs : List ℕ = replicate (n - length ws) 0 in
     let e : length (ws ++ zs) - m ≡ n - length ws = omega (arith, length-append ws zs, length-replicate {A = ℕ} (n - length ws) 0) in
@@ -254,10 +255,6 @@ unfolding plannedOf
 told c old new oc oe nc ne slips oc′ oe′ nc′ ne′ slips′ t p =
     plan-listed (editionsOf c old new (length oc) (length oe) (length nc) (length ne)) (length slips / 5) (totalsOf (boardsOf c old new)) t (p .answer)
 
-solve-total : (t : Totals) (js : List Judged) → t ≡ totalsOf js → t .solve ≡ countOf 5 js
-unfolding totalsOf
-solve-total t js e = ap (λ (u : Totals). u .solve) e
-
 boards-total : (t : Totals) (js : List Judged) → t ≡ totalsOf js → t .boards ≡ length js
 unfolding totalsOf
 boards-total t js e = ap (λ (u : Totals). u .boards) e
@@ -266,12 +263,12 @@ pub listed-exactly-once : ListedExactlyOnce
 listed-exactly-once c old new oc oe nc ne slips oc′ oe′ nc′ ne′ slips′ t p =
     let q = told c old new oc oe nc ne slips oc′ oe′ nc′ ne′ slips′ t p in
     all-listed (cardsOf c old) (cardsOf c new) (CardsHanded c old) (CardsHanded c new) (t .solve) (length slips) slips′
-    (solve-total t (boardsOf c old new) (q .totals)) (p .slips-after)
+    ((ap (λ (u : Totals). u .solve) (q .totals) ∙ solve-sum (boardsOf c old new))) (p .slips-after)
 
 pub totals-told : TotalsTold
 totals-told c old new oc oe nc ne slips oc′ oe′ nc′ ne′ slips′ t p =
     let q = told c old new oc oe nc ne slips oc′ oe′ nc′ ne′ slips′ t p in (
-      boards-total t (boardsOf c old new) (q .totals) ∙ judged-count (cardsOf c old) (cardsOf c new),
+      boards-total t (boardsOf c old new) (q .totals) ∙ boards-all (cardsOf c old) (cardsOf c new),
       rw (q .totals) (totals-add-up (boardsOf c old new)),
     )
 

@@ -19,6 +19,7 @@ use Rattle.planning.specs.Cards.{dealOf, handsOf, isWhole, hasTable, has
 use Rattle.planning.specs.States.{firstFrom, firstWith, orElse, stateOf, judgedFrom, judged, stateFrom, stateAt}
 use Rattle.planning.specs.Slips.{cardFrom}
 use Rattle.planning.specs.Demands.{WithDeal, Tabled, StateIs}
+use Rattle.planning.proofs.BoardLaws.{judged-count, past-none}
 use Rattle.planning.proofs.FoundLaws.{Tells, zero-none, none-zero, found-is-first, first-is-found, among-take, card-among}
 use Rattle.planning.proofs.DealWords.{OfHands, Handed, hands-words}
 
@@ -111,15 +112,10 @@ pub state-here : (olds news : List (List ℕ)) (i : ℕ) → i < length news →
 unfolding judged
 state-here olds news i h = from-state olds news 1 [] news i h
 
-from-none : (olds news : List (List ℕ)) (p : ℕ) (earlier xs : List (List ℕ)) (i : ℕ) → length xs ≤ i → stateFrom (judgedFrom olds news p earlier xs) i ≡ Blank
-from-none olds news p earlier [] i h = refl
-from-none olds news p earlier (x ∷ xs) zero h = absurd (omega arith)
-from-none olds news p earlier (x ∷ xs) (suc i) h = from-none olds news (p + 1) (earlier ++ (x ∷ [])) xs i (omega arith)
-
 pub state-none : (olds news : List (List ℕ)) (p : ℕ) → length news < p → stateAt (judged olds news) p ≡ Blank
 unfolding judged
 state-none olds news zero h = refl
-state-none olds news (suc i) h = from-none olds news 1 [] news i (omega arith)
+state-none olds news (suc i) h = past-none (judgedFrom olds news 1 [] news) i (omega (arith, judged-count olds news 1 [] news))
 
 -- What is said of each board of an edition.
 abbrev pub SaysAt : List (List ℕ) → List (List ℕ) → ℕ → BoardState → Type 0

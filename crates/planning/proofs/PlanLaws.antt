@@ -18,34 +18,13 @@ use Rattle.planning.proofs.BoardLaws.{boardsLeft, left-first, left-step
 
 -- ---- counts
 
-count-few : (k : ℕ) (js : List Judged) → countOf k js ≤ length js
+pub count-few : (k : ℕ) (js : List Judged) → countOf k js ≤ length js
 count-few k [] = omega arith
 count-few k (j ∷ js) = go (eqb (stateNumber (j .state)) k) (count-few k js)
   where
     go : (b : Bool) → countOf k js ≤ length js → cond b (countOf k js + 1) (countOf k js) ≤ suc (length js)
     go true h = omega arith
     go false h = omega arith
-
--- As many slips as boards to solve.
-pub slips-count : (js : List Judged) → length (slipsOf js) ≡ countOf 5 js
-slips-count [] = refl
-slips-count (j ∷ js) = go (isSolve (j .state)) (slips-count js)
-  where
-    go : (b : Bool) → length (slipsOf js) ≡ countOf 5 js → length (cond b (slipOf (j .position) (j .card) ∷ slipsOf js) (slipsOf js)) ≡ cond b (countOf 5 js + 1) (countOf 5 js)
-    go true h = omega arith
-    go false h = h
-
-slip-five : (p : ℕ) (card : List ℕ) → length (slipOf p card) ≡ 5
-unfolding slipOf
-slip-five p card = refl
-
-pub slip-blocks : (js : List Judged) → Blocks 5 (slipsOf js)
-slip-blocks [] = none
-slip-blocks (j ∷ js) = go (isSolve (j .state)) (slip-blocks js)
-  where
-    go : (b : Bool) → Blocks 5 (slipsOf js) → Blocks 5 (cond b (slipOf (j .position) (j .card) ∷ slipsOf js) (slipsOf js))
-    go true h = one (slip-five (j .position) (j .card)) h
-    go false h = h
 
 -- One board more on one side is one more on the other.
 tally-in : (k : ℕ) (s : BoardState) (n m : ℕ) → tally k s n + m ≡ n + cond (eqb (stateNumber s) k) (m + 1) m

@@ -8,24 +8,21 @@ use lib.ListN.{length, getD, take, length-append}
 use lib.Seq.{append-snoc, take-at, drop-append-add}
 use Rattle.tables.proofs.Laws.{by-cases, clash}
 use Rattle.reader.specs.Store.{flat}
+use Rattle.reader.proofs.StoreLaws.{Blocks, none, one}
 use Rattle.planning.specs.declared.state.BoardState.{BoardState}
 use Rattle.planning.specs.declared.state.BoardState.the-variants.{Blank, Own, Old, Near, Twin, Solve}
 use Rattle.planning.specs.States.{Judged, stateOf, isSolve, judgedFrom}
-use Rattle.planning.specs.Slips.{slipOf, slipsOf, cardFrom}
+use Rattle.planning.specs.Slips.{slipOf, slipsOf, countOf, cardFrom}
 use Rattle.planning.specs.Demands.{slipHere}
 
 -- ---- blocks of five
 
-pub data Fives : List (List ℕ) → Type 0 where
-  none : Fives []
-  one : {x : List ℕ} {xs : List (List ℕ)} → length x ≡ 5 → Fives xs → Fives (x ∷ xs)
-
-pub fives-length : {ss : List (List ℕ)} → Fives ss → length (flat ss) ≡ 5 * length ss
+pub fives-length : {ss : List (List ℕ)} → Blocks 5 ss → length (flat ss) ≡ 5 * length ss
 fives-length none = omega arith
 fives-length (one {x} {xs} e f) = length-append x (flat xs) ∙ omega (arith, e, fives-length f)
 
 -- The k-th block, and what stands behind the blocks.
-pub fives-here : (ss : List (List ℕ)) (zs : List ℕ) (k : ℕ) → Fives ss → k < length ss → slipHere k (flat ss ++ zs) ≡ getD ss k []
+pub fives-here : (ss : List (List ℕ)) (zs : List ℕ) (k : ℕ) → Blocks 5 ss → k < length ss → slipHere k (flat ss ++ zs) ≡ getD ss k []
 fives-here (x ∷ xs) zs zero (one e f) h = ap (λ (l : List ℕ). take 5 l) (append-assoc x (flat xs) zs) ∙ take-at x (flat xs ++ zs) 5 e
 fives-here (x ∷ xs) zs (suc k) (one e f) h =
     let n : 5 * suc k ≡ length x + 5 * k = omega arith in
@@ -35,13 +32,22 @@ slip-five : (p : ℕ) (card : List ℕ) → length (slipOf p card) ≡ 5
 unfolding slipOf
 slip-five p card = refl
 
-pub slips-five : (js : List Judged) → Fives (slipsOf js)
+pub slips-five : (js : List Judged) → Blocks 5 (slipsOf js)
 slips-five [] = none
 slips-five (j ∷ js) = go (isSolve (j .state)) (slips-five js)
   where
-    go : (b : Bool) → Fives (slipsOf js) → Fives (cond b (slipOf (j .position) (j .card) ∷ slipsOf js) (slipsOf js))
+    go : (b : Bool) → Blocks 5 (slipsOf js) → Blocks 5 (cond b (slipOf (j .position) (j .card) ∷ slipsOf js) (slipsOf js))
     go true f = one (slip-five (j .position) (j .card)) f
     go false f = f
+
+-- As many slips as boards to solve.
+pub slips-count : (js : List Judged) → length (slipsOf js) ≡ countOf 5 js
+slips-count [] = refl
+slips-count (j ∷ js) = go (isSolve (j .state)) (slips-count js)
+  where
+    go : (b : Bool) → length (slipsOf js) ≡ countOf 5 js → length (cond b (slipOf (j .position) (j .card) ∷ slipsOf js) (slipsOf js)) ≡ cond b (countOf 5 js + 1) (countOf 5 js)
+    go true h = omega arith
+    go false h = h
 
 -- ---- slips and boards
 

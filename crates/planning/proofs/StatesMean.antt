@@ -39,7 +39,7 @@ first-means tabled d cards =
 
 -- ---- sources
 
-take-few : (n : ℕ) (xs : List (List ℕ)) → length (take n xs) ≤ n
+pub take-few : (n : ℕ) (xs : List (List ℕ)) → length (take n xs) ≤ n
 take-few zero xs = omega arith
 take-few (suc n) [] = omega arith
 take-few (suc n) (x ∷ xs) = omega (arith, take-few n xs)

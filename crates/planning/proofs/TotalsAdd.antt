@@ -6,6 +6,8 @@ use mathlib.Core.List.{List, [], _∷_, _++_}
 use native.Mathlib.Omega.{arith}
 use lib.Dec.{eqb}
 use lib.ListN.{length}
+use Rattle.planning.proofs.BoardLaws.{judged-count}
+use Rattle.planning.proofs.SlipLaws.{slips-count}
 use Rattle.planning.specs.declared.state.BoardState.{BoardState}
 use Rattle.planning.specs.declared.state.BoardState.the-variants.{Blank, Own, Old, Near, Twin, Solve}
 use Rattle.planning.specs.States.{Judged, judgedFrom, judged, stateNumber, isSolve}
@@ -32,22 +34,10 @@ sum-is : (js : List Judged) → length js ≡ countOf 0 js + countOf 1 js + coun
 sum-is [] = omega arith
 sum-is (j ∷ js) = ap suc (sum-is js) ∙ one (j .state) (countOf 0 js) (countOf 1 js) (countOf 2 js) (countOf 3 js) (countOf 4 js) (countOf 5 js)
 
-pub slips-count : (js : List Judged) → length (slipsOf js) ≡ countOf 5 js
-slips-count [] = refl
-slips-count (j ∷ js) = go (isSolve (j .state)) (slips-count js)
-  where
-    go : (b : Bool) → length (slipsOf js) ≡ countOf 5 js → length (cond b (slipOf (j .position) (j .card) ∷ slipsOf js) (slipsOf js)) ≡ cond b (countOf 5 js + 1) (countOf 5 js)
-    go true e = omega arith
-    go false e = e
-
 pub totals-add-up : TotalsAddUp
 unfolding totalsOf
 totals-add-up js = record { sum = sum-is js; slips = slips-count js }
 
-from-count : (olds news : List (List ℕ)) (p : ℕ) (earlier xs : List (List ℕ)) → length (judgedFrom olds news p earlier xs) ≡ length xs
-from-count olds news p earlier [] = refl
-from-count olds news p earlier (x ∷ xs) = ap suc (from-count olds news (p + 1) (earlier ++ (x ∷ [])) xs)
-
-pub judged-count : (olds news : List (List ℕ)) → length (judged olds news) ≡ length news
+pub boards-all : (olds news : List (List ℕ)) → length (judged olds news) ≡ length news
 unfolding judged
-judged-count olds news = from-count olds news 1 [] news
+boards-all olds news = judged-count olds news 1 [] news

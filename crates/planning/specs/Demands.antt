@@ -4,22 +4,23 @@ use Prim.Native.Nat.{ℕ, suc, _+_, _-_, _*_, _/_, _≤_, _<_}
 use mathlib.Core.Path.{_≡_}
 use mathlib.Core.Logic.{_↔_}
 use mathlib.Core.Bool.{Bool, true, false}
-use mathlib.Core.List.{List, _∷_, _++_}
+use mathlib.Core.List.{List, [], _∷_, _++_}
 use lib.ListN.{length, getD, take, drop, replicate}
 use Rattle.tables.specs.declared.letters.Conventions.{Conventions}
 use Rattle.reader.specs.declared.deal.Hands.{Hands}
 use Rattle.reader.specs.Deals.{wholeHands}
-use Rattle.reader.specs.Records.{AlikeBut}
+use Rattle.reader.specs.Records.{recordsOf, AlikeBut}
 use Rattle.reader.specs.Editions.{isTaken, readingOf, cardsOf}
 use Rattle.planning.specs.declared.state.BoardState.{BoardState}
 use Rattle.planning.specs.declared.state.BoardState.the-variants.{Blank, Own, Old, Near, Twin, Solve}
+use Rattle.planning.specs.declared.editions.Editions.the-variants.{Both}
 use Rattle.planning.specs.declared.plan.Totals.{Totals}
 use Rattle.planning.specs.declared.plan.Planned.{Planned}
 use Rattle.planning.specs.declared.plan.Planned.the-variants.{Listed}
 use Rattle.planning.specs.Cards.{handsOf, isWhole, hasTable, fits}
-use Rattle.planning.specs.States.{Judged, firstWith, stateAt}
-use Rattle.planning.specs.Slips.{slipOf, slipsOf, totalsOf, cardAt}
-use Rattle.planning.specs.Plans.{boardsOf, IsPlanned}
+use Rattle.planning.specs.States.{Judged, firstWith, stateNumber, fromOf, stateAt}
+use Rattle.planning.specs.Slips.{slipOf, slipsOf, totalsOf, cardAt, behindAt, partOf, behindNumbers}
+use Rattle.planning.specs.Plans.{boardsOf, IsPlanned, PartTold, BoardsTold}
 
 -- ---- boards and their deals
 
@@ -212,6 +213,43 @@ FirstMeans =
     → ((firstWith tabled d cards ≡ 0) ↔ None (λ x. fits tabled d x ≡ true) cards)
     × ((k : ℕ) → (firstWith tabled d cards ≡ suc k) ↔ First (λ x. fits tabled d x ≡ true) cards (suc k))
 
+-- ---- the record behind a board
+
+-- The record of the board at a position from 1: boards are in the order of the text's records.
+abbrev pub recordAt : List ℕ → ℕ → List ℕ
+recordAt text p = getD (recordsOf text) (p - 1) []
+
+-- The record behind the board at the position p in a state: the old source board's, the new source board's for near and twin, else its own.
+abbrev pub recordBehind : List ℕ → List ℕ → ℕ → BoardState → List ℕ
+recordBehind old new p Blank = recordAt new p
+recordBehind old new p Own = recordAt new p
+recordBehind old new p (Old k) = recordAt old k
+recordBehind old new p (Near k) = recordAt new k
+recordBehind old new p (Twin k) = recordAt new k
+recordBehind old new p Solve = recordAt new p
+
+-- A part is the whole record behind a board, byte for byte, and not empty.
+pub record IsBehind (old new : List ℕ) (p : ℕ) (s : BoardState) (part : List ℕ) : Type 0 where
+  pub is : part ≡ recordBehind old new p s
+  pub filled : 0 < length part
+
+-- THEOREM (proofs/RecordsBehind.antt). The places behind a board are those of the record behind it, neither text having more than 16,777,215
+-- bytes.
+abbrev pub PlacesBehind : Type 0
+PlacesBehind =
+    (c : Conventions) (old new : List ℕ) (p : ℕ) → length old ≤ 16777215 → length new ≤ 16777215 → 1 ≤ p → p ≤ length (cardsOf c new)
+    → IsBehind old new p (stateAt (boardsOf c old new) p) (partOf old new (behindAt (cardsOf c old) (cardsOf c new) (boardsOf c old new) p))
+
+-- THEOREM (proofs/RecordsBehind.antt). Both editions taken: what is handed back for a board of the new edition is the record behind it.
+abbrev pub RecordsBehind : Type 0
+RecordsBehind =
+    (c : Conventions) (old new oc oe nc ne oc′ oe′ nc′ ne′ : List ℕ) (p : ℕ) (part : List ℕ)
+    → PartTold c old new oc oe nc ne oc′ oe′ nc′ ne′ p part
+    → isTaken (readingOf c old (length oc) (length oe)) ≡ true
+    → isTaken (readingOf c new (length nc) (length ne)) ≡ true
+    → 1 ≤ p → p ≤ length (cardsOf c new)
+    → IsBehind old new p (stateAt (boardsOf c old new) p) part
+
 -- ---- totals
 
 -- THEOREM (proofs/TotalsAdd.antt). Totals add up, whatever the boards; there are as many slips as solve boards.
@@ -228,3 +266,24 @@ TotalsTold =
     (c : Conventions) (old new oc oe nc ne slips oc′ oe′ nc′ ne′ slips′ : List ℕ) (t : Totals)
     → IsPlanned c old new oc oe nc ne slips oc′ oe′ nc′ ne′ slips′ (Listed t)
     → (t .boards ≡ length (cardsOf c new)) × AddUp (boardsOf c old new) t
+
+-- ---- the numbers of boards
+
+-- The five numbers of the board at a position: its state, its source board, and edition, start and end of the record behind it.
+abbrev pub fiveAt : List (List ℕ) → List (List ℕ) → List Judged → ℕ → List ℕ
+fiveAt olds news js p = stateNumber (stateAt js p) ∷ fromOf (stateAt js p) ∷ behindNumbers (behindAt olds news js p)
+
+-- Five numbers a board, in board order, for each board that has five of the lent numbers; behind those of the last such board all are zero:
+-- behind all boards where each has its five, else in a tail too short for five.
+pub record Numbered (olds news : List (List ℕ)) (js : List Judged) (lent : ℕ) (numbers : List ℕ) : Type 0 where
+  pub as-many : length numbers ≡ lent
+  pub each : (k : ℕ) → k < length news → 5 * k + 5 ≤ lent → slipHere k numbers ≡ fiveAt olds news js (suc k)
+  pub rest-zero : length news ≤ lent / 5 → drop (5 * length news) numbers ≡ replicate (length numbers - 5 * length news) 0
+  pub tail-zero : lent / 5 ≤ length news → drop (5 * (lent / 5)) numbers ≡ replicate (length numbers - 5 * (lent / 5)) 0
+
+-- THEOREM (proofs/Numbered.antt). Both editions taken: the numbers of the boards are handed back, as many as fit.
+abbrev pub NumbersTold : Type 0
+NumbersTold =
+    (c : Conventions) (old new oc oe nc ne numbers oc′ oe′ nc′ ne′ numbers′ : List ℕ) (m n : ℕ)
+    → BoardsTold c old new oc oe nc ne numbers oc′ oe′ nc′ ne′ numbers′ (Both m n)
+    → Numbered (cardsOf c old) (cardsOf c new) (boardsOf c old new) (length numbers) numbers′

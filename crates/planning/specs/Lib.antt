@@ -3,4 +3,5 @@ pub mod States
 pub mod Slips
 pub mod Plans
 pub mod Steps
+pub mod Listing
 pub mod Demands

@@ -9,8 +9,9 @@ use Rattle.tables.specs.declared.letters.Conventions.{Conventions}
 use Rattle.reader.specs.declared.edition.Reading.{Reading}
 use Rattle.reader.specs.declared.edition.Reading.the-variants.{Taken}
 use Rattle.reader.specs.declared.edition.Reading.the-variants as reading
+use Rattle.reader.specs.declared.edition.ReadRefusal.the-variants.{Overlong}
 use Rattle.reader.specs.Store.{flat, padded, putAll}
-use Rattle.reader.specs.Editions.{readNumber, readCarries, readingOf, cardsOf, entriesOf}
+use Rattle.reader.specs.Editions.{readNumber, readCarries, readingOf, cardsOf, entriesOf, lentAfter}
 use Rattle.planning.specs.declared.state.BoardState.{BoardState}
 use Rattle.planning.specs.declared.state.BoardState.the-variants.{Blank}
 use Rattle.planning.specs.declared.behind.Behind.{Behind}
@@ -59,6 +60,14 @@ bothAfter (reading.Refused f) new = editions.Refused (Old f)
 unfoldable pub editionsOf : Conventions → List ℕ → List ℕ → ℕ → ℕ → ℕ → ℕ → Editions
 editionsOf c old new lc le nc ne = bothAfter (readingOf c old lc le) (readingOf c new nc ne)
 
+-- An edition longer than the limit is refused with 1, whatever else it is; any other is read.
+unfoldable pub limitedOf : Conventions → ℕ → List ℕ → ℕ → ℕ → Reading
+limitedOf c limit text lc le = cond (ltb limit (length text)) (reading.Refused (Overlong (length text))) (readingOf c text lc le)
+
+-- Both with the limit: each refusal of the old one, its length too, comes before those of the new.
+unfoldable pub limitedBoth : Conventions → ℕ → List ℕ → List ℕ → ℕ → ℕ → ℕ → ℕ → Editions
+limitedBoth c limit old new lc le nc ne = bothAfter (limitedOf c limit old lc le) (limitedOf c limit new nc ne)
+
 abbrev pub areBoth : Editions → Bool
 areBoth (Both m n) = true
 areBoth (editions.Refused f) = false
@@ -74,11 +83,11 @@ boardsOf c old new = judged (cardsOf c old) (cardsOf c new)
 -- ---- the plan
 
 abbrev pub listedBy : ℕ → Totals → Planned
-listedBy lent t = cond (ltb lent (t .solve)) (planned.Refused (SlipsShort (t .solve))) (Listed t)
+listedBy slips t = cond (ltb slips (t .solve)) (planned.Refused (SlipsShort (t .solve))) (Listed t)
 
 abbrev pub plannedBy : Editions → ℕ → Totals → Planned
-plannedBy (Both m n) lent t = listedBy lent t
-plannedBy (editions.Refused f) lent t = planned.Refused f
+plannedBy (Both m n) slips t = listedBy slips t
+plannedBy (editions.Refused f) slips t = planned.Refused f
 
 -- The answer; ls numbers are lent for slips, five a slip, and a tail too short for one counts as none.
 unfoldable pub plannedOf : Conventions → List ℕ → List ℕ → ℕ → ℕ → ℕ → ℕ → ℕ → Planned
@@ -100,6 +109,17 @@ pub record BoxesAfter (c : Conventions) (well : Bool) (old new oc oe nc ne oc′
 -- Both editions are read.
 pub record BothRead (c : Conventions) (old new oc oe nc ne oc′ oe′ nc′ ne′ : List ℕ) (r : Editions) : Type 0 where
   pub answer : r ≡ editionsOf c old new (length oc) (length oe) (length nc) (length ne)
+  pub boxes : BoxesAfter c (areBoth r) old new oc oe nc ne oc′ oe′ nc′ ne′
+
+-- An edition is read, if it is not longer than the limit.
+pub record IsLimited (c : Conventions) (limit : ℕ) (text cards entries : List ℕ) (r : Reading) (cards′ entries′ : List ℕ) : Type 0 where
+  pub answer : r ≡ limitedOf c limit text (length cards) (length entries)
+  pub cards-after : cards′ ≡ lentAfter r (length cards) (cardsOf c text)
+  pub entries-after : entries′ ≡ lentAfter r (length entries) (entriesOf c text)
+
+-- Both editions are read, if neither is longer than the limit.
+pub record BothLimited (c : Conventions) (limit : ℕ) (old new oc oe nc ne oc′ oe′ nc′ ne′ : List ℕ) (r : Editions) : Type 0 where
+  pub answer : r ≡ limitedBoth c limit old new (length oc) (length oe) (length nc) (length ne)
   pub boxes : BoxesAfter c (areBoth r) old new oc oe nc ne oc′ oe′ nc′ ne′
 
 -- The contract of plan: the answer, and every lent number.

@@ -44,12 +44,13 @@ totalsOf js = record {
 
 -- ---- the record behind a board
 
--- The card of the board at a position from 1; no words where there is none.
+-- The k-th of the cards, from 0; no words where there is none.
 abbrev pub cardFrom : List (List ℕ) → ℕ → List ℕ
 cardFrom [] k = []
 cardFrom (x ∷ xs) zero = x
 cardFrom (x ∷ xs) (suc k) = cardFrom xs k
 
+-- The card of the board at a position from 1.
 abbrev pub cardAt : List (List ℕ) → ℕ → List ℕ
 cardAt xs zero = []
 cardAt xs (suc k) = cardFrom xs k
@@ -73,12 +74,13 @@ behindState olds news card Solve = newRecord card
 abbrev pub behindOf : List (List ℕ) → List (List ℕ) → Judged → Behind
 behindOf olds news j = behindState olds news (j .card) (j .state)
 
--- At a position from 1; nothing outside 1 to boards.
+-- The record behind the k-th of the boards, from 0.
 abbrev pub behindFrom : List (List ℕ) → List (List ℕ) → List Judged → ℕ → Behind
 behindFrom olds news [] k = Nothing
 behindFrom olds news (j ∷ js) zero = behindOf olds news j
 behindFrom olds news (j ∷ js) (suc k) = behindFrom olds news js k
 
+-- At a position from 1; nothing outside 1 to boards.
 abbrev pub behindAt : List (List ℕ) → List (List ℕ) → List Judged → ℕ → Behind
 behindAt olds news js zero = Nothing
 behindAt olds news js (suc k) = behindFrom olds news js k

@@ -68,12 +68,13 @@ judgedFrom olds news p earlier (x ∷ xs) =
 unfoldable pub judged : List (List ℕ) → List (List ℕ) → List Judged
 judged olds news = judgedFrom olds news 1 [] news
 
--- The state at a position, blank outside 1 to boards.
+-- The state of the k-th of the boards, from 0.
 abbrev pub stateFrom : List Judged → ℕ → BoardState
 stateFrom [] k = Blank
 stateFrom (j ∷ js) zero = j .state
 stateFrom (j ∷ js) (suc k) = stateFrom js k
 
+-- The state at a position, blank outside 1 to boards.
 abbrev pub stateAt : List Judged → ℕ → BoardState
 stateAt js zero = Blank
 stateAt js (suc k) = stateFrom js k

@@ -77,7 +77,7 @@ fn put_slip(slips: &mut [u64], n: usize, cards: &[u32], k: usize, s: BoardState)
 }
 
 // The totals of all boards of the new edition, and their slips.
-fn list_boards(
+pub fn list_boards(
     old_cards: &[u32],
     olds: usize,
     new_cards: &[u32],
@@ -107,7 +107,7 @@ fn list_boards(
 }
 
 // Sets all cards and entries to 0.
-fn zero_boxes(
+pub fn zero_boxes(
     old_cards: &mut [u32],
     old_entries: &mut [u32],
     new_cards: &mut [u32],
@@ -122,7 +122,7 @@ fn zero_boxes(
 }
 
 // The answer for the totals; all lent words are set to 0 where it is a refusal.
-fn finish_plan(
+pub fn finish_plan(
     old_cards: &mut [u32],
     old_entries: &mut [u32],
     new_cards: &mut [u32],

@@ -1,0 +1,287 @@
+-- Laws of the listing: editions with a limit, the lines of all boards, and the page.
+use Prim.Native.Nat.{ℕ, suc, _+_, _*_, _-_, _/_, _≤_, _<_}
+use mathlib.Core.Path.{_≡_, refl, sym, ap, _∙_, subst, subst⁻¹}
+use mathlib.Core.Bool.{Bool, true, false, cond, _&&_}
+use mathlib.Core.List.{List, [], _∷_, _++_}
+use native.Mathlib.Omega.{arith}
+use lib.Dec.{ltb, leb}
+use lib.ListN.{length, replicate, length-replicate, length-append}
+use lib.Seq.{length-sets}
+use borrow.Author.Tests.{ltb-false, lt-ltb, le-ltb}
+use Rattle.tables.specs.declared.letters.Conventions.{Conventions}
+use Rattle.tables.specs.declared.page.Written.{Written}
+use Rattle.tables.specs.Page.{Put, Wrote, Finished}
+use Rattle.tables.proofs.Laws.{by-cases, clash}
+use Rattle.tables.proofs.PageLaws.{ToPut, to-put, putting, put-all, finished}
+use Rattle.reader.specs.declared.edition.ReadRefusal.{ReadRefusal}
+use Rattle.reader.specs.declared.edition.ReadRefusal.the-variants.{Overlong}
+use Rattle.reader.specs.declared.edition.Reading.{Reading}
+use Rattle.reader.specs.declared.edition.Reading.the-variants.{Taken}
+use Rattle.reader.specs.declared.edition.Reading.the-variants as reading
+use Rattle.reader.specs.Store.{zeros, putAll, flat, padded}
+use Rattle.reader.specs.Editions.{isTaken, readingOf, cardsOf, IsRead}
+use Rattle.reader.proofs.StoreLaws.{Blocks, put-zeros}
+use Rattle.reader.proofs.Counts.{TextBoardsFew}
+use Rattle.planning.specs.declared.state.BoardState.{BoardState}
+use Rattle.planning.specs.declared.editions.PlanRefusal.{PlanRefusal}
+use Rattle.planning.specs.declared.editions.PlanRefusal.the-variants.{Old, New, SlipsShort}
+use Rattle.planning.specs.declared.editions.Editions.{Editions}
+use Rattle.planning.specs.declared.editions.Editions.the-variants.{Both}
+use Rattle.planning.specs.declared.editions.Editions.the-variants as editions
+use Rattle.planning.specs.declared.plan.Totals.{Totals}
+use Rattle.planning.specs.declared.plan.Planned.{Planned}
+use Rattle.planning.specs.declared.plan.Planned.the-variants.{Listed}
+use Rattle.planning.specs.declared.plan.Planned.the-variants as planned
+use Rattle.planning.specs.Cards.{cardsIn, cardHere}
+use Rattle.planning.specs.States.{Judged, judged, stateOf}
+use Rattle.planning.specs.Slips.{slipsOf, countOf, totalsOf}
+use Rattle.planning.specs.Plans.{bothAfter, editionsOf, areBoth, lent, boardsOf, listedBy, plannedBy, isListed, BoxesAfter, BothRead, limitedOf, limitedBoth, BothLimited}
+use Rattle.planning.specs.Steps.{Kept, PlanFinished}
+use Rattle.planning.specs.Listing.{boardLine, boardLines, totalLine, refusedLine, listText, Countable, listedOf, wellOn, PageKept, BoardsListed, ListedAs, IsListing}
+use Rattle.planning.proofs.BothLaws.{CardsThere, both-are-taken, taken-short}
+use Rattle.planning.proofs.BoardLaws.{boardsLeft, left-first, left-step, left-none, boards-count}
+use Rattle.planning.proofs.PlanLaws.{count-few}
+use Rattle.planning.proofs.SlipLaws.{slips-count, slips-five}
+use Rattle.planning.proofs.AnswerLaws.{kept, listed-fits, solve-sum, there, boards-are}
+
+-- ---- two editions that were taken are within the limit
+
+pub limited-taken : (c : Conventions) (limit : ℕ) (text : List ℕ) (lc le : ℕ) → isTaken (limitedOf c limit text lc le) ≡ true → limitedOf c limit text lc le ≡ readingOf c text lc le
+unfolding limitedOf
+limited-taken c limit text lc le h =
+    by-cases (ltb limit (length text))
+    (λ e. clash (rw e at h))
+    (λ e. rw e)
+
+-- What both editions taken within the limit say: they are taken without it, and short.
+record TakenBoth (c : Conventions) (limit : ℕ) (old new : List ℕ) (lc le nc ne : ℕ) : Type 0 where
+  plain : limitedBoth c limit old new lc le nc ne ≡ editionsOf c old new lc le nc ne
+  old-short : length old ≤ 16777215
+  new-short : length new ≤ 16777215
+
+taken-both : (c : Conventions) (limit : ℕ) (old new : List ℕ) (lc le nc ne : ℕ) → areBoth (limitedBoth c limit old new lc le nc ne) ≡ true → TakenBoth c limit old new lc le nc ne
+unfolding limitedBoth editionsOf
+taken-both c limit old new lc le nc ne h =
+    let t = both-are-taken (limitedOf c limit old lc le) (limitedOf c limit new nc ne) h in
+    let eo = limited-taken c limit old lc le (t .0) in
+    let en = limited-taken c limit new nc ne (t .1) in
+    record {
+      plain = rw (eo, en);
+      old-short = taken-short c old lc le (sym (ap isTaken eo) ∙ t .0);
+      new-short = taken-short c new nc ne (sym (ap isTaken en) ∙ t .1);
+    }
+
+module _ {c : Conventions} {limit : ℕ} {old new oc oe nc ne oc′ oe′ nc′ ne′ : List ℕ} {r : Editions} (b : BothLimited c limit old new oc oe nc ne oc′ oe′ nc′ ne′ r) where
+  within : {m n : ℕ} → r ≡ Both m n → TakenBoth c limit old new (length oc) (length oe) (length nc) (length ne)
+  within e = taken-both c limit old new (length oc) (length oe) (length nc) (length ne) (sym (ap areBoth (b .answer)) ∙ ap areBoth e)
+
+  pub limited-both : {m n : ℕ} → r ≡ Both m n → BothRead c old new oc oe nc ne oc′ oe′ nc′ ne′ r
+  limited-both e = record { answer = b .answer ∙ within e .plain; boxes = b .boxes }
+
+  -- The lent cards are there, and few.
+  pub limited-room : {m n : ℕ} → r ≡ Both m n → (64 * m ≤ length oc′) × (64 * n ≤ length nc′) × (m ≤ 16777215) × (n ≤ 16777215)
+  limited-room e =
+      let t = there (limited-both e) e in (
+        t .0 .room,
+        t .1 .room,
+        omega (arith, t .0 .count, TextBoardsFew c old, within e .old-short),
+        omega (arith, t .1 .count, TextBoardsFew c new, within e .new-short),
+      )
+
+-- ---- the lines of all boards, one after the other
+
+pub record Lines (os : List (List ℕ)) (n : ℕ) (box page₀ page : List ℕ) (at k : ℕ) : Type 0 where
+  pub inside : k ≤ n
+  pub low : at ≤ 60 * k
+  pub left : ToPut page₀ 0 (boardLines (judged os (cardsIn n box))) page at (boardLines (boardsLeft os (cardsIn n box) k n box))
+
+pub lines-first : (os : List (List ℕ)) (n : ℕ) (box page : List ℕ) → Lines os n box page page 0 0
+lines-first os n box page =
+    record {
+      inside = omega arith;
+      low = omega arith;
+      left = subst (λ (js : List Judged). ToPut page 0 (boardLines (judged os (cardsIn n box))) page 0 (boardLines js)) (left-first os n box) (to-put page 0 (boardLines (judged os (cardsIn n box))));
+    }
+
+module _ {os : List (List ℕ)} {n : ℕ} {box page₀ page : List ℕ} {at k : ℕ} (i : Lines os n box page₀ page at k) where
+  pub lines-next : {p : ℕ} {s : BoardState} {page′ : List ℕ} {at′ : ℕ} → k < n → p ≡ k + 1 → s ≡ stateOf os (cardsIn n box) (cardsIn k box) (cardHere k box)
+      → Put page at (boardLine p s) page′ at′ → at′ ≤ at + 60 → Lines os n box page₀ page′ at′ (k + 1)
+  lines-next {p} {s} {page′} {at′} h ep es w hl =
+      let ns = cardsIn n box in
+      let all = boardLines (judged os ns) in
+      let rest = boardLines (boardsLeft os ns (k + 1) n box) in
+      let here = boardLine (k + 1) (stateOf os ns (cardsIn k box) (cardHere k box)) in
+      let l : ToPut page₀ 0 all page at (here ++ rest) = subst (λ (js : List Judged). ToPut page₀ 0 all page at (boardLines js)) (left-step os ns k n box h) (i .left) in
+      let w′ : Put page at here page′ at′ = rw (ep, es) at w in
+      record {
+        inside = omega arith;
+        low = omega (arith, i .low);
+        left = putting here rest l w′;
+      }
+
+  pub lines-end : n ≤ k → Put page₀ 0 (boardLines (judged os (cardsIn n box))) page at × (at ≤ 60 * n)
+  lines-end h =
+      let ns = cardsIn n box in
+      let all = boardLines (judged os ns) in (
+        put-all (subst (λ (js : List Judged). ToPut page₀ 0 all page at (boardLines js)) (left-none os ns k n box h) (i .left)),
+        omega (arith, i .low, i .inside),
+      )
+
+-- ---- totals fit 32 bits
+
+totals-low : (js : List Judged) → length js ≤ 16777215 → Countable (totalsOf js)
+unfolding totalsOf
+totals-low js h = record {
+  boards-low = omega arith;
+  blank-low = omega (arith, count-few 0 js);
+  own-low = omega (arith, count-few 1 js);
+  old-low = omega (arith, count-few 2 js);
+  near-low = omega (arith, count-few 3 js);
+  twin-low = omega (arith, count-few 4 js);
+  solve-low = omega (arith, count-few 5 js);
+}
+
+abbrev totals-in : Planned → Totals → Totals
+totals-in (Listed t) d = t
+totals-in (planned.Refused f) d = d
+
+-- The totals listed are those of the boards.
+listed-totals : (l : ℕ) {t u : Totals} → Listed u ≡ listedBy l t → u ≡ t
+listed-totals l {t} {u} h =
+    by-cases (ltb l (t .solve))
+    (λ e. clash (sym (ap isListed (rw e at h))))
+    (λ e. ap (λ (p : Planned). totals-in p t) (rw e at h))
+
+pub listed-low : (os : List (List ℕ)) (n : ℕ) (box : List ℕ) {oc oe nc ne slips oc′ oe′ nc′ ne′ slips′ : List ℕ} {t u : Totals} {q : Planned} → t ≡ totalsOf (judged os (cardsIn n box)) → n ≤ 16777215
+    → PlanFinished oc oe nc ne slips t q oc′ oe′ nc′ ne′ slips′ → q ≡ Listed u → Countable u
+listed-low os n box {slips = slips} {t = t} {u = u} et h p e =
+    let js = judged os (cardsIn n box) in
+    let eu : u ≡ totalsOf js = listed-totals (length slips / 5) (sym e ∙ p .answer) ∙ et in
+    subst⁻¹ Countable eu (totals-low js (rw (boards-count os n box) h))
+
+-- ---- the end
+
+-- What the answer of the plan is called does not matter.
+listed-as : {js : List Judged} {oc oe nc ne slips page oc′ oe′ nc′ ne′ slips′ page′ : List ℕ} {r : Written} (q : Planned) → q ≡ listedBy (length slips / 5) (totalsOf js)
+    → Wrote (listText q js) page page′ r → Kept (wellOn q js (length page)) oc oe nc ne oc′ oe′ nc′ ne′ → slips′ ≡ cond (wellOn q js (length page)) (putAll 5 slips 0 (slipsOf js)) (zeros slips)
+    → BoardsListed js oc oe nc ne slips page oc′ oe′ nc′ ne′ slips′ page′ r
+listed-as {js} {oc} {oe} {nc} {ne} {slips} {page} {oc′} {oe′} {nc′} {ne′} {slips′} {page′} {r} q e w k s = record {
+  wrote = subst (λ (p : Planned). Wrote (listText p js) page page′ r) e w;
+  boxes = subst (λ (p : Planned). Kept (wellOn p js (length page)) oc oe nc ne oc′ oe′ nc′ ne′) e k;
+  slips-after = subst (λ (p : Planned). slips′ ≡ cond (wellOn p js (length page)) (putAll 5 slips 0 (slipsOf js)) (zeros slips)) e s;
+}
+
+module _ (js : List Judged) (slips : List ℕ) {oc oe nc ne ps oc′ oe′ nc′ ne′ slips′ : List ℕ} {t : Totals} {q : Planned}
+    (f : (t ≡ totalsOf js) × (ps ≡ putAll 5 slips 0 (slipsOf js))) (el : length ps ≡ length slips) (p : PlanFinished oc oe nc ne ps t q oc′ oe′ nc′ ne′ slips′) where
+  answer-is : q ≡ listedBy (length slips / 5) (totalsOf js)
+  answer-is = p .answer ∙ ap (λ (k : ℕ). listedBy (k / 5) t) el ∙ ap (listedBy (length slips / 5)) (f .0)
+
+  -- The plan is refused.
+  pub boards-refused : {g : PlanRefusal} {page page₁ page′ : List ℕ} {n : ℕ} {r : Written} → q ≡ planned.Refused g → Put page 0 (refusedLine g) page₁ n → Finished n page₁ page′ r
+      → BoardsListed js oc oe nc ne slips page oc′ oe′ nc′ ne′ slips′ page′ r
+  unfolding wellOn
+  boards-refused {g} e w z =
+      listed-as
+      (planned.Refused g)
+      (sym e ∙ answer-is)
+      (finished w z)
+      (subst (λ (x : Planned). Kept (isListed x) oc oe nc ne oc′ oe′ nc′ ne′) e (p .boxes))
+      (subst (λ (x : Planned). slips′ ≡ cond (isListed x) ps (zeros ps)) e (p .slips-after) ∙ rw el)
+
+  -- It is listed, and the lent words are kept.
+  listed-boxes : {u : Totals} → q ≡ Listed u → Kept true oc oe nc ne oc′ oe′ nc′ ne′ × (slips′ ≡ ps)
+  listed-boxes e = (
+    subst (λ (x : Planned). Kept (isListed x) oc oe nc ne oc′ oe′ nc′ ne′) e (p .boxes),
+    subst (λ (x : Planned). slips′ ≡ cond (isListed x) ps (zeros ps)) e (p .slips-after),
+  )
+
+  pub boards-listed : (a b : ℕ) {u : Totals} {oc″ oe″ nc″ ne″ slips″ page page₁ page′ : List ℕ} {n : ℕ} {r : Written} → js ≡ judged (cardsIn a oc) (cardsIn b nc) → q ≡ Listed u
+      → Put page 0 (boardLines (judged (cardsIn a oc′) (cardsIn b nc′)) ++ totalLine u) page₁ n
+      → PageKept n oc′ oe′ nc′ ne′ slips′ page₁ oc″ oe″ nc″ ne″ slips″ page′ r
+      → BoardsListed js oc oe nc ne slips page oc″ oe″ nc″ ne″ slips″ page′ r
+  unfolding wellOn
+  boards-listed a b {u} {oc″} {oe″} {nc″} {ne″} {slips″} {page} {page₁} {page′} {n} ej e w z =
+      let k = listed-boxes e in
+      let same : judged (cardsIn a oc′) (cardsIn b nc′) ≡ js = rw (k .0 .old-cards, k .0 .new-cards) (sym ej) in
+      let text = boardLines js ++ totalLine u in
+      let w′ : Put page 0 text page₁ n = rw same at w in
+      let en : n ≡ length text = omega (arith, w′ .next) in
+      let ep : length page₁ ≡ length page = rw (w′ .after, length-sets) in
+      let fit : leb n (length page₁) ≡ leb (length text) (length page) = rw (en, ep) in
+      let z′ : Kept (leb (length text) (length page)) oc′ oe′ nc′ ne′ oc″ oe″ nc″ ne″ = subst (λ (x : Bool). Kept x oc′ oe′ nc′ ne′ oc″ oe″ nc″ ne″) fit (z .boxes) in
+      let well = leb (length text) (length page) in
+      listed-as
+      (Listed u)
+      (sym e ∙ answer-is)
+      (finished w′ (z .end))
+      record {
+        old-cards = rw (k .0 .old-cards) at (z′ .old-cards);
+        old-entries = rw (k .0 .old-entries) at (z′ .old-entries);
+        new-cards = rw (k .0 .new-cards) at (z′ .new-cards);
+        new-entries = rw (k .0 .new-entries) at (z′ .new-entries);
+      }
+      (subst (λ (x : Bool). slips″ ≡ cond x slips′ (zeros slips′)) fit (z .slips-after) ∙ slips-same well slips (k .1 ∙ f .1) (ap length (k .1) ∙ el))
+    where
+      slips-same : (x : Bool) (zs : List ℕ) {xs ys : List ℕ} → xs ≡ ys → length xs ≡ length zs → cond x xs (zeros xs) ≡ cond x ys (zeros zs)
+      slips-same true zs ex lx = ex
+      slips-same false zs ex lx = rw lx
+
+-- ---- the whole
+
+well-listed : (p : Planned) (js : List Judged) (n : ℕ) → wellOn p js n ≡ true → isListed p ≡ true
+unfolding wellOn
+well-listed (Listed t) js n h = refl
+well-listed (planned.Refused f) js n h = clash h
+
+-- Blocks put into zeros, or zeros.
+slips-well : (b : Bool) (L : ℕ) {xs : List (List ℕ)} {w : List ℕ} → Blocks 5 xs → (b ≡ true → 5 * length xs ≤ L) → w ≡ cond b (putAll 5 (replicate L 0) 0 xs) (replicate L 0) → w ≡ lent b L xs
+slips-well true L k h e = e ∙ put-zeros 5 L k (h refl)
+slips-well false L k h e = e
+
+module _ {c : Conventions} {limit : ℕ} {old new oc oe nc ne oc′ oe′ nc′ ne′ slips zs page : List ℕ} {r : Editions} (b : BothLimited c limit old new oc oe nc ne oc′ oe′ nc′ ne′ r) (z : zs ≡ zeros slips) where
+  pub list-refused : {f : PlanRefusal} {n : ℕ} {page₁ page′ : List ℕ} {w : Written} → r ≡ editions.Refused f → Put page 0 (refusedLine f) page₁ n → Finished n page₁ page′ w
+      → IsListing c limit old new oc oe nc ne slips page oc′ oe′ nc′ ne′ zs page′ w
+  unfolding listedOf wellOn
+  list-refused {f} {n} {page₁} {page′} {w} e p g =
+      let a : limitedBoth c limit old new (length oc) (length oe) (length nc) (length ne) ≡ editions.Refused f = sym (b .answer) ∙ e in
+      let well : areBoth r ≡ false = ap areBoth e in
+      record {
+        wrote = rw a (finished p g);
+        boxes = rw a (rw well at (b .boxes));
+        slips-after = rw a z;
+      }
+
+  pub list-both : {m n : ℕ} {oc″ oe″ nc″ ne″ slips″ page′ : List ℕ} {w : Written} → r ≡ Both m n
+      → length oc′ ≡ length oc → length oe′ ≡ length oe → length nc′ ≡ length nc → length ne′ ≡ length ne
+      → BoardsListed (judged (cardsIn m oc′) (cardsIn n nc′)) oc′ oe′ nc′ ne′ zs page oc″ oe″ nc″ ne″ slips″ page′ w
+      → IsListing c limit old new oc oe nc ne slips page oc″ oe″ nc″ ne″ slips″ page′ w
+  unfolding listedOf
+  list-both {m} {n} {oc″} {oe″} {nc″} {ne″} {slips″} {page′} {w} e lo le ln lm g =
+      let ls = length slips in
+      let js = boardsOf c old new in
+      let t = totalsOf js in
+      let a : limitedBoth c limit old new (length oc) (length oe) (length nc) (length ne) ≡ Both m n = sym (b .answer) ∙ e in
+      let same : judged (cardsIn m oc′) (cardsIn n nc′) ≡ js = boards-are (limited-both b e) e in
+      let lz : length zs ≡ ls = ap length z ∙ length-replicate ls 0 in
+      let g′ : BoardsListed js oc′ oe′ nc′ ne′ zs page oc″ oe″ nc″ ne″ slips″ page′ w = subst (λ (x : List Judged). BoardsListed x oc′ oe′ nc′ ne′ zs page oc″ oe″ nc″ ne″ slips″ page′ w) same g in
+      let q = listedBy (ls / 5) t in
+      let well = wellOn q js (length page) in
+      let boxes : BoxesAfter c true old new oc oe nc ne oc′ oe′ nc′ ne′ = subst (λ (x : Editions). BoxesAfter c (areBoth x) old new oc oe nc ne oc′ oe′ nc′ ne′) e (b .boxes) in
+      let ks : Kept well oc′ oe′ nc′ ne′ oc″ oe″ nc″ ne″ = subst (λ (k : ℕ). Kept (wellOn (listedBy (k / 5) t) js (length page)) oc′ oe′ nc′ ne′ oc″ oe″ nc″ ne″) lz (g′ .boxes) in
+      let es : t .solve ≡ length (slipsOf js) = solve-sum js ∙ sym (slips-count js) in
+      let sl : slips″ ≡ cond well (putAll 5 zs 0 (slipsOf js)) (zeros zs) = subst (λ (k : ℕ). slips″ ≡ cond (wellOn (listedBy (k / 5) t) js (length page)) (putAll 5 zs 0 (slipsOf js)) (zeros zs)) lz (g′ .slips-after) in
+      let sl′ : slips″ ≡ cond well (putAll 5 (replicate ls 0) 0 (slipsOf js)) (replicate ls 0) = sl ∙ rw (lz, z) in
+      let h : well ≡ true → 5 * length (slipsOf js) ≤ ls = λ x. omega (arith, listed-fits ls t (well-listed q js (length page) x), es) in
+      let whole : ListedAs c q old new oc oe nc ne slips page oc″ oe″ nc″ ne″ slips″ page′ w =
+      record {
+        wrote = subst (λ (k : ℕ). Wrote (listText (listedBy (k / 5) t) js) page page′ w) lz (g′ .wrote);
+        boxes =
+            record {
+              old-cards = kept well (length oc) (boxes .old-cards) lo (ks .old-cards);
+              old-entries = kept well (length oe) (boxes .old-entries) le (ks .old-entries);
+              new-cards = kept well (length nc) (boxes .new-cards) ln (ks .new-cards);
+              new-entries = kept well (length ne) (boxes .new-entries) lm (ks .new-entries);
+            };
+        slips-after = slips-well well ls (slips-five js) h sl′;
+      } in
+      subst⁻¹ (λ (x : Editions). ListedAs c (plannedBy x (ls / 5) t) old new oc oe nc ne slips page oc″ oe″ nc″ ne″ slips″ page′ w) a whole
