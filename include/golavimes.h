@@ -14,14 +14,16 @@
  *   - returns the refusal number, 0 for none, and puts it into answer[0] too;
  *   - takes any bytes and any lengths: bad input is refused and is never a
  *     fault;
- *   - reads only what it is lent to read, writes only what it is lent to be
- *     written, and all of that, whatever stood there before;
+ *   - reads only what it is lent to read and what it has written itself, writes
+ *     only what it is lent to be written, and all of that, whatever stood there
+ *     before;
  *   - allocates nothing, keeps nothing between calls and has no global state.
- *     Calls on different memory may run on several threads at once.
+ *     Calls that write different memory may run on several threads at once; they
+ *     may read the same texts.
  *
  * What the caller sees to, since no function can test it:
  *   - Pointers are not null, also where the length is 0. With length 0 nothing
- *     is read or written there, so any pointer that is not null will do.
+ *     is read or written there, so any aligned pointer that is not null will do.
  *   - The length of a text, a value or a page is a number of bytes; that of
  *     cards or entries is a number of uint32_t words, not of bytes and not of
  *     cards or entries; that of slips or boards is a number of uint64_t numbers,
@@ -132,7 +134,7 @@ enum {
     GOLAVIMES_WORD_PLAY = 55,        /* its first entry plus 1; 56 its entries, 57 its leader, */
                                      /* 58 its end, 59 its trump suit, 4 for none */
     GOLAVIMES_WORD_RECORD_START = 60, /* the record's first byte in the text */
-    GOLAVIMES_WORD_RECORD_END = 61    /* the byte behind its last */
+    GOLAVIMES_WORD_RECORD_END = 61    /* the byte after its last */
 };
 
 /* The kinds of an entry, its word 0. But for a trick, word 1 is the start in the
@@ -145,7 +147,8 @@ enum {
     GOLAVIMES_KIND_DATA = 5,       /* a data line: 1 auction, 2 play, 3 optimum */
     GOLAVIMES_KIND_CALL = 6,       /* the code of the call */
     GOLAVIMES_KIND_ANNOTATION = 7, /* of the call before it */
-    GOLAVIMES_KIND_TRICK = 8       /* leader, winner or 4, four slots, a byte each, lowest first */
+    GOLAVIMES_KIND_TRICK = 8       /* leader, winner or 4, four slots, a byte each, lowest first: */
+                                   /* 255 empty, else the number of the card's bit in a hand */
 };
 
 /*
@@ -180,7 +183,7 @@ enum {
  *   2  it has more boards than cards are lent; answer[2] is all its boards
  *   3  they have more entries than are lent; answer[2] is all their entries
  * After a refusal every word of cards and entries is 0. After success the words
- * behind the last card and behind the last entry are 0.
+ * after the last card and after the last entry are 0.
  *
  * Counting goes on past what is lent, so the carried number is the whole need,
  * and a call with that much is never refused for it again. A host that does not
@@ -260,7 +263,7 @@ uint64_t golavimes_read(const uint8_t *text, size_t text_length, uint32_t *cards
  *   twin   an earlier board of the new edition has the same deal
  *   solve  none of these
  * `from` is the first board that makes it old, near or twin, counted from 1 in
- * its own edition; 0 for blank, own and solve. That of near may stand behind the
+ * its own edition; 0 for blank, own and solve. That of near may stand after the
  * board; that of twin is always a solve board.
  *
  * A deal is listed exactly when a board of the new edition has it and no board
@@ -289,7 +292,14 @@ uint64_t golavimes_read(const uint8_t *text, size_t text_length, uint32_t *cards
  * know the sizes asks: it lends nothing at first, and after each refusal 2, 3 or
  * 4 lends the carried number to what the refusal is about, 64 words a card, 4 an
  * entry, 5 numbers a slip. What was lent so is never too little again, so the
- * sixth call at the latest is taken, unless a text is refused with 1.
+ * sixth call at the latest is taken (the fifth where no slips are lent), unless
+ * a text is refused with 1. golavimes_boards needs 5 numbers a board: with
+ * boards_length 0 it tells the boards in answer[3].
+ *
+ * How long it takes. Each text is read once a call. Each board without a table
+ * is then sought among the boards of both editions, so the time of
+ * golavimes_plan and golavimes_boards grows with the square of the boards: some
+ * thousand boards take hundredths of a second, tens of thousands some seconds.
  */
 
 /* The editions, in answer[1] and for the record behind a board. */
@@ -337,10 +347,10 @@ uint64_t golavimes_plan(const uint8_t *old_text, size_t old_text_length,
  * uint64_t, so that 5 * b lend b boards. Board k, from 0, is the 5 numbers from
  * boards[5 * k] on: its state, its `from`, and the record behind it as edition
  * (1 old, 2 new), start and end, places in that edition's text; the end is the
- * byte behind its last.
+ * byte after its last.
  *
  * Too few numbers are no refusal: as many boards are written as fit whole, the
- * first ones, and zeros behind them. Compare answer[3] with what was lent.
+ * first ones, and zeros after them. Compare answer[3] with what was lent.
  */
 uint64_t golavimes_boards(const uint8_t *old_text, size_t old_text_length,
                           const uint8_t *new_text, size_t new_text_length,
@@ -353,7 +363,8 @@ uint64_t golavimes_boards(const uint8_t *old_text, size_t old_text_length,
 /*
  * One board of the new edition by its position, from 1. answer[3] is its state,
  * answer[4] its `from`. At a position outside 1 to the number of boards, which
- * is no refusal, both are 0.
+ * is no refusal, both are 0. A blank board answers the same; the number of
+ * boards is answer[3] of golavimes_plan or of golavimes_boards.
  *
  * A call reads both texts; for many boards golavimes_boards is the quicker way.
  */
@@ -414,7 +425,7 @@ uint64_t golavimes_record_behind(const uint8_t *old_text, size_t old_text_length
 
 /*
  * Writers of tables. They write the text of a table to the start of the page
- * and zeros behind it, to the page's end. Where the page is shorter than the
+ * and zeros after it, to the page's end. Where the page is shorter than the
  * text, the whole page is zeroed, refusal 7 is given, and answer[2] is the
  * length that is needed; a page of that length is enough. The text does not end
  * in a zero byte: its length is answer[3], 0 after a refusal. Cells may hold any

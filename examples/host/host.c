@@ -205,7 +205,7 @@ int main(int argc, char **argv)
                (unsigned long)answer[4 + GOLAVIMES_STATE_OLD], (unsigned long)answer[4 + GOLAVIMES_STATE_NEAR],
                (unsigned long)answer[4 + GOLAVIMES_STATE_TWIN], (unsigned long)answer[4 + GOLAVIMES_STATE_SOLVE]);
     }
-    if (fflush(stdout) != 0) {
+    if (fflush(stdout) != 0 || ferror(stdout)) {
         fprintf(stderr, "host: the output cannot be written: %s. Is the disk full?\n", strerror(errno));
         status = 1;
     }

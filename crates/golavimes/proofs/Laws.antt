@@ -16,7 +16,7 @@ use Rattle.planning.specs.declared.editions.Editions.{Editions}
 use Rattle.planning.specs.declared.plan.Planned.{Planned}
 use Rattle.planning.specs.Slips.{slipsOf}
 use Rattle.planning.specs.Plans.{isListed, lent, boardsOf, stateBy, behindBy, boardsAfter, IsPlanned, StateTold, BehindTold, BoardsTold}
-use Rattle.golavimes.specs.Answers.{writtenNumbers, decodedNumbers, readingNumbers, planNumbers, stateNumbers, behindNumbers, boardsNumbers, WroteOut, ReadOut, EditionOut, PlanOut, StateOut, BehindOut, BoardsOut}
+use Rattle.golavimes.specs.Answers.{writtenNumbers, decodedNumbers, readingNumbers, planNumbers, stateNumbers, recordNumbers, boardsNumbers, WroteOut, ReadOut, EditionOut, PlanOut, StateOut, BehindOut, BoardsOut}
 
 pub wrote-out : {bs page page′ : List ℕ} {w : Written} {numbers : List ℕ} → Wrote bs page page′ w → numbers ≡ writtenNumbers w → WroteOut bs page page′ numbers (getD numbers 0 0)
 wrote-out a e = record { told = e ∙ ap writtenNumbers (a .told); page-after = a .page-after; returned = refl }
@@ -64,11 +64,11 @@ state-out {c} {old} {new} {oc} {oe} {nc} {ne} {oc′} {oe′} {nc′} {ne′} {n
     }
 
 pub behind-out : {c : Conventions} {old new oc oe nc ne oc′ oe′ nc′ ne′ numbers : List ℕ} {p : ℕ} {r : Editions} {b : Behind}
-    → BehindTold c old new oc oe nc ne oc′ oe′ nc′ ne′ p r b → numbers ≡ behindNumbers r b
+    → BehindTold c old new oc oe nc ne oc′ oe′ nc′ ne′ p r b → numbers ≡ recordNumbers r b
     → BehindOut c old new oc oe nc ne oc′ oe′ nc′ ne′ p numbers (getD numbers 0 0)
 behind-out {c} {old} {new} {oc} {oe} {nc} {ne} {oc′} {oe′} {nc′} {ne′} {numbers} {p} {r} {b} a e =
     record {
-      told = e ∙ (ap (behindNumbers r) (a .behind) ∙ ap (λ (x : Editions). behindNumbers x (behindBy x c old new p)) (a .editions-read .answer));
+      told = e ∙ (ap (recordNumbers r) (a .behind) ∙ ap (λ (x : Editions). recordNumbers x (behindBy x c old new p)) (a .editions-read .answer));
       boxes = rw (← a .editions-read .answer) (a .editions-read .boxes);
       returned = refl;
     }

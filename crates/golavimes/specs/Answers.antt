@@ -74,8 +74,8 @@ partNumbers (InOld a e) = 1 ∷ a ∷ (e - a) ∷ []
 partNumbers (InNew a e) = 2 ∷ a ∷ (e - a) ∷ []
 partNumbers Nothing = 0 ∷ 0 ∷ 0 ∷ []
 
-abbrev pub behindNumbers : Editions → Behind → List ℕ
-behindNumbers r b = headThen (editionsHead r) (partNumbers b)
+abbrev pub recordNumbers : Editions → Behind → List ℕ
+recordNumbers r b = headThen (editionsHead r) (partNumbers b)
 
 -- The boards of the new edition.
 abbrev pub boardsIn : Editions → ℕ
@@ -119,7 +119,7 @@ pub record StateOut (c : Conventions) (old new oc oe nc ne oc′ oe′ nc′ ne�
 
 -- The record behind the board at a position.
 pub record BehindOut (c : Conventions) (old new oc oe nc ne oc′ oe′ nc′ ne′ : List ℕ) (p : ℕ) (answer′ : List ℕ) (r : ℕ) : Type 0 where
-  pub told : answer′ ≡ behindNumbers (editionsOf c old new (length oc) (length oe) (length nc) (length ne)) (behindBy (editionsOf c old new (length oc) (length oe) (length nc) (length ne)) c old new p)
+  pub told : answer′ ≡ recordNumbers (editionsOf c old new (length oc) (length oe) (length nc) (length ne)) (behindBy (editionsOf c old new (length oc) (length oe) (length nc) (length ne)) c old new p)
   pub boxes : BoxesAfter c (areBoth (editionsOf c old new (length oc) (length oe) (length nc) (length ne))) old new oc oe nc ne oc′ oe′ nc′ ne′
   pub returned : r ≡ getD answer′ 0 0
 

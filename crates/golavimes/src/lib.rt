@@ -2,7 +2,7 @@
 ghost use mathlib.Core.Path.{_≡_};
 ghost use Prim.Native.Nat.{_-_};
 ghost use lib.ListN.{getD};
-ghost use Rattle.golavimes.specs.Answers.{writtenNumbers, decodedNumbers, readingNumbers, refusedHead, editionsHead, planNumbers, stateNumbers, behindNumbers, boardsNumbers, WroteOut, ReadOut, EditionOut, PlanOut, StateOut, BehindOut, BoardsOut};
+ghost use Rattle.golavimes.specs.Answers.{writtenNumbers, decodedNumbers, readingNumbers, refusedHead, editionsHead, planNumbers, stateNumbers, recordNumbers, boardsNumbers, WroteOut, ReadOut, EditionOut, PlanOut, StateOut, BehindOut, BoardsOut};
 ghost use Rattle.tables.specs.Letters.{builtIn};
 ghost use Rattle.tables.specs.Tables.{digitsText, headerText, rowsText, tableOfDigits, tableOfRows};
 use planning::behind::Behind;
@@ -285,7 +285,7 @@ fn less(e: u64, a: u64) -> u64
 }
 
 fn behind_numbers(r: Editions, b: Behind) -> [u64; 6]
-    ensures { λ n. ⌜ n ≡ behindNumbers r b ⌝ }
+    ensures { λ n. ⌜ n ≡ recordNumbers r b ⌝ }
 {
     let h = editions_head(r);
     match b {
