@@ -3,6 +3,7 @@
 
 mod guard;
 mod model;
+mod plan;
 mod read;
 mod rng;
 mod shrink;
@@ -13,6 +14,7 @@ use std::process::ExitCode;
 const USAGE: &str = "\
 usage: compare tables [--seed N]
        compare read [--seed N]
+       compare plan [--seed N]
        compare bench [--seed N]
        compare outside [--seed N]
        compare record tables PATH [--seed N]
@@ -31,8 +33,11 @@ fn main() -> ExitCode {
     match words[..] {
         ["tables"] => exit(tables::run(seed)),
         ["read"] => exit(read::run(seed)),
+        ["plan"] => exit(plan::run(seed)),
         ["bench"] => {
             read::bench::run(seed);
+            println!();
+            plan::bench::run(seed);
             ExitCode::SUCCESS
         }
         ["outside"] => exit(read::outside::run(seed)),

@@ -2,27 +2,28 @@
 
 pub mod bench;
 mod chosen;
-mod generate;
-mod judge;
-mod model;
+pub mod generate;
+pub mod judge;
+pub mod model;
 pub mod outside;
-mod product;
+pub mod product;
 pub mod record;
 
 use crate::shrink::{shrink, Ways};
 use crate::tables::hex;
 use crate::tables::judge::text_in_domain;
 use bridge_encodings::pbn::read_pbn;
+use bridge_types::Board;
 use judge::{field_that_differs, Words};
 use model::{Reading, CARD, ENTRY};
 use product::{Lent, Product};
 use std::collections::BTreeMap;
 
 /// The longest edition.
-const LONGEST: usize = 16_777_215;
+pub const LONGEST: usize = 16_777_215;
 
 /// Where the product departs from what is wanted, in words.
-type Checked = Result<(), String>;
+pub type Checked = Result<(), String>;
 
 /// Every so many texts the lent sizes around each boundary are tried.
 const SIZES_EVERY: u64 = 97;
@@ -86,7 +87,16 @@ fn compare_with(
 
 /// The boards that the words describe, against the Rust's.
 fn compare_boards(words: &Words, text: &str) -> Checked {
-    let rust = read_pbn(text).map_err(|error| format!("reader.rs refuses: {error}"))?;
+    compare_read(words, &read_rust(text)?)
+}
+
+/// The boards that the Rust reads.
+pub fn read_rust(text: &str) -> Result<Vec<Board>, String> {
+    read_pbn(text).map_err(|error| format!("reader.rs refuses: {error}"))
+}
+
+/// The boards that the words describe, against these.
+pub fn compare_read(words: &Words, rust: &[Board]) -> Checked {
     if rust.len() != words.boards() {
         let seen = words.boards();
         return Err(format!(
@@ -165,7 +175,7 @@ fn compare_sizes(product: &mut Product, text: &[u8]) -> Result<u64, String> {
 }
 
 /// The answer to a call with what is lent, by the numbers that the model counts.
-fn answer_for(length: usize, lent: Lent, wanted: &Reading) -> [u64; 5] {
+pub fn answer_for(length: usize, lent: Lent, wanted: &Reading) -> [u64; 5] {
     let boards = wanted.boards() as u64;
     let entries = wanted.entry_count() as u64;
     if length > LONGEST {

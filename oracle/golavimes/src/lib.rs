@@ -1,11 +1,12 @@
 //! Safe functions over the C functions of `libgolavimes.a`.
 //!
 //! Every function fills the answer array and returns its first number:
-//! `answer[0]` is the refusal (0 none), `answer[1]` the edition (0 here),
-//! `answer[2]` the number a refusal carries; a writer adds `answer[3]`, the
-//! bytes written, and the reader of editions `answer[3]` and `answer[4]`, its
-//! boards and entries. Slices and arrays of the right length are all that the C
-//! functions ask for, so nothing here needs a test before the call.
+//! `answer[0]` is the refusal (0 none), `answer[1]` the edition (1 old, 2 new, 0
+//! neither), `answer[2]` the number a refusal carries; a writer adds `answer[3]`,
+//! the bytes written, and the reader of editions `answer[3]` and `answer[4]`, its
+//! boards and entries. What the functions of planning add stands at each. Slices
+//! and arrays of the right length are all that the C functions ask for, so
+//! nothing here needs a test before the call.
 //!
 //! Nothing checks these declarations against the library: keep them in step
 //! with its sources.
@@ -54,6 +55,72 @@ mod c {
             cards_len: usize,
             entries: *mut u32,
             entries_len: usize,
+            answer: *mut u64,
+        ) -> u64;
+        pub fn golavimes_plan(
+            old: *const u8,
+            old_len: usize,
+            new: *const u8,
+            new_len: usize,
+            old_cards: *mut u32,
+            old_cards_len: usize,
+            old_entries: *mut u32,
+            old_entries_len: usize,
+            new_cards: *mut u32,
+            new_cards_len: usize,
+            new_entries: *mut u32,
+            new_entries_len: usize,
+            slips: *mut u64,
+            slips_len: usize,
+            answer: *mut u64,
+        ) -> u64;
+        pub fn golavimes_state(
+            old: *const u8,
+            old_len: usize,
+            new: *const u8,
+            new_len: usize,
+            old_cards: *mut u32,
+            old_cards_len: usize,
+            old_entries: *mut u32,
+            old_entries_len: usize,
+            new_cards: *mut u32,
+            new_cards_len: usize,
+            new_entries: *mut u32,
+            new_entries_len: usize,
+            position: u64,
+            answer: *mut u64,
+        ) -> u64;
+        pub fn golavimes_record_behind(
+            old: *const u8,
+            old_len: usize,
+            new: *const u8,
+            new_len: usize,
+            old_cards: *mut u32,
+            old_cards_len: usize,
+            old_entries: *mut u32,
+            old_entries_len: usize,
+            new_cards: *mut u32,
+            new_cards_len: usize,
+            new_entries: *mut u32,
+            new_entries_len: usize,
+            position: u64,
+            answer: *mut u64,
+        ) -> u64;
+        pub fn golavimes_boards(
+            old: *const u8,
+            old_len: usize,
+            new: *const u8,
+            new_len: usize,
+            old_cards: *mut u32,
+            old_cards_len: usize,
+            old_entries: *mut u32,
+            old_entries_len: usize,
+            new_cards: *mut u32,
+            new_cards_len: usize,
+            new_entries: *mut u32,
+            new_entries_len: usize,
+            boards: *mut u64,
+            boards_len: usize,
             answer: *mut u64,
         ) -> u64;
     }
@@ -163,6 +230,124 @@ pub fn read_fresh(
             entries.as_mut_ptr().cast(),
             entries.len(),
             answer.as_mut_ptr().cast(),
+        )
+    }
+}
+
+/// The texts of two editions.
+#[derive(Clone, Copy)]
+pub struct Editions<'a> {
+    pub old: &'a [u8],
+    pub new: &'a [u8],
+}
+
+/// What is lent for the cards and entries of both.
+pub struct Boxes<'a> {
+    pub old_cards: &'a mut [u32],
+    pub old_entries: &'a mut [u32],
+    pub new_cards: &'a mut [u32],
+    pub new_entries: &'a mut [u32],
+}
+
+/// Plans. The answer goes on with the number of boards, and how many of them are
+/// blank, own, old, near, twin and solve. A slip is 5 numbers.
+pub fn plan(editions: Editions, boxes: Boxes, slips: &mut [u64], answer: &mut [u64; 10]) -> u64 {
+    // SAFETY: as in dd_table_to_pbn.
+    unsafe {
+        c::golavimes_plan(
+            editions.old.as_ptr(),
+            editions.old.len(),
+            editions.new.as_ptr(),
+            editions.new.len(),
+            boxes.old_cards.as_mut_ptr(),
+            boxes.old_cards.len(),
+            boxes.old_entries.as_mut_ptr(),
+            boxes.old_entries.len(),
+            boxes.new_cards.as_mut_ptr(),
+            boxes.new_cards.len(),
+            boxes.new_entries.as_mut_ptr(),
+            boxes.new_entries.len(),
+            slips.as_mut_ptr(),
+            slips.len(),
+            answer.as_mut_ptr(),
+        )
+    }
+}
+
+/// The state of the board at a position from 1. The answer goes on with the state
+/// (0 blank, 1 own, 2 old, 3 near, 4 twin, 5 solve) and `from`.
+pub fn state(editions: Editions, boxes: Boxes, position: u64, answer: &mut [u64; 5]) -> u64 {
+    // SAFETY: as in dd_table_to_pbn.
+    unsafe {
+        c::golavimes_state(
+            editions.old.as_ptr(),
+            editions.old.len(),
+            editions.new.as_ptr(),
+            editions.new.len(),
+            boxes.old_cards.as_mut_ptr(),
+            boxes.old_cards.len(),
+            boxes.old_entries.as_mut_ptr(),
+            boxes.old_entries.len(),
+            boxes.new_cards.as_mut_ptr(),
+            boxes.new_cards.len(),
+            boxes.new_entries.as_mut_ptr(),
+            boxes.new_entries.len(),
+            position,
+            answer.as_mut_ptr(),
+        )
+    }
+}
+
+/// The record behind the board at a position from 1. The answer goes on with the
+/// edition it is part of (0 for the empty part), its start and its length.
+pub fn record_behind(
+    editions: Editions,
+    boxes: Boxes,
+    position: u64,
+    answer: &mut [u64; 6],
+) -> u64 {
+    // SAFETY: as in dd_table_to_pbn.
+    unsafe {
+        c::golavimes_record_behind(
+            editions.old.as_ptr(),
+            editions.old.len(),
+            editions.new.as_ptr(),
+            editions.new.len(),
+            boxes.old_cards.as_mut_ptr(),
+            boxes.old_cards.len(),
+            boxes.old_entries.as_mut_ptr(),
+            boxes.old_entries.len(),
+            boxes.new_cards.as_mut_ptr(),
+            boxes.new_cards.len(),
+            boxes.new_entries.as_mut_ptr(),
+            boxes.new_entries.len(),
+            position,
+            answer.as_mut_ptr(),
+        )
+    }
+}
+
+/// Five numbers a board, as many as fit: state, `from`, and the edition, start and
+/// end of the record behind it. The answer goes on with the number of boards.
+pub fn boards(editions: Editions, boxes: Boxes, boards: &mut [u64], answer: &mut [u64; 4]) -> u64 {
+    // SAFETY: as in dd_table_to_pbn.
+    unsafe {
+        c::golavimes_boards(
+            editions.old.as_ptr(),
+            editions.old.len(),
+            editions.new.as_ptr(),
+            editions.new.len(),
+            boxes.old_cards.as_mut_ptr(),
+            boxes.old_cards.len(),
+            boxes.old_entries.as_mut_ptr(),
+            boxes.old_entries.len(),
+            boxes.new_cards.as_mut_ptr(),
+            boxes.new_cards.len(),
+            boxes.new_entries.as_mut_ptr(),
+            boxes.new_entries.len(),
+            boards.as_mut_ptr(),
+            boards.len(),
+            answer.as_mut_ptr(),
         )
     }
 }

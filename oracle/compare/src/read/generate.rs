@@ -515,7 +515,7 @@ fn value(rng: &mut Rng, name: &str) -> String {
 }
 
 /// An OptimumResultTable: its tag and its rows, with some of them damaged.
-fn optimum(rng: &mut Rng, damage: usize) -> String {
+pub fn optimum(rng: &mut Rng, damage: usize) -> String {
     let mut rows = Vec::new();
     for seat in ["N", "S", "E", "W"] {
         for strain in ["NT", "S", "H", "D", "C"] {
@@ -701,7 +701,7 @@ fn line(rng: &mut Rng, text: &mut String) {
     ]);
 }
 
-fn edition(rng: &mut Rng) -> Vec<u8> {
+pub fn edition(rng: &mut Rng) -> Vec<u8> {
     let mut text = String::new();
     for _ in 0..1 + rng.below(12) {
         line(rng, &mut text);
@@ -756,7 +756,7 @@ fn deals_and_tables(rng: &mut Rng, out: &mut Out) {
 }
 
 /// A change or a few of them.
-fn damage(rng: &mut Rng, text: &mut Vec<u8>) {
+pub fn damage(rng: &mut Rng, text: &mut Vec<u8>) {
     const BYTES: &[u8] = b"[]\"{};%\n\r \t\x0b\x1c:+-*=!$?_.AaPNSxX019\\";
     for _ in 0..1 + rng.below(2) {
         if text.is_empty() {
@@ -818,14 +818,18 @@ const OUTSIDE: [&[u8]; 12] = [
     b"\xc0\x80",
 ];
 
-/// An edition with some of these in it.
-fn edition_outside(rng: &mut Rng) -> Vec<u8> {
-    let mut text = edition(rng);
+/// Puts some of these into a text.
+pub fn put_outside(rng: &mut Rng, text: &mut Vec<u8>) {
     for _ in 0..1 + rng.below(3) {
         let at = rng.below(text.len() + 1);
         let odd = rng.pick(&OUTSIDE);
         text.splice(at..at, odd.iter().copied());
     }
+}
+
+fn edition_outside(rng: &mut Rng) -> Vec<u8> {
+    let mut text = edition(rng);
+    put_outside(rng, &mut text);
     text
 }
 
@@ -954,7 +958,7 @@ fn long(rng: &mut Rng, out: &mut Out) {
 // ---- Editions as they are met ----
 
 /// One board as producers write it.
-fn plain_board(rng: &mut Rng, number: usize) -> String {
+pub fn plain_board(rng: &mut Rng, number: usize) -> String {
     let mut pack: Vec<usize> = (0..52).collect();
     rng.shuffle(&mut pack);
     let hands: Vec<String> = pack

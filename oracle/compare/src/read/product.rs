@@ -4,11 +4,11 @@ use super::model::{CARD, ENTRY};
 use crate::guard::Guarded;
 
 /// What the words of a lent output are before the call.
-const FILL: u32 = 0xaaaa_aaaa;
-const FILL_ANSWER: u64 = 0xaaaa_aaaa_aaaa_aaaa;
+pub const FILL: u32 = 0xaaaa_aaaa;
+pub const FILL_ANSWER: u64 = 0xaaaa_aaaa_aaaa_aaaa;
 /// What may stand around a text: what a reader that looks past an end would
 /// slip on.
-const AROUND: [u8; 8] = [b'\n', b'"', b']', b'}', b'1', 0x80, b' ', b'P'];
+pub const AROUND: [u8; 8] = [b'\n', b'"', b']', b'}', b'1', 0x80, b' ', b'P'];
 
 /// The buffers, kept between calls.
 pub struct Product {

@@ -1,0 +1,636 @@
+//! Planning: pairs of editions planned by the product, by a model in plain Rust
+//! and from the boards that the unchanged `reader.rs` reads.
+
+pub mod bench;
+mod generate;
+mod judge;
+mod model;
+mod product;
+mod stretch;
+
+use crate::read::model::{CARD, ENTRY};
+use crate::read::product::Lent as LentBoxes;
+use crate::read::{Checked, LONGEST};
+use crate::rng::Rng;
+use crate::shrink::{shrink, Ways};
+use crate::tables::hex;
+use crate::tables::judge::text_in_domain;
+use model::{Plan, State, FIVE, STATES};
+use product::Product;
+use std::collections::BTreeMap;
+
+/// Which function is called, with the position that is asked for.
+#[derive(Clone, Copy, PartialEq, Eq, Debug)]
+pub enum Call {
+    Plan,
+    State(u64),
+    RecordBehind(u64),
+    Boards,
+}
+
+impl Call {
+    /// The length of the answer array.
+    fn answers(self) -> usize {
+        match self {
+            Call::Plan => 10,
+            Call::State(_) => 5,
+            Call::RecordBehind(_) => 6,
+            Call::Boards => 4,
+        }
+    }
+
+    /// How many things the call needs room for beside cards and entries: slips,
+    /// or boards with their five numbers.
+    fn numbered(self, plan: &Plan) -> Option<usize> {
+        match self {
+            Call::Plan => Some(plan.slips.len()),
+            Call::Boards => Some(plan.boards()),
+            Call::State(_) | Call::RecordBehind(_) => None,
+        }
+    }
+}
+
+/// How many words are lent for each edition, and how many numbers for slips or
+/// boards.
+#[derive(Debug)]
+pub struct Lent {
+    old: LentBoxes,
+    new: LentBoxes,
+    numbers: usize,
+}
+
+/// What is lent of one kind, by what is needed. "One" is a card, an entry, a slip
+/// or a board's five numbers.
+#[derive(Clone, Copy, PartialEq, Eq, Debug)]
+enum Room {
+    None,
+    OneLess,
+    WordLess,
+    Exact,
+    WordMore,
+    NearlyOneMore,
+    OneMore,
+}
+
+const ROOMS: [Room; 7] = [
+    Room::None,
+    Room::OneLess,
+    Room::WordLess,
+    Room::Exact,
+    Room::WordMore,
+    Room::NearlyOneMore,
+    Room::OneMore,
+];
+
+/// Those of them that are always enough.
+const ENOUGH: [Room; 4] = [
+    Room::Exact,
+    Room::WordMore,
+    Room::NearlyOneMore,
+    Room::OneMore,
+];
+
+impl Room {
+    fn words(self, needed: usize, size: usize) -> usize {
+        let exact = needed * size;
+        match self {
+            Room::None => 0,
+            Room::OneLess => exact.saturating_sub(size),
+            Room::WordLess => exact.saturating_sub(1),
+            Room::Exact => exact,
+            Room::WordMore => exact + 1,
+            Room::NearlyOneMore => exact + size - 1,
+            Room::OneMore => exact + size,
+        }
+    }
+}
+
+/// For the old edition's cards and entries, the new one's, and the numbers.
+type Rooms = [Room; 5];
+
+fn lent_by(plan: &Plan, call: Call, rooms: &Rooms) -> Lent {
+    let [old_cards, old_entries, new_cards, new_entries, numbers] = rooms;
+    Lent {
+        old: LentBoxes {
+            cards: old_cards.words(plan.olds.boards(), CARD),
+            entries: old_entries.words(plan.olds.entry_count(), ENTRY),
+        },
+        new: LentBoxes {
+            cards: new_cards.words(plan.news.boards(), CARD),
+            entries: new_entries.words(plan.news.entry_count(), ENTRY),
+        },
+        numbers: call
+            .numbered(plan)
+            .map_or(0, |count| numbers.words(count, FIVE)),
+    }
+}
+
+/// One thing that is checked of a pair.
+#[derive(Clone, Copy, Debug)]
+enum Check {
+    /// The model against the boards of the Rust.
+    Rust,
+    /// The promises of editions that are alike but for a stretch.
+    Stretch,
+    /// The product against the model.
+    Call(Call, Rooms),
+}
+
+/// A pair that failed a check.
+struct Failure {
+    group: &'static str,
+    old: Vec<u8>,
+    new: Vec<u8>,
+    check: Check,
+    error: String,
+}
+
+/// One call, against the model: its answer and every lent word.
+fn compare_call(product: &mut Product, plan: &Plan, call: Call, lent: &Lent) -> Checked {
+    product.call(call, plan.old, plan.new, lent)?;
+    let wanted = plan.wanted(call, lent);
+    if product.answer() != wanted.answer {
+        return Err(format!(
+            "answer\n  the model: {:?}\n  golavimes: {:?}",
+            wanted.answer,
+            product.answer()
+        ));
+    }
+    let seen = product.numbers();
+    if let Some(at) = (0..seen.len()).find(|at| seen[*at] != wanted.numbers[*at]) {
+        let five = at / FIVE;
+        let of = |numbers: &[u64]| -> Vec<u64> {
+            let fives = numbers.chunks(FIVE).nth(five);
+            fives.expect("the number is in one").to_vec()
+        };
+        return Err(format!(
+            "slip or board {five} from 0, hexadecimal\n  the model: {:x?}\n  golavimes: {:x?}",
+            of(&wanted.numbers),
+            of(seen)
+        ));
+    }
+    let nothing = Vec::new();
+    let taken = wanted.answer[0] == 0;
+    let names = ["old cards", "old entries", "new cards", "new entries"];
+    let readings = [
+        &plan.olds.cards,
+        &plan.olds.entries,
+        &plan.news.cards,
+        &plan.news.entries,
+    ];
+    for ((name, seen), reading) in names.into_iter().zip(product.boxes()).zip(readings) {
+        let used = if taken { reading } else { &nothing };
+        if seen[..used.len()] != used[..] {
+            return Err(format!("{name}: not those of the model"));
+        }
+        if let Some(at) = seen[used.len()..].iter().position(|word| *word != 0) {
+            let word = seen[used.len() + at];
+            return Err(format!("{name}: unused word {at} is {word:x}"));
+        }
+    }
+    Ok(())
+}
+
+/// Positions at and around the ends, and in an edition of few boards each. The
+/// last but one is, cut to 32 or to 63 bits, that of the first board.
+fn positions(boards: usize, rng: &mut Rng) -> Vec<u64> {
+    let boards = boards as u64;
+    let mut positions: Vec<u64> = if boards <= 16 {
+        (0..=boards).collect()
+    } else {
+        let some = (0..4).map(|_| 1 + rng.next() % boards);
+        [0, 1, 2, boards - 1, boards]
+            .into_iter()
+            .chain(some)
+            .collect()
+    };
+    positions.push(boards + 1);
+    positions.push([(1 << 32) + 1, (1 << 63) + 1][rng.below(2)]);
+    positions.push(u64::MAX);
+    positions
+}
+
+/// Every so many pairs the rooms around each boundary are tried.
+const SIZES_EVERY: u64 = 397;
+
+/// Every so many pairs each position is asked for, of the others one.
+const POSITIONS_EVERY: u64 = 5;
+
+/// What was met.
+#[derive(Default)]
+struct Counts {
+    groups: BTreeMap<&'static str, u64>,
+    by_rust: u64,
+    by_model: u64,
+    bytes: u64,
+    boards: u64,
+    states: [u64; 6],
+    /// Near boards whose source stands before them, and after them.
+    near: [u64; 2],
+    calls: u64,
+    /// By refusal and edition.
+    refused: BTreeMap<(u64, u64), u64>,
+    sized: u64,
+    alike: u64,
+    tabled: u64,
+    listing: u64,
+}
+
+/// Every refusal and the editions that it names.
+const REFUSALS: [(u64, u64, &str); 7] = [
+    (1, 1, "overlong, old"),
+    (2, 1, "box full, old"),
+    (3, 1, "list full, old"),
+    (1, 2, "overlong, new"),
+    (2, 2, "box full, new"),
+    (3, 2, "list full, new"),
+    (4, 0, "slips short"),
+];
+
+struct Run {
+    product: Product,
+    rng: Rng,
+    counts: Counts,
+}
+
+impl Run {
+    fn call(&mut self, plan: &Plan, call: Call, rooms: Rooms) -> Result<(), (Check, String)> {
+        let lent = lent_by(plan, call, &rooms);
+        compare_call(&mut self.product, plan, call, &lent)
+            .map_err(|error| (Check::Call(call, rooms), error))?;
+        let answer = self.product.answer();
+        self.counts.calls += 1;
+        *self
+            .counts
+            .refused
+            .entry((answer[0], answer[1]))
+            .or_default() += 1;
+        Ok(())
+    }
+
+    /// Compares one pair.
+    fn compare(
+        &mut self,
+        group: &'static str,
+        old: &[u8],
+        new: &[u8],
+    ) -> Result<(), (Check, String)> {
+        let plan = Plan::new(old, new);
+        let counts = &mut self.counts;
+        let count = counts.groups.entry(group).or_default();
+        *count += 1;
+        let number = *count;
+        counts.bytes += (old.len() + new.len()) as u64;
+        if let (Some(old), Some(new)) = (text_in_domain(old), text_in_domain(new)) {
+            counts.by_rust += 1;
+            judge::compare(&plan, old, new).map_err(|error| (Check::Rust, error))?;
+        } else {
+            counts.by_model += 1;
+        }
+        let shown = stretch::compare(&plan).map_err(|error| (Check::Stretch, error))?;
+        counts.alike += u64::from(shown.alike);
+        counts.tabled += u64::from(shown.tabled);
+        counts.listing += u64::from(shown.listed > 0);
+        counts.boards += plan.boards() as u64;
+        for (index, state) in plan.states.iter().enumerate() {
+            counts.states[state.number()] += 1;
+            if let State::Near(from) = state {
+                counts.near[usize::from(*from > index + 1)] += 1;
+            }
+        }
+
+        let enough = std::array::from_fn(|_| ENOUGH[self.rng.below(ENOUGH.len())]);
+        self.call(&plan, Call::Plan, enough)?;
+        self.call(&plan, Call::Boards, enough)?;
+        let positions = positions(plan.boards(), &mut self.rng);
+        if number.is_multiple_of(POSITIONS_EVERY) {
+            for position in &positions {
+                self.call(&plan, Call::State(*position), enough)?;
+                self.call(&plan, Call::RecordBehind(*position), enough)?;
+            }
+        }
+        let position = positions[self.rng.below(positions.len())];
+        let calls = [
+            Call::Plan,
+            Call::Boards,
+            Call::State(position),
+            Call::RecordBehind(position),
+        ];
+        let told = calls[2 + self.rng.below(2)];
+        self.call(&plan, told, enough)?;
+        let any = std::array::from_fn(|_| ROOMS[self.rng.below(ROOMS.len())]);
+        self.call(&plan, Call::Plan, any)?;
+        let other = calls[1 + self.rng.below(3)];
+        self.call(&plan, other, any)?;
+        if number.is_multiple_of(SIZES_EVERY) && old.len() + new.len() < 4000 {
+            self.counts.sized += 1;
+            for call in calls {
+                self.sizes(&plan, call)?;
+            }
+        }
+        Ok(())
+    }
+
+    /// Each room for each two of the lent boxes, the others just large enough.
+    fn sizes(&mut self, plan: &Plan, call: Call) -> Result<(), (Check, String)> {
+        let boxes = if call.numbered(plan).is_some() { 5 } else { 4 };
+        for one in 0..boxes {
+            for other in 0..one {
+                for room in ROOMS {
+                    for other_room in ROOMS {
+                        let mut rooms = [Room::Exact; 5];
+                        rooms[one] = room;
+                        rooms[other] = other_room;
+                        self.call(plan, call, rooms)?;
+                    }
+                }
+            }
+        }
+        Ok(())
+    }
+
+    /// Editions as long as can be, and longer, on either side.
+    fn longest(&mut self, seed: u64) -> Result<u64, String> {
+        let before = self.counts.calls;
+        let (longest, few) = generate::longest(seed);
+        let mut overlong = longest.clone();
+        overlong.push(b'x');
+        let exact = [Room::Exact; 5];
+        let [mut no_old_cards, mut no_new_entries] = [exact; 2];
+        no_old_cards[0] = Room::None;
+        no_new_entries[3] = Room::None;
+        let all_rooms = [exact, no_old_cards, no_new_entries];
+        let every = [
+            Call::Plan,
+            Call::State(1),
+            Call::RecordBehind(1),
+            Call::Boards,
+        ];
+
+        let text = |text| text_in_domain(text).expect("an edition of ASCII");
+        let plan = Plan::new(&longest, &few);
+        judge::compare(&plan, text(&longest), text(&few))?;
+        let is_late = |state: &&State| matches!(state, State::Old(from) if *from > 5000);
+        let late = plan.states.iter().filter(is_late).count();
+        assert!(late > 1, "the few boards are not the last of the longest");
+
+        let mut cases: Vec<(Plan, &[Rooms], &[Call])> = vec![
+            (plan, &all_rooms[..1], &every),
+            (Plan::new(&few, &longest), &all_rooms[..1], &every[..1]),
+        ];
+        for (old, new) in [
+            (&overlong, &few),
+            (&few, &overlong),
+            (&overlong, &overlong),
+            (&overlong, &longest),
+        ] {
+            cases.push((Plan::new(old, new), &all_rooms, &every));
+        }
+        for (plan, rooms, calls) in cases {
+            for rooms in rooms {
+                for call in calls {
+                    self.call(&plan, *call, *rooms).map_err(|(check, error)| {
+                        let lengths = (plan.old.len(), plan.new.len());
+                        format!("{check:?}, texts of {lengths:?} bytes: {error}")
+                    })?;
+                }
+            }
+        }
+        Ok(self.counts.calls - before)
+    }
+}
+
+/// Compares every pair. Returns whether all agreed.
+pub fn run(seed: u64) -> bool {
+    let mut run = Run {
+        product: Product::new(),
+        rng: Rng::new(seed ^ 0x706c_616e),
+        counts: Counts::default(),
+    };
+    let mut failed = None;
+    generate::all(seed, &mut |group, old, new| {
+        if let Err((check, error)) = run.compare(group, old, new) {
+            failed = Some(Failure {
+                group,
+                old: old.to_vec(),
+                new: new.to_vec(),
+                check,
+                error,
+            });
+        }
+        failed.is_none()
+    });
+    let long = match failed {
+        None => run.longest(seed),
+        Some(_) => Ok(0),
+    };
+    let unmet = print(&run.counts);
+    if let Some(failure) = failed {
+        println!("plan: DIFFERENCE, met in \"{}\"", failure.group);
+        show(&mut run.product, &failure);
+        return false;
+    }
+    match long {
+        Ok(calls) => println!("plan: {calls} calls with texts of {LONGEST} bytes and one more"),
+        Err(error) => {
+            println!("plan: DIFFERENCE, with the longest text or a longer one: {error}");
+            return false;
+        }
+    }
+    if unmet {
+        println!("plan: something above was never met, and so not compared");
+        return false;
+    }
+    println!("plan: no difference");
+    true
+}
+
+/// Prints what was met. Returns whether something was not that should have been.
+fn print(counts: &Counts) -> bool {
+    for (group, count) in &counts.groups {
+        println!("{count:>9}  {group}");
+    }
+    let mut unmet = false;
+    let mut line = |count: u64, what: String| {
+        println!("{count:>9}  {what}");
+        unmet |= count == 0;
+    };
+    println!(
+        "plan: {} pairs compared, {} with reader.rs, {} outside its domain with the model",
+        counts.by_rust + counts.by_model,
+        counts.by_rust,
+        counts.by_model
+    );
+    println!("plan: {} bytes, {} boards", counts.bytes, counts.boards);
+    for (count, name) in counts.states.into_iter().zip(STATES) {
+        line(count, format!("boards {name}"));
+    }
+    line(counts.near[0], "near boards after their source".into());
+    line(counts.near[1], "near boards before their source".into());
+    println!("plan: {} calls", counts.calls);
+    for (refusal, edition, name) in REFUSALS {
+        let count = counts.refused.get(&(refusal, edition)).copied();
+        line(
+            count.unwrap_or(0),
+            format!("calls refused with {refusal} {name}"),
+        );
+    }
+    line(
+        counts.sized,
+        "pairs with each two boxes around each boundary".into(),
+    );
+    line(
+        counts.alike,
+        "pairs alike but for a stretch, with boards outside it".into(),
+    );
+    line(
+        counts.tabled,
+        "of these with a table for each old deal".into(),
+    );
+    line(counts.listing, "of these listing a deal".into());
+    unmet
+}
+
+/// Does a check again. A call with a position is made with each.
+fn check_again(product: &mut Product, old: &[u8], new: &[u8], check: Check) -> Checked {
+    let plan = Plan::new(old, new);
+    match check {
+        Check::Rust => match (text_in_domain(old), text_in_domain(new)) {
+            (Some(old), Some(new)) => judge::compare(&plan, old, new),
+            _ => Ok(()),
+        },
+        Check::Stretch => stretch::compare(&plan).map(|_| ()),
+        Check::Call(call, rooms) => {
+            let positions = positions(plan.boards(), &mut Rng::new(0));
+            let calls: Vec<Call> = match call {
+                Call::Plan | Call::Boards => vec![call],
+                Call::State(_) => positions.into_iter().map(Call::State).collect(),
+                Call::RecordBehind(_) => positions.into_iter().map(Call::RecordBehind).collect(),
+            };
+            for call in calls {
+                let lent = lent_by(&plan, call, &rooms);
+                compare_call(product, &plan, call, &lent)
+                    .map_err(|error| format!("{call:?}, {lent:?}: {error}"))?;
+            }
+            Ok(())
+        }
+    }
+}
+
+/// Longer pairs are not made smaller, and not shown.
+const MOST_SHOWN: usize = 40_000;
+
+/// Prints the smallest pair found that still shows the difference.
+fn show(product: &mut Product, failure: &Failure) {
+    let check = failure.check;
+    match check {
+        Check::Rust => println!("the model against reader.rs"),
+        Check::Stretch => println!("the model against what is promised of a stretch"),
+        Check::Call(..) => println!("golavimes against the model"),
+    }
+    if failure.old.len() + failure.new.len() > MOST_SHOWN {
+        let (old, new) = (failure.old.len(), failure.new.len());
+        println!(
+            "texts of {old} and {new} bytes, {check:?}: {}",
+            failure.error
+        );
+        return;
+    }
+    let ways = Ways {
+        remove: true,
+        simpler: b"xN1 \n",
+    };
+    let (mut old, mut new) = (failure.old.clone(), failure.new.clone());
+    loop {
+        let (old_before, new_before) = (old.clone(), new.clone());
+        old = shrink(&old, &ways, &mut |candidate| {
+            check_again(product, candidate, &new, check).is_err()
+        });
+        new = shrink(&new, &ways, &mut |candidate| {
+            check_again(product, &old, candidate, check).is_err()
+        });
+        if old == old_before && new == new_before {
+            break;
+        }
+    }
+    for (name, text) in [("old", &old), ("new", &new)] {
+        println!("{name} text, {} bytes: {}", text.len(), hex(text));
+        println!("as text: \"{}\"", text.escape_ascii());
+    }
+    match check_again(product, &old, &new, check) {
+        Err(error) => println!("{error}"),
+        Ok(()) => println!("(the difference is gone when the check is made again)"),
+    }
+    if old != failure.old || new != failure.new {
+        println!("made smaller from");
+        for text in [&failure.old, &failure.new] {
+            println!("{} bytes: \"{}\"", text.len(), text.escape_ascii());
+        }
+        println!("there: {check:?}: {}", failure.error);
+    }
+}
+
+#[cfg(test)]
+mod tests {
+    use super::*;
+    use crate::read::generate::DEAL;
+
+    const TABLE: &str = "[DoubleDummyTricks \"00000000000000000000\"]\n";
+
+    fn deal(first: &str) -> String {
+        format!("[Deal \"{}\"]\n", DEAL.replacen('N', first, 1))
+    }
+
+    /// The example of the listing program.
+    fn example() -> (String, String) {
+        let (a, b) = (deal("N"), deal("E"));
+        let old = format!("{a}{TABLE}");
+        (old, format!("{a}\n{b}\n{b}\n[Event \"x\"]\n"))
+    }
+
+    #[test]
+    fn the_listing_example() {
+        let (old, new) = example();
+        let plan = Plan::new(old.as_bytes(), new.as_bytes());
+        let states = [State::Old(1), State::Solve, State::Twin(2), State::Blank];
+        assert_eq!(plan.states, states);
+        assert_eq!(plan.slips.len(), 1);
+        assert_eq!(plan.slips[0][0], 2);
+        let lent = lent_by(&plan, Call::Plan, &[Room::Exact; 5]);
+        let wanted = plan.wanted(Call::Plan, &lent);
+        assert_eq!(wanted.answer, [0, 0, 0, 4, 1, 0, 1, 0, 1, 1]);
+        let short = lent_by(&plan, Call::Plan, &[Room::WordLess; 5]);
+        assert_eq!(plan.wanted(Call::Plan, &short).answer[..3], [2, 1, 1]);
+    }
+
+    #[test]
+    fn the_rust_is_asked() {
+        let (old, new) = example();
+        let fails = |spoil: &dyn Fn(&mut Plan)| {
+            let mut plan = Plan::new(old.as_bytes(), new.as_bytes());
+            spoil(&mut plan);
+            judge::compare(&plan, &old, &new).is_err()
+        };
+        assert!(!fails(&|_| {}));
+        assert!(fails(&|plan| plan.states[2] = State::Solve));
+        assert!(fails(&|plan| plan.slips[0][0] = 3));
+        assert!(fails(&|plan| plan.slips[0].swap(1, 2)));
+        assert!(fails(&|plan| plan.slips.push(plan.slips[0])));
+        assert!(fails(&|plan| plan.olds.cards[38] = 0));
+    }
+
+    #[test]
+    fn a_deal_listed_outside_is_seen() {
+        let (a, b, c) = (deal("N"), deal("E"), deal("S"));
+        let old = format!("{a}{TABLE}\n{b}{TABLE}\n{a}\n");
+        let new = format!("{a}{TABLE}\n{c}\n{a}\n");
+        let mut plan = Plan::new(old.as_bytes(), new.as_bytes());
+        let shown = stretch::compare(&plan).expect("the promise holds");
+        assert!(shown.alike && shown.tabled);
+        assert_eq!(shown.listed, 1);
+        let card = &plan.news.cards[2 * CARD..];
+        let [n, e, s, w] = model::hands(card);
+        plan.slips.push([3, n, e, s, w]);
+        assert!(stretch::compare(&plan).is_err());
+    }
+}

@@ -1,0 +1,250 @@
+//! Planning as docs/FORMAT.md says, in plain Rust of its own, over the cards of
+//! `read/model.rs`: states, `from`, totals, slips and the records behind, the
+//! answers of the four functions and every number that they store.
+//!
+//! In the domain its states and slips are held to what the Rust's boards give
+//! (`judge.rs`).
+
+use super::{Call, Lent};
+use crate::read::answer_for;
+use crate::read::model::{self, Reading, CARD};
+use crate::read::LONGEST;
+
+/// The numbers of a slip, and those that `golavimes_boards` gives a board.
+pub const FIVE: usize = 5;
+
+#[derive(Clone, Copy, PartialEq, Eq, Debug)]
+pub enum State {
+    Blank,
+    Own,
+    Old(usize),
+    Near(usize),
+    Twin(usize),
+    Solve,
+}
+
+/// The states' names, by their numbers.
+pub const STATES: [&str; 6] = ["blank", "own", "old", "near", "twin", "solve"];
+
+impl State {
+    pub fn number(self) -> usize {
+        match self {
+            State::Blank => 0,
+            State::Own => 1,
+            State::Old(_) => 2,
+            State::Near(_) => 3,
+            State::Twin(_) => 4,
+            State::Solve => 5,
+        }
+    }
+
+    pub fn from(self) -> usize {
+        match self {
+            State::Old(from) | State::Near(from) | State::Twin(from) => from,
+            State::Blank | State::Own | State::Solve => 0,
+        }
+    }
+}
+
+/// A part of one of the texts.
+#[derive(Clone, Copy, PartialEq, Eq, Hash, Debug)]
+pub struct Part {
+    /// 1 the old text, 2 the new one, 0 for the empty part.
+    pub edition: u64,
+    pub start: usize,
+    pub end: usize,
+}
+
+const EMPTY: Part = Part {
+    edition: 0,
+    start: 0,
+    end: 0,
+};
+
+pub type Slip = [u64; FIVE];
+
+/// Two editions, their readings and the plan.
+pub struct Plan<'a> {
+    pub old: &'a [u8],
+    pub new: &'a [u8],
+    pub olds: Reading,
+    pub news: Reading,
+    /// Of the new edition's boards.
+    pub states: Vec<State>,
+    pub slips: Vec<Slip>,
+}
+
+/// What a call must leave: its answer, and the numbers lent for slips or boards.
+/// The boxes hold the readings, or nothing but zeros after a refusal.
+pub struct Wanted {
+    pub answer: Vec<u64>,
+    pub numbers: Vec<u64>,
+}
+
+pub fn is_whole(card: &[u32]) -> bool {
+    let has_13 = |hand: &u64| hand.count_ones() == 13;
+    card[9] == 1 && hands(card).iter().all(has_13)
+}
+
+pub fn has_table(card: &[u32]) -> bool {
+    card[38] != 0
+}
+
+/// The hands N, E, S, W.
+pub fn hands(card: &[u32]) -> [u64; 4] {
+    [10, 12, 14, 16].map(|low| u64::from(card[low]) + (u64::from(card[low + 1]) << 32))
+}
+
+fn same_deal(a: &[u32], b: &[u32]) -> bool {
+    is_whole(a) && is_whole(b) && a[10..18] == b[10..18]
+}
+
+pub fn cards(reading: &Reading) -> Vec<&[u32]> {
+    reading.cards.chunks(CARD).collect()
+}
+
+/// The state of the new board at this index: the first that fits.
+fn state(olds: &[&[u32]], news: &[&[u32]], index: usize) -> State {
+    let card = news[index];
+    if !is_whole(card) {
+        return State::Blank;
+    }
+    if has_table(card) {
+        return State::Own;
+    }
+    let with_table = |other: &&[u32]| has_table(other) && same_deal(other, card);
+    if let Some(at) = olds.iter().position(with_table) {
+        return State::Old(at + 1);
+    }
+    if let Some(at) = news.iter().position(with_table) {
+        return State::Near(at + 1);
+    }
+    let earlier = &news[..index];
+    match earlier.iter().position(|other| same_deal(other, card)) {
+        Some(at) => State::Twin(at + 1),
+        None => State::Solve,
+    }
+}
+
+/// The reading, of an edition that is not overlong.
+fn read(text: &[u8]) -> Reading {
+    if text.len() > LONGEST {
+        return Reading::default();
+    }
+    model::read(text)
+}
+
+impl<'a> Plan<'a> {
+    pub fn new(old: &'a [u8], new: &'a [u8]) -> Self {
+        let (olds, news) = (read(old), read(new));
+        let (old_cards, new_cards) = (cards(&olds), cards(&news));
+        let indices = 0..new_cards.len();
+        let states: Vec<State> = indices
+            .map(|index| state(&old_cards, &new_cards, index))
+            .collect();
+        let mut slips = Vec::new();
+        for (index, state) in states.iter().enumerate() {
+            if *state == State::Solve {
+                let [n, e, s, w] = hands(new_cards[index]);
+                slips.push([index as u64 + 1, n, e, s, w]);
+            }
+        }
+        Plan {
+            old,
+            new,
+            olds,
+            news,
+            states,
+            slips,
+        }
+    }
+
+    pub fn boards(&self) -> usize {
+        self.states.len()
+    }
+
+    fn total(&self, number: usize) -> u64 {
+        let of_number = self.states.iter().filter(|state| state.number() == number);
+        of_number.count() as u64
+    }
+
+    /// The index of the board at a position.
+    fn index(&self, position: u64) -> Option<usize> {
+        let boards = self.boards() as u64;
+        (1..=boards)
+            .contains(&position)
+            .then(|| position as usize - 1)
+    }
+
+    /// The record behind the board at an index.
+    pub fn behind(&self, index: usize) -> Part {
+        let record = |edition: u64, reading: &Reading, board: usize| {
+            let card = &reading.cards[board * CARD..][..CARD];
+            Part {
+                edition,
+                start: card[60] as usize,
+                end: card[61] as usize,
+            }
+        };
+        match self.states[index] {
+            State::Old(from) => record(1, &self.olds, from - 1),
+            State::Near(from) | State::Twin(from) => record(2, &self.news, from - 1),
+            State::Blank | State::Own | State::Solve => record(2, &self.news, index),
+        }
+    }
+
+    /// Refusal, edition and carried number.
+    fn refusal(&self, call: Call, lent: &Lent) -> [u64; 3] {
+        for (edition, text, lent, reading) in [
+            (1, self.old, lent.old, &self.olds),
+            (2, self.new, lent.new, &self.news),
+        ] {
+            let [refusal, _, carried, ..] = answer_for(text.len(), lent, reading);
+            if refusal != 0 {
+                return [refusal, edition, carried];
+            }
+        }
+        if call == Call::Plan && lent.numbers / FIVE < self.slips.len() {
+            return [4, 0, self.slips.len() as u64];
+        }
+        [0, 0, 0]
+    }
+
+    /// What the call must leave.
+    pub fn wanted(&self, call: Call, lent: &Lent) -> Wanted {
+        let refusal = self.refusal(call, lent);
+        let mut answer = refusal.to_vec();
+        let mut numbers = Vec::new();
+        if refusal[0] == 0 {
+            match call {
+                Call::Plan => {
+                    answer.push(self.boards() as u64);
+                    answer.extend((0..STATES.len()).map(|number| self.total(number)));
+                    numbers = self.slips.concat();
+                }
+                Call::State(position) => {
+                    let state = self.index(position).map(|index| self.states[index]);
+                    let state = state.unwrap_or(State::Blank);
+                    answer.extend([state.number() as u64, state.from() as u64]);
+                }
+                Call::RecordBehind(position) => {
+                    let index = self.index(position);
+                    let part = index.map_or(EMPTY, |index| self.behind(index));
+                    let length = part.end - part.start;
+                    answer.extend([part.edition, part.start as u64, length as u64]);
+                }
+                Call::Boards => {
+                    answer.push(self.boards() as u64);
+                    for index in 0..self.boards().min(lent.numbers / FIVE) {
+                        let (state, part) = (self.states[index], self.behind(index));
+                        numbers.extend([state.number() as u64, state.from() as u64]);
+                        numbers.extend([part.edition, part.start as u64, part.end as u64]);
+                    }
+                }
+            }
+        }
+        answer.resize(call.answers(), 0);
+        numbers.resize(lent.numbers, 0);
+        Wanted { answer, numbers }
+    }
+}
