@@ -67,6 +67,23 @@ impl<T: Copy + PartialEq> Guarded<T> {
     }
 }
 
+/// An error that names the first part that the call touched and should not have.
+pub fn untouched(parts: &[(bool, &str)]) -> Result<(), String> {
+    match parts.iter().find(|(intact, _)| !intact) {
+        Some((_, what)) => Err(format!("the call touched {what}")),
+        None => Ok(()),
+    }
+}
+
+/// The returned number must be the first of the answer.
+pub fn told(returned: u64, answer: &[u64]) -> Result<(), String> {
+    if returned == answer[0] {
+        Ok(())
+    } else {
+        Err(format!("returned {returned}, answer {answer:?}"))
+    }
+}
+
 #[cfg(test)]
 mod tests {
     use super::*;

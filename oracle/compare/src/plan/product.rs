@@ -1,7 +1,7 @@
 //! One call of the product's planning, through guarded buffers.
 
 use super::{Call, Lent};
-use crate::guard::Guarded;
+use crate::guard::{self, Guarded};
 use crate::read::product::{AROUND, FILL, FILL_ANSWER};
 use golavimes::{Boxes, Editions};
 
@@ -65,7 +65,7 @@ impl Product {
 
         let [given_old, given_new] = &self.texts;
         let [old_cards, old_entries, new_cards, new_entries] = &self.boxes;
-        for (intact, what) in [
+        guard::untouched(&[
             (given_old.lent() == old, "the old text"),
             (given_new.lent() == new, "the new text"),
             (given_old.is_intact(), "bytes around the old text"),
@@ -79,15 +79,8 @@ impl Product {
                 "numbers around the slips or boards",
             ),
             (self.answer.is_intact(), "numbers around the answer"),
-        ] {
-            if !intact {
-                return Err(format!("the call touched {what}"));
-            }
-        }
-        if returned != self.answer()[0] {
-            return Err(format!("returned {returned}, answer {:?}", self.answer()));
-        }
-        Ok(())
+        ])?;
+        guard::told(returned, self.answer())
     }
 
     pub fn answer(&self) -> &[u64] {

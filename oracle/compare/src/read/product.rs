@@ -1,7 +1,7 @@
 //! One call of the product's reader, through guarded buffers.
 
 use super::model::{CARD, ENTRY};
-use crate::guard::Guarded;
+use crate::guard::{self, Guarded};
 
 /// What the words of a lent output are before the call.
 pub const FILL: u32 = 0xaaaa_aaaa;
@@ -58,21 +58,14 @@ impl Product {
         let answer = answer.try_into().expect("five numbers");
         let returned = golavimes::read(given, cards, entries, answer);
 
-        for (intact, what) in [
+        guard::untouched(&[
             (self.text.lent() == text, "the text"),
             (self.text.is_intact(), "bytes around the text"),
             (self.cards.is_intact(), "words around the cards"),
             (self.entries.is_intact(), "words around the entries"),
             (self.answer.is_intact(), "numbers around the answer"),
-        ] {
-            if !intact {
-                return Err(format!("the call touched {what}"));
-            }
-        }
-        if returned != self.answer()[0] {
-            return Err(format!("returned {returned}, answer {:?}", self.answer()));
-        }
-        Ok(())
+        ])?;
+        guard::told(returned, self.answer())
     }
 
     pub fn answer(&self) -> &[u64] {
