@@ -15,7 +15,7 @@ use Rattle.planning.specs.declared.behind.Behind.{Behind}
 use Rattle.planning.specs.declared.editions.Editions.{Editions}
 use Rattle.planning.specs.declared.plan.Planned.{Planned}
 use Rattle.planning.specs.Slips.{slipsOf}
-use Rattle.planning.specs.Plans.{isListed, lent, boardsOf, stateBy, behindBy, boardsAfter, IsPlanned, StateTold, BehindTold, BoardsTold}
+use Rattle.planning.specs.Plans.{Boxes, editionsOf, areBoth, isListed, lent, boardsOf, stateBy, behindBy, boardsAfter, BoxesAfter, BothRead, IsPlanned, StateTold, BehindTold, BoardsTold}
 use Rattle.golavimes.specs.Answers.{writtenNumbers, decodedNumbers, readingNumbers, planNumbers, stateNumbers, recordNumbers, boardsNumbers, WroteOut, ReadOut, EditionOut, PlanOut, StateOut, BehindOut, BoardsOut}
 
 pub wrote-out : {bs page page′ : List ℕ} {w : Written} {numbers : List ℕ} → Wrote bs page page′ w → numbers ≡ writtenNumbers w → WroteOut bs page page′ numbers (getD numbers 0 0)
@@ -42,44 +42,44 @@ edition-out {c} {text} {cards} {entries} a e =
 
 -- ---- planning
 
-pub plan-out : {c : Conventions} {old new oc oe nc ne slips oc′ oe′ nc′ ne′ slips′ numbers : List ℕ} {r : Planned}
-    → IsPlanned c old new oc oe nc ne slips oc′ oe′ nc′ ne′ slips′ r → numbers ≡ planNumbers r
-    → PlanOut c old new oc oe nc ne slips oc′ oe′ nc′ ne′ slips′ numbers (getD numbers 0 0)
-plan-out {c} {old} {new} {oc} {oe} {nc} {ne} {slips} {oc′} {oe′} {nc′} {ne′} {slips′} a e =
+pub plan-out : {c : Conventions} {old new : List ℕ} {boxes : Boxes} {slips : List ℕ} {boxes′ : Boxes} {slips′ numbers : List ℕ} {r : Planned}
+    → IsPlanned c old new boxes slips boxes′ slips′ r → numbers ≡ planNumbers r → PlanOut c old new boxes slips boxes′ slips′ numbers (getD numbers 0 0)
+plan-out {c} {old} {new} {boxes} {slips} a e =
     record {
       told = e ∙ ap planNumbers (a .answer);
-      boxes = rw (← a .answer) (a .boxes);
+      boxes-after = rw (← a .answer) (a .boxes-after);
       slips-after = a .slips-after ∙ ap (λ (x : Planned). lent (isListed x) (length slips) (slipsOf (boardsOf c old new))) (a .answer);
       returned = refl;
     }
 
-pub state-out : {c : Conventions} {old new oc oe nc ne oc′ oe′ nc′ ne′ numbers : List ℕ} {p : ℕ} {r : Editions} {s : BoardState}
-    → StateTold c old new oc oe nc ne oc′ oe′ nc′ ne′ p r s → numbers ≡ stateNumbers r s
-    → StateOut c old new oc oe nc ne oc′ oe′ nc′ ne′ p numbers (getD numbers 0 0)
-state-out {c} {old} {new} {oc} {oe} {nc} {ne} {oc′} {oe′} {nc′} {ne′} {numbers} {p} {r} {s} a e =
+-- The boxes, by the answer of the definition.
+boxes-told : {c : Conventions} {old new : List ℕ} {boxes boxes′ : Boxes} {r : Editions} → BothRead c old new boxes boxes′ r → BoxesAfter c (areBoth (editionsOf c old new boxes)) old new boxes boxes′
+boxes-told a = rw (← a .answer) (a .boxes-after)
+
+pub state-out : {c : Conventions} {old new : List ℕ} {boxes boxes′ : Boxes} {numbers : List ℕ} {p : ℕ} {r : Editions} {s : BoardState}
+    → StateTold c old new boxes boxes′ p r s → numbers ≡ stateNumbers r s → StateOut c old new boxes boxes′ p numbers (getD numbers 0 0)
+state-out {c} {old} {new} {boxes} {boxes′} {numbers} {p} {r} {s} a e =
     record {
       told = e ∙ (ap (stateNumbers r) (a .state) ∙ ap (λ (x : Editions). stateNumbers x (stateBy x (boardsOf c old new) p)) (a .editions-read .answer));
-      boxes = rw (← a .editions-read .answer) (a .editions-read .boxes);
+      boxes-after = boxes-told (a .editions-read);
       returned = refl;
     }
 
-pub behind-out : {c : Conventions} {old new oc oe nc ne oc′ oe′ nc′ ne′ numbers : List ℕ} {p : ℕ} {r : Editions} {b : Behind}
-    → BehindTold c old new oc oe nc ne oc′ oe′ nc′ ne′ p r b → numbers ≡ recordNumbers r b
-    → BehindOut c old new oc oe nc ne oc′ oe′ nc′ ne′ p numbers (getD numbers 0 0)
-behind-out {c} {old} {new} {oc} {oe} {nc} {ne} {oc′} {oe′} {nc′} {ne′} {numbers} {p} {r} {b} a e =
+pub behind-out : {c : Conventions} {old new : List ℕ} {boxes boxes′ : Boxes} {numbers : List ℕ} {p : ℕ} {r : Editions} {b : Behind}
+    → BehindTold c old new boxes boxes′ p r b → numbers ≡ recordNumbers r b → BehindOut c old new boxes boxes′ p numbers (getD numbers 0 0)
+behind-out {c} {old} {new} {boxes} {boxes′} {numbers} {p} {r} {b} a e =
     record {
       told = e ∙ (ap (recordNumbers r) (a .behind) ∙ ap (λ (x : Editions). recordNumbers x (behindBy x c old new p)) (a .editions-read .answer));
-      boxes = rw (← a .editions-read .answer) (a .editions-read .boxes);
+      boxes-after = boxes-told (a .editions-read);
       returned = refl;
     }
 
-pub boards-out : {c : Conventions} {old new oc oe nc ne boards oc′ oe′ nc′ ne′ boards′ numbers : List ℕ} {r : Editions}
-    → BoardsTold c old new oc oe nc ne boards oc′ oe′ nc′ ne′ boards′ r → numbers ≡ boardsNumbers r
-    → BoardsOut c old new oc oe nc ne boards oc′ oe′ nc′ ne′ boards′ numbers (getD numbers 0 0)
-boards-out {c} {old} {new} {oc} {oe} {nc} {ne} {boards} a e =
+pub boards-out : {c : Conventions} {old new : List ℕ} {boxes : Boxes} {numbers : List ℕ} {boxes′ : Boxes} {numbers′ answer : List ℕ} {r : Editions}
+    → BoardsTold c old new boxes numbers boxes′ numbers′ r → answer ≡ boardsNumbers r → BoardsOut c old new boxes numbers boxes′ numbers′ answer (getD answer 0 0)
+boards-out {c} {old} {new} {boxes} {numbers} a e =
     record {
       told = e ∙ ap boardsNumbers (a .editions-read .answer);
-      boxes = rw (← a .editions-read .answer) (a .editions-read .boxes);
-      boards-after = a .numbers-after ∙ ap (λ (x : Editions). boardsAfter x c old new (length boards)) (a .editions-read .answer);
+      boxes-after = boxes-told (a .editions-read);
+      numbers-after = a .numbers-after ∙ ap (λ (x : Editions). boardsAfter x c old new (length numbers)) (a .editions-read .answer);
       returned = refl;
     }

@@ -21,16 +21,17 @@ use Rattle.reader.specs.Editions.{readNumber, readCarries, readingOf, lentAfter
 use Rattle.planning.specs.declared.state.BoardState.{BoardState}
 use Rattle.planning.specs.declared.behind.Behind.{Behind}
 use Rattle.planning.specs.declared.behind.Behind.the-variants.{InOld, InNew, Nothing}
-use Rattle.planning.specs.declared.editions.PlanRefusal.{PlanRefusal}
 use Rattle.planning.specs.declared.editions.Editions.{Editions}
 use Rattle.planning.specs.declared.editions.Editions.the-variants.{Both}
 use Rattle.planning.specs.declared.editions.Editions.the-variants as editions
+use Rattle.planning.specs.declared.plan.PlanRefusal.{PlanRefusal}
+use Rattle.planning.specs.declared.plan.PlanRefusal.the-variants.{Edition}
 use Rattle.planning.specs.declared.plan.Planned.{Planned}
 use Rattle.planning.specs.declared.plan.Planned.the-variants.{Listed}
 use Rattle.planning.specs.declared.plan.Planned.the-variants as planned
 use Rattle.planning.specs.States.{stateNumber, fromOf}
 use Rattle.planning.specs.Slips.{slipsOf}
-use Rattle.planning.specs.Plans.{planNumber, planEdition, planCarries, editionsOf, areBoth, plannedOf, isListed, lent, boardsOf, BoxesAfter, stateBy, behindBy, boardsAfter}
+use Rattle.planning.specs.Plans.{planNumber, planEdition, planCarries, Boxes, editionsOf, areBoth, plannedOf, isListed, lent, boardsOf, BoxesAfter, stateBy, behindBy, boardsAfter}
 use Rattle.golavimes.specs.declared.Head.{Head}
 
 -- A writer's answer: the value is the bytes written.
@@ -54,7 +55,7 @@ refusedHead f = record { refusal = planNumber f; edition = planEdition f; carrie
 
 abbrev pub editionsHead : Editions → Head
 editionsHead (Both m n) = record { refusal = 0; edition = 0; carried = 0 }
-editionsHead (editions.Refused f) = refusedHead f
+editionsHead (editions.Refused f) = refusedHead (Edition f)
 
 abbrev pub headThen : Head → List ℕ → List ℕ
 headThen h values = h .refusal ∷ h .edition ∷ h .carried ∷ values
@@ -105,27 +106,27 @@ pub record EditionOut (c : Conventions) (text cards entries cards′ entries′ 
   pub returned : r ≡ getD answer′ 0 0
 
 -- Two editions are planned, whatever was lent and whatever it held.
-pub record PlanOut (c : Conventions) (old new oc oe nc ne slips oc′ oe′ nc′ ne′ slips′ answer′ : List ℕ) (r : ℕ) : Type 0 where
-  pub told : answer′ ≡ planNumbers (plannedOf c old new (length oc) (length oe) (length nc) (length ne) (length slips))
-  pub boxes : BoxesAfter c (isListed (plannedOf c old new (length oc) (length oe) (length nc) (length ne) (length slips))) old new oc oe nc ne oc′ oe′ nc′ ne′
-  pub slips-after : slips′ ≡ lent (isListed (plannedOf c old new (length oc) (length oe) (length nc) (length ne) (length slips))) (length slips) (slipsOf (boardsOf c old new))
+pub record PlanOut (c : Conventions) (old new : List ℕ) (boxes : Boxes) (slips : List ℕ) (boxes′ : Boxes) (slips′ answer′ : List ℕ) (r : ℕ) : Type 0 where
+  pub told : answer′ ≡ planNumbers (plannedOf c old new boxes (length slips))
+  pub boxes-after : BoxesAfter c (isListed (plannedOf c old new boxes (length slips))) old new boxes boxes′
+  pub slips-after : slips′ ≡ lent (isListed (plannedOf c old new boxes (length slips))) (length slips) (slipsOf (boardsOf c old new))
   pub returned : r ≡ getD answer′ 0 0
 
 -- The state at a position.
-pub record StateOut (c : Conventions) (old new oc oe nc ne oc′ oe′ nc′ ne′ : List ℕ) (p : ℕ) (answer′ : List ℕ) (r : ℕ) : Type 0 where
-  pub told : answer′ ≡ stateNumbers (editionsOf c old new (length oc) (length oe) (length nc) (length ne)) (stateBy (editionsOf c old new (length oc) (length oe) (length nc) (length ne)) (boardsOf c old new) p)
-  pub boxes : BoxesAfter c (areBoth (editionsOf c old new (length oc) (length oe) (length nc) (length ne))) old new oc oe nc ne oc′ oe′ nc′ ne′
+pub record StateOut (c : Conventions) (old new : List ℕ) (boxes boxes′ : Boxes) (p : ℕ) (answer′ : List ℕ) (r : ℕ) : Type 0 where
+  pub told : answer′ ≡ stateNumbers (editionsOf c old new boxes) (stateBy (editionsOf c old new boxes) (boardsOf c old new) p)
+  pub boxes-after : BoxesAfter c (areBoth (editionsOf c old new boxes)) old new boxes boxes′
   pub returned : r ≡ getD answer′ 0 0
 
 -- The record behind the board at a position.
-pub record BehindOut (c : Conventions) (old new oc oe nc ne oc′ oe′ nc′ ne′ : List ℕ) (p : ℕ) (answer′ : List ℕ) (r : ℕ) : Type 0 where
-  pub told : answer′ ≡ recordNumbers (editionsOf c old new (length oc) (length oe) (length nc) (length ne)) (behindBy (editionsOf c old new (length oc) (length oe) (length nc) (length ne)) c old new p)
-  pub boxes : BoxesAfter c (areBoth (editionsOf c old new (length oc) (length oe) (length nc) (length ne))) old new oc oe nc ne oc′ oe′ nc′ ne′
+pub record BehindOut (c : Conventions) (old new : List ℕ) (boxes boxes′ : Boxes) (p : ℕ) (answer′ : List ℕ) (r : ℕ) : Type 0 where
+  pub told : answer′ ≡ recordNumbers (editionsOf c old new boxes) (behindBy (editionsOf c old new boxes) c old new p)
+  pub boxes-after : BoxesAfter c (areBoth (editionsOf c old new boxes)) old new boxes boxes′
   pub returned : r ≡ getD answer′ 0 0
 
 -- Every board's state and the record behind it.
-pub record BoardsOut (c : Conventions) (old new oc oe nc ne boards oc′ oe′ nc′ ne′ boards′ answer′ : List ℕ) (r : ℕ) : Type 0 where
-  pub told : answer′ ≡ boardsNumbers (editionsOf c old new (length oc) (length oe) (length nc) (length ne))
-  pub boxes : BoxesAfter c (areBoth (editionsOf c old new (length oc) (length oe) (length nc) (length ne))) old new oc oe nc ne oc′ oe′ nc′ ne′
-  pub boards-after : boards′ ≡ boardsAfter (editionsOf c old new (length oc) (length oe) (length nc) (length ne)) c old new (length boards)
+pub record BoardsOut (c : Conventions) (old new : List ℕ) (boxes : Boxes) (numbers : List ℕ) (boxes′ : Boxes) (numbers′ answer′ : List ℕ) (r : ℕ) : Type 0 where
+  pub told : answer′ ≡ boardsNumbers (editionsOf c old new boxes)
+  pub boxes-after : BoxesAfter c (areBoth (editionsOf c old new boxes)) old new boxes boxes′
+  pub numbers-after : numbers′ ≡ boardsAfter (editionsOf c old new boxes) c old new (length numbers)
   pub returned : r ≡ getD answer′ 0 0

@@ -7,7 +7,7 @@ ghost use Rattle.tables.specs.Letters.{builtIn};
 ghost use Rattle.tables.specs.Tables.{digitsText, headerText, rowsText, tableOfDigits, tableOfRows};
 use planning::behind::Behind;
 use planning::editions::Editions;
-use planning::editions::PlanRefusal;
+use planning::plan::PlanRefusal;
 use planning::plan::Planned;
 use planning::state::BoardState;
 use reader::edition::Reading;
@@ -161,9 +161,9 @@ fn refused_head(f: PlanRefusal) -> Head
     ensures { λ r. ⌜ r ≡ refusedHead f ⌝ }
 {
     Head {
-        refusal: planning::editions::plan_number(f),
-        edition: planning::editions::plan_edition(f),
-        carried: planning::editions::plan_carried(f),
+        refusal: planning::plan::plan_number(f),
+        edition: planning::plan::plan_edition(f),
+        carried: planning::plan::plan_carried(f),
     }
 }
 
@@ -176,7 +176,7 @@ fn editions_head(r: Editions) -> Head
             edition: 0,
             carried: 0,
         },
-        Editions::Refused(f) => refused_head(f),
+        Editions::Refused(f) => refused_head(PlanRefusal::Edition(f)),
     }
 }
 
@@ -215,7 +215,11 @@ pub extern "C" fn golavimes_plan(
     slips: &mut [u64],
     answer: &mut [u64; 10],
 ) -> u64
-    ensures { λ r. ⌜ PlanOut builtIn (now (old .entry)) (now (new .entry)) (now («old_cards» .entry)) (now («old_entries» .entry)) (now («new_cards» .entry)) (now («new_entries» .entry)) (now (slips .entry)) (now («old_cards» .exit)) (now («old_entries» .exit)) (now («new_cards» .exit)) (now («new_entries» .exit)) (now (slips .exit)) (now (answer .exit)) r ⌝ }
+    ensures { λ r. ⌜ PlanOut builtIn (now (old .entry)) (now (new .entry))
+        (record { old-cards = now («old_cards» .entry); old-entries = now («old_entries» .entry); new-cards = now («new_cards» .entry); new-entries = now («new_entries» .entry) })
+        (now (slips .entry))
+        (record { old-cards = now («old_cards» .exit); old-entries = now («old_entries» .exit); new-cards = now («new_cards» .exit); new-entries = now («new_entries» .exit) })
+        (now (slips .exit)) (now (answer .exit)) r ⌝ }
 {
     let p = planning::plan::plan(
         old,
@@ -256,7 +260,10 @@ pub extern "C" fn golavimes_state(
     position: u64,
     answer: &mut [u64; 5],
 ) -> u64
-    ensures { λ r. ⌜ StateOut builtIn (now (old .entry)) (now (new .entry)) (now («old_cards» .entry)) (now («old_entries» .entry)) (now («new_cards» .entry)) (now («new_entries» .entry)) (now («old_cards» .exit)) (now («old_entries» .exit)) (now («new_cards» .exit)) (now («new_entries» .exit)) position (now (answer .exit)) r ⌝ }
+    ensures { λ r. ⌜ StateOut builtIn (now (old .entry)) (now (new .entry))
+        (record { old-cards = now («old_cards» .entry); old-entries = now («old_entries» .entry); new-cards = now («new_cards» .entry); new-entries = now («new_entries» .entry) })
+        (record { old-cards = now («old_cards» .exit); old-entries = now («old_entries» .exit); new-cards = now («new_cards» .exit); new-entries = now («new_entries» .exit) })
+        position (now (answer .exit)) r ⌝ }
 {
     let t = planning::state_at::state_at(
         old,
@@ -307,7 +314,10 @@ pub extern "C" fn golavimes_record_behind(
     position: u64,
     answer: &mut [u64; 6],
 ) -> u64
-    ensures { λ r. ⌜ BehindOut builtIn (now (old .entry)) (now (new .entry)) (now («old_cards» .entry)) (now («old_entries» .entry)) (now («new_cards» .entry)) (now («new_entries» .entry)) (now («old_cards» .exit)) (now («old_entries» .exit)) (now («new_cards» .exit)) (now («new_entries» .exit)) position (now (answer .exit)) r ⌝ }
+    ensures { λ r. ⌜ BehindOut builtIn (now (old .entry)) (now (new .entry))
+        (record { old-cards = now («old_cards» .entry); old-entries = now («old_entries» .entry); new-cards = now («new_cards» .entry); new-entries = now («new_entries» .entry) })
+        (record { old-cards = now («old_cards» .exit); old-entries = now («old_entries» .exit); new-cards = now («new_cards» .exit); new-entries = now («new_entries» .exit) })
+        position (now (answer .exit)) r ⌝ }
 {
     let t = planning::behind::place_behind(
         old,
@@ -347,7 +357,11 @@ pub extern "C" fn golavimes_boards(
     boards: &mut [u64],
     answer: &mut [u64; 4],
 ) -> u64
-    ensures { λ r. ⌜ BoardsOut builtIn (now (old .entry)) (now (new .entry)) (now («old_cards» .entry)) (now («old_entries» .entry)) (now («new_cards» .entry)) (now («new_entries» .entry)) (now (boards .entry)) (now («old_cards» .exit)) (now («old_entries» .exit)) (now («new_cards» .exit)) (now («new_entries» .exit)) (now (boards .exit)) (now (answer .exit)) r ⌝ }
+    ensures { λ r. ⌜ BoardsOut builtIn (now (old .entry)) (now (new .entry))
+        (record { old-cards = now («old_cards» .entry); old-entries = now («old_entries» .entry); new-cards = now («new_cards» .entry); new-entries = now («new_entries» .entry) })
+        (now (boards .entry))
+        (record { old-cards = now («old_cards» .exit); old-entries = now («old_entries» .exit); new-cards = now («new_cards» .exit); new-entries = now («new_entries» .exit) })
+        (now (boards .exit)) (now (answer .exit)) r ⌝ }
 {
     let t = planning::boards::plan_boards(
         old,

@@ -16,8 +16,8 @@ use Rattle.planning.specs.declared.state.BoardState.{BoardState}
 use Rattle.planning.specs.declared.state.BoardState.the-variants.{Blank}
 use Rattle.planning.specs.declared.behind.Behind.{Behind}
 use Rattle.planning.specs.declared.behind.Behind.the-variants.{Nothing}
-use Rattle.planning.specs.declared.editions.PlanRefusal.{PlanRefusal}
-use Rattle.planning.specs.declared.editions.PlanRefusal.the-variants.{SlipsShort}
+use Rattle.planning.specs.declared.editions.EditionsRefusal.{EditionsRefusal}
+use Rattle.planning.specs.declared.plan.PlanRefusal.the-variants.{Edition, SlipsShort}
 use Rattle.planning.specs.declared.editions.Editions.{Editions}
 use Rattle.planning.specs.declared.editions.Editions.the-variants.{Both}
 use Rattle.planning.specs.declared.editions.Editions.the-variants as editions
@@ -28,17 +28,35 @@ use Rattle.planning.specs.declared.plan.Planned.the-variants as planned
 use Rattle.planning.specs.Cards.{cardsIn}
 use Rattle.planning.specs.States.{Judged, judged, stateAt}
 use Rattle.planning.specs.Slips.{slipsOf, countOf, totalsOf, behindAt, partOf, numbersFrom}
-use Rattle.planning.specs.Plans.{editionsOf, areBoth, lent, boardsOf, listedBy, plannedOf, isListed, BoxesAfter, BothRead, IsPlanned, behindBy, StateTold, BehindTold, PartTold, BoardsTold}
-use Rattle.planning.specs.Steps.{PlanFinished}
+use Rattle.planning.specs.Plans.{Boxes, editionsOf, areBoth, lent, boardsOf, listedBy, plannedOf, isListed, BoxesAfter, BothRead, IsPlanned, behindBy, StateTold, BehindTold, PartTold, BoardsTold}
+use Rattle.planning.specs.Steps.{Kept, PlanFinished}
 use Rattle.planning.proofs.BothLaws.{CardsThere, both-cards}
 use Rattle.planning.proofs.SlipLaws.{slips-count, slips-five}
 
 -- ---- the end of planning
 
 -- Lent words, kept or set to 0.
-pub kept : (b : Bool) (L : ℕ) {p w w′ : List ℕ} → w ≡ p → length w ≡ L → w′ ≡ cond b w (zeros w) → w′ ≡ cond b p (replicate L 0)
+kept : (b : Bool) (L : ℕ) {p w w′ : List ℕ} → w ≡ p → length w ≡ L → w′ ≡ cond b w (zeros w) → w′ ≡ cond b p (replicate L 0)
 kept true L e el f = f ∙ e
 kept false L e el f = f ∙ rw el
+
+-- Boxes with as many words as before.
+pub record SameRoom (boxes boxes′ : Boxes) : Type 0 where
+  pub old-cards : length (boxes′ .old-cards) ≡ length (boxes .old-cards)
+  pub old-entries : length (boxes′ .old-entries) ≡ length (boxes .old-entries)
+  pub new-cards : length (boxes′ .new-cards) ≡ length (boxes .new-cards)
+  pub new-entries : length (boxes′ .new-entries) ≡ length (boxes .new-entries)
+
+-- Boxes that were filled, and then kept or set to 0.
+pub boxes-kept : (well : Bool) {c : Conventions} {old new : List ℕ} {boxes boxes′ boxes″ : Boxes} → BoxesAfter c true old new boxes boxes′ → SameRoom boxes boxes′ → Kept well boxes′ boxes″
+    → BoxesAfter c well old new boxes boxes″
+boxes-kept well {boxes = boxes} f s k =
+    record {
+      old-cards = kept well (length (boxes .old-cards)) (f .old-cards) (s .old-cards) (k .old-cards);
+      old-entries = kept well (length (boxes .old-entries)) (f .old-entries) (s .old-entries) (k .old-entries);
+      new-cards = kept well (length (boxes .new-cards)) (f .new-cards) (s .new-cards) (k .new-cards);
+      new-entries = kept well (length (boxes .new-entries)) (f .new-entries) (s .new-entries) (k .new-entries);
+    }
 
 -- Where the answer is no refusal, the slips fit.
 pub listed-fits : (ls : ℕ) (t : Totals) → isListed (listedBy (ls / 5) t) ≡ true → 5 * t .solve ≤ ls
@@ -60,86 +78,79 @@ solve-sum js = refl
 
 -- ---- answers, given both editions read
 
-module _ {c : Conventions} {old new oc oe nc ne oc′ oe′ nc′ ne′ : List ℕ} {r : Editions} (b : BothRead c old new oc oe nc ne oc′ oe′ nc′ ne′ r) where
+module _ {c : Conventions} {old new : List ℕ} {boxes boxes′ : Boxes} {r : Editions} (b : BothRead c old new boxes boxes′ r) where
   -- The same of an equal answer.
-  as-told : {q : Editions} → r ≡ q → BothRead c old new oc oe nc ne oc′ oe′ nc′ ne′ q
-  as-told e = subst (λ (x : Editions). BothRead c old new oc oe nc ne oc′ oe′ nc′ ne′ x) e b
+  as-told : {q : Editions} → r ≡ q → BothRead c old new boxes boxes′ q
+  as-told e = subst (λ (x : Editions). BothRead c old new boxes boxes′ x) e b
 
   -- The lent cards are those of the texts.
-  pub there : {m n : ℕ} → r ≡ Both m n → CardsThere c old oc′ m × CardsThere c new nc′ n
+  pub there : {m n : ℕ} → r ≡ Both m n → CardsThere c old (boxes′ .old-cards) m × CardsThere c new (boxes′ .new-cards) n
   there e = both-cards (as-told e) (CardsWhole c old) (CardsWhole c new)
 
-  pub boards-are : {m n : ℕ} → r ≡ Both m n → judged (cardsIn m oc′) (cardsIn n nc′) ≡ boardsOf c old new
+  pub boards-are : {m n : ℕ} → r ≡ Both m n → judged (cardsIn m (boxes′ .old-cards)) (cardsIn n (boxes′ .new-cards)) ≡ boardsOf c old new
   boards-are e = rw (there e .0 .cards, there e .1 .cards)
 
-  pub state-told : {m n p : ℕ} {s : BoardState} → r ≡ Both m n → s ≡ stateAt (judged (cardsIn m oc′) (cardsIn n nc′)) p → StateTold c old new oc oe nc ne oc′ oe′ nc′ ne′ p (Both m n) s
+  pub state-told : {m n p : ℕ} {s : BoardState} → r ≡ Both m n → s ≡ stateAt (judged (cardsIn m (boxes′ .old-cards)) (cardsIn n (boxes′ .new-cards))) p → StateTold c old new boxes boxes′ p (Both m n) s
   state-told {p = p} e f = record { editions-read = as-told e; state = f ∙ ap (λ (js : List Judged). stateAt js p) (boards-are e) }
 
-  pub state-none : {p : ℕ} {f : PlanRefusal} → r ≡ editions.Refused f → StateTold c old new oc oe nc ne oc′ oe′ nc′ ne′ p r Blank
+  pub state-none : {p : ℕ} {f : EditionsRefusal} → r ≡ editions.Refused f → StateTold c old new boxes boxes′ p r Blank
   state-none e = record { editions-read = b; state = rw e }
 
-  pub behind-told : {m n p : ℕ} {s : Behind} → r ≡ Both m n → s ≡ behindAt (cardsIn m oc′) (cardsIn n nc′) (judged (cardsIn m oc′) (cardsIn n nc′)) p → BehindTold c old new oc oe nc ne oc′ oe′ nc′ ne′ p (Both m n) s
+  pub behind-told : {m n p : ℕ} {s : Behind} → r ≡ Both m n → s ≡ behindAt (cardsIn m (boxes′ .old-cards)) (cardsIn n (boxes′ .new-cards)) (judged (cardsIn m (boxes′ .old-cards)) (cardsIn n (boxes′ .new-cards))) p → BehindTold c old new boxes boxes′ p (Both m n) s
   behind-told e f = record { editions-read = as-told e; behind = f ∙ rw (there e .0 .cards, there e .1 .cards) }
 
-  pub behind-none : {p : ℕ} {f : PlanRefusal} → r ≡ editions.Refused f → BehindTold c old new oc oe nc ne oc′ oe′ nc′ ne′ p r Nothing
+  pub behind-none : {p : ℕ} {f : EditionsRefusal} → r ≡ editions.Refused f → BehindTold c old new boxes boxes′ p r Nothing
   behind-none e = record { editions-read = b; behind = rw e }
 
   pub boards-told : {m n : ℕ} {zs numbers numbers′ : List ℕ} → r ≡ Both m n → zs ≡ zeros numbers
-      → numbers′ ≡ putAll 5 zs 0 (numbersFrom (cardsIn m oc′) (cardsIn n nc′) (judged (cardsIn m oc′) (cardsIn n nc′))) → BoardsTold c old new oc oe nc ne numbers oc′ oe′ nc′ ne′ numbers′ (Both m n)
+      → numbers′ ≡ putAll 5 zs 0 (numbersFrom (cardsIn m (boxes′ .old-cards)) (cardsIn n (boxes′ .new-cards)) (judged (cardsIn m (boxes′ .old-cards)) (cardsIn n (boxes′ .new-cards)))) → BoardsTold c old new boxes numbers boxes′ numbers′ (Both m n)
   boards-told e z f = record { editions-read = as-told e; numbers-after = f ∙ rw (z, there e .0 .cards, there e .1 .cards) }
 
-  pub boards-none : {numbers numbers′ : List ℕ} {f : PlanRefusal} → r ≡ editions.Refused f → numbers′ ≡ zeros numbers → BoardsTold c old new oc oe nc ne numbers oc′ oe′ nc′ ne′ numbers′ r
+  pub boards-none : {numbers numbers′ : List ℕ} {f : EditionsRefusal} → r ≡ editions.Refused f → numbers′ ≡ zeros numbers → BoardsTold c old new boxes numbers boxes′ numbers′ r
   boards-none e z = record { editions-read = b; numbers-after = rw e z }
 
-  pub plan-refused : {f : PlanRefusal} {slips slips′ : List ℕ} → r ≡ editions.Refused f → slips′ ≡ zeros slips
-      → IsPlanned c old new oc oe nc ne slips oc′ oe′ nc′ ne′ slips′ (planned.Refused f)
+  pub plan-refused : {f : EditionsRefusal} {slips slips′ : List ℕ} → r ≡ editions.Refused f → slips′ ≡ zeros slips
+      → IsPlanned c old new boxes slips boxes′ slips′ (planned.Refused (Edition f))
   unfolding plannedOf
   plan-refused {f} {slips} e z =
       let well : areBoth r ≡ false = ap areBoth e in
-      let a : editionsOf c old new (length oc) (length oe) (length nc) (length ne) ≡ editions.Refused f = sym (b .answer) ∙ e in
+      let a : editionsOf c old new boxes ≡ editions.Refused f = sym (b .answer) ∙ e in
       record {
         answer = rw a;
-        boxes = rw well at (b .boxes);
+        boxes-after = rw well at (b .boxes-after);
         slips-after = z;
       }
 
-  pub plan-listed : {m n : ℕ} {slips zs ps : List ℕ} {t : Totals} {q : Planned} {oc″ oe″ nc″ ne″ slips″ : List ℕ} → r ≡ Both m n
-      → length oc′ ≡ length oc → length oe′ ≡ length oe → length nc′ ≡ length nc → length ne′ ≡ length ne
+  pub plan-listed : {m n : ℕ} {slips zs ps : List ℕ} {t : Totals} {q : Planned} {boxes″ : Boxes} {slips″ : List ℕ} → r ≡ Both m n → SameRoom boxes boxes′
       → zs ≡ zeros slips → length ps ≡ length zs
-      → (t ≡ totalsOf (judged (cardsIn m oc′) (cardsIn n nc′))) × (ps ≡ putAll 5 zs 0 (slipsOf (judged (cardsIn m oc′) (cardsIn n nc′))))
-      → PlanFinished oc′ oe′ nc′ ne′ ps t q oc″ oe″ nc″ ne″ slips″
-      → IsPlanned c old new oc oe nc ne slips oc″ oe″ nc″ ne″ slips″ q
+      → (t ≡ totalsOf (judged (cardsIn m (boxes′ .old-cards)) (cardsIn n (boxes′ .new-cards)))) × (ps ≡ putAll 5 zs 0 (slipsOf (judged (cardsIn m (boxes′ .old-cards)) (cardsIn n (boxes′ .new-cards)))))
+      → PlanFinished boxes′ ps t q boxes″ slips″
+      → IsPlanned c old new boxes slips boxes″ slips″ q
   unfolding plannedOf
-  plan-listed {m} {n} {slips} {zs} {ps} {t} {q} {oc″} {oe″} {nc″} {ne″} {slips″} e lo le ln lm z lp f g =
+  plan-listed {m} {n} {slips} {zs} {ps} {t} {q} {boxes″} {slips″} e room z lp f g =
       let ls = length slips in
       let js = boardsOf c old new in
-      let same : judged (cardsIn m oc′) (cardsIn n nc′) ≡ js = boards-are e in
+      let same : judged (cardsIn m (boxes′ .old-cards)) (cardsIn n (boxes′ .new-cards)) ≡ js = boards-are e in
       let well : areBoth r ≡ true = ap areBoth e in
-      let a : editionsOf c old new (length oc) (length oe) (length nc) (length ne) ≡ Both m n = sym (b .answer) ∙ e in
+      let a : editionsOf c old new boxes ≡ Both m n = sym (b .answer) ∙ e in
       let et : t ≡ totalsOf js = f .0 ∙ ap totalsOf same in
       let el : length ps ≡ ls = lp ∙ ap length z ∙ length-replicate ls 0 in
       let eq : q ≡ listedBy (ls / 5) t = g .answer ∙ ap (λ (k : ℕ). listedBy (k / 5) t) el in
       let es : t .solve ≡ length (slipsOf js) = ap (λ (x : Totals). x .solve) et ∙ solve-sum js ∙ sym (slips-count js) in
-      let ep : ps ≡ putAll 5 (replicate ls 0) 0 (slipsOf js) = f .1 ∙ ap (λ (x : List ℕ). putAll 5 x 0 (slipsOf (judged (cardsIn m oc′) (cardsIn n nc′)))) z ∙ ap (λ (x : List Judged). putAll 5 (replicate ls 0) 0 (slipsOf x)) same in
-      let boxes : BoxesAfter c true old new oc oe nc ne oc′ oe′ nc′ ne′ = rw well at (b .boxes) in
+      let ep : ps ≡ putAll 5 (replicate ls 0) 0 (slipsOf js) = f .1 ∙ ap (λ (x : List ℕ). putAll 5 x 0 (slipsOf (judged (cardsIn m (boxes′ .old-cards)) (cardsIn n (boxes′ .new-cards))))) z ∙ ap (λ (x : List Judged). putAll 5 (replicate ls 0) 0 (slipsOf x)) same in
+      let full : BoxesAfter c true old new boxes boxes′ = rw well at (b .boxes-after) in
       record {
         answer = eq ∙ ap (listedBy (ls / 5)) et ∙ rw a;
-        boxes =
-            record {
-              old-cards = kept (isListed q) (length oc) (boxes .old-cards) lo (g .boxes .old-cards);
-              old-entries = kept (isListed q) (length oe) (boxes .old-entries) le (g .boxes .old-entries);
-              new-cards = kept (isListed q) (length nc) (boxes .new-cards) ln (g .boxes .new-cards);
-              new-entries = kept (isListed q) (length ne) (boxes .new-entries) lm (g .boxes .new-entries);
-            };
+        boxes-after = boxes-kept (isListed q) full room (g .boxes-after);
         slips-after = slips-end (isListed q) ls (slips-five js) (λ h. omega (arith, listed-fits ls t (sym (ap isListed eq) ∙ h), es)) el ep (g .slips-after);
       }
 
 -- The record behind a board, as a part of a text.
-pub part-told : {c : Conventions} {old new oc oe nc ne oc′ oe′ nc′ ne′ : List ℕ} {p : ℕ} {r : Editions} {s : Behind} {part : List ℕ}
-    → BehindTold c old new oc oe nc ne oc′ oe′ nc′ ne′ p r s → part ≡ partOf old new s → PartTold c old new oc oe nc ne oc′ oe′ nc′ ne′ p part
-part-told {c} {old} {new} {oc} {oe} {nc} {ne} {oc′} {oe′} {nc′} {ne′} {p} {r} {s} b e =
+pub part-told : {c : Conventions} {old new : List ℕ} {boxes boxes′ : Boxes} {p : ℕ} {r : Editions} {s : Behind} {part : List ℕ}
+    → BehindTold c old new boxes boxes′ p r s → part ≡ partOf old new s → PartTold c old new boxes boxes′ p part
+part-told {c} {old} {new} {boxes} {boxes′} {p} {r} {s} b e =
     let a = b .editions-read .answer in
     record {
       bytes = e ∙ ap (partOf old new) (b .behind ∙ ap (λ (x : Editions). behindBy x c old new p) a);
-      boxes = subst (λ (x : Editions). BoxesAfter c (areBoth x) old new oc oe nc ne oc′ oe′ nc′ ne′) a (b .editions-read .boxes);
+      boxes-after = subst (λ (x : Editions). BoxesAfter c (areBoth x) old new boxes boxes′) a (b .editions-read .boxes-after);
     }

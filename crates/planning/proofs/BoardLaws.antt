@@ -2,16 +2,17 @@
 use Prim.Native.Nat.{ℕ, zero, suc, _+_, _*_, _-_, _≤_, _<_}
 use mathlib.Core.Path.{_≡_, refl, sym, ap, _∙_}
 use mathlib.Core.List.{List, [], _∷_, _++_}
+use mathlib.Core.Option.{Option, none, some}
 use native.Mathlib.Omega.{arith}
-use lib.ListN.{length, drop, getD}
+use lib.ListN.{length, drop, getD, List·getD-eq-default}
 use lib.Seq.{drop-drop}
 use Rattle.planning.specs.declared.state.BoardState.{BoardState}
 use Rattle.planning.specs.declared.state.BoardState.the-variants.{Blank}
 use Rattle.planning.specs.declared.behind.Behind.{Behind}
 use Rattle.planning.specs.declared.behind.Behind.the-variants.{InOld, InNew, Nothing}
 use Rattle.planning.specs.Cards.{cardsIn, cardHere}
-use Rattle.planning.specs.States.{Judged, stateOf, judgedFrom, judged, stateFrom, stateAt}
-use Rattle.planning.specs.Slips.{cardFrom, cardAt, behindState, behindFrom, behindAt, behindNumbers}
+use Rattle.planning.specs.States.{Judged, stateOf, judgedFrom, judged, boardFrom, boardAt, stateIn, stateAt}
+use Rattle.planning.specs.Slips.{cardFrom, cardAt, behindState, behindIn, behindAt, behindNumbers}
 use Rattle.planning.specs.Steps.{boardHere}
 use Rattle.planning.proofs.BoxLaws.{cards-count, card-nth, card-step, cards-split}
 
@@ -23,11 +24,6 @@ cards-more k box =
     let e : k + 1 - suc k ≡ 0 = omega arith in
     cards-split (k + 1) k box (omega arith) ∙ rw e
 
-no-card : (xs : List (List ℕ)) (k : ℕ) → length xs ≤ k → cardFrom xs k ≡ []
-no-card [] k h = refl
-no-card (x ∷ xs) zero h = absurd (omega arith)
-no-card (x ∷ xs) (suc k) h = no-card xs k (omega arith)
-
 -- The card at a position, from 1, of n cards.
 pub card-at : (n p k : ℕ) (box : List ℕ) → p ≡ k + 1 → k < n → cardAt (cardsIn n box) p ≡ cardHere k box
 card-at n zero k box e h = absurd (omega arith)
@@ -37,7 +33,7 @@ card-at n (suc p) k box e h =
 
 pub card-past : (n p k : ℕ) (box : List ℕ) → p ≡ k + 1 → n ≤ k → cardAt (cardsIn n box) p ≡ []
 card-past n zero k box e h = refl
-card-past n (suc p) k box e h = no-card (cardsIn n box) p (rw (cards-count n box) (omega arith))
+card-past n (suc p) k box e h = List·getD-eq-default (cardsIn n box) [] (rw (cards-count n box) (omega arith))
 
 -- ---- board after board
 
@@ -76,57 +72,46 @@ left-drop os ns (suc k) n box h =
     let f : drop (k + 1) l ≡ drop 1 (boardHere os ns k box ∷ boardsLeft os ns (k + 1) n box) = sym (drop-drop 1 k l) ∙ ap (drop 1) (left-drop os ns k n box (omega arith) ∙ left-step os ns k n box (omega arith)) in
     rw e at f
 
--- ---- the state and the record behind a board at a position
+-- ---- the board at a position
 
-state-drop : (js : List Judged) (k : ℕ) → stateFrom js k ≡ stateFrom (drop k js) 0
-state-drop [] zero = refl
-state-drop [] (suc k) = refl
-state-drop (j ∷ js) zero = refl
-state-drop (j ∷ js) (suc k) = state-drop js k
+board-drop : (js : List Judged) (k : ℕ) → boardFrom js k ≡ boardFrom (drop k js) 0
+board-drop [] zero = refl
+board-drop [] (suc k) = refl
+board-drop (j ∷ js) zero = refl
+board-drop (j ∷ js) (suc k) = board-drop js k
 
-pub past-none : (js : List Judged) (k : ℕ) → length js ≤ k → stateFrom js k ≡ Blank
+pub past-none : (js : List Judged) (k : ℕ) → length js ≤ k → boardFrom js k ≡ none
 past-none [] k h = refl
 past-none (j ∷ js) zero h = absurd (omega arith)
 past-none (j ∷ js) (suc k) h = past-none js k (omega arith)
 
-behind-drop : (os ns : List (List ℕ)) (js : List Judged) (k : ℕ) → behindFrom os ns js k ≡ behindFrom os ns (drop k js) 0
-behind-drop os ns [] zero = refl
-behind-drop os ns [] (suc k) = refl
-behind-drop os ns (j ∷ js) zero = refl
-behind-drop os ns (j ∷ js) (suc k) = behind-drop os ns js k
-
-behind-none : (os ns : List (List ℕ)) (js : List Judged) (k : ℕ) → length js ≤ k → behindFrom os ns js k ≡ Nothing
-behind-none os ns [] k h = refl
-behind-none os ns (j ∷ js) zero h = absurd (omega arith)
-behind-none os ns (j ∷ js) (suc k) h = behind-none os ns js k (omega arith)
-
 module _ (os : List (List ℕ)) (n k : ℕ) (box : List ℕ) where
-  here : k < n → drop k (judged os (cardsIn n box)) ≡ boardHere os (cardsIn n box) k box ∷ boardsLeft os (cardsIn n box) (k + 1) n box
-  here h = rw (left-first os n box) (left-drop os (cardsIn n box) k n box (omega arith) ∙ left-step os (cardsIn n box) k n box h)
+  board-here : {p : ℕ} → p ≡ k + 1 → k < n → boardAt (judged os (cardsIn n box)) p ≡ some (boardHere os (cardsIn n box) k box)
+  board-here {p} e h =
+      let ns = cardsIn n box in
+      let g : suc k ≡ p = omega arith in
+      let x : drop k (judged os ns) ≡ boardHere os ns k box ∷ boardsLeft os ns (k + 1) n box = rw (left-first os n box) (left-drop os ns k n box (omega arith) ∙ left-step os ns k n box h) in
+      sym (ap (boardAt (judged os ns)) g) ∙ board-drop (judged os ns) k ∙ ap (λ (l : List Judged). boardFrom l 0) x
+
+  board-past : {p : ℕ} → p ≡ k + 1 → n ≤ k → boardAt (judged os (cardsIn n box)) p ≡ none
+  board-past {p} e h =
+      let g : suc k ≡ p = omega arith in
+      sym (ap (boardAt (judged os (cardsIn n box))) g) ∙ past-none (judged os (cardsIn n box)) k (rw (boards-count os n box) h)
 
   pub state-here : {p : ℕ} {s : BoardState} → p ≡ k + 1 → k < n → s ≡ stateOf os (cardsIn n box) (cardsIn k box) (cardHere k box) → s ≡ stateAt (judged os (cardsIn n box)) p
-  state-here {p} {s} e h f =
-      let g : suc k ≡ p = omega arith in
-      let x : stateFrom (judged os (cardsIn n box)) k ≡ stateOf os (cardsIn n box) (cardsIn k box) (cardHere k box) = state-drop (judged os (cardsIn n box)) k ∙ ap (λ (l : List Judged). stateFrom l 0) (here h) in
-      f ∙ sym x ∙ ap (stateAt (judged os (cardsIn n box))) g
+  state-here e h f = f ∙ sym (ap stateIn (board-here e h))
 
   pub state-past : {p : ℕ} → p ≡ k + 1 → n ≤ k → Blank ≡ stateAt (judged os (cardsIn n box)) p
-  state-past {p} e h =
-      let g : suc k ≡ p = omega arith in
-      sym (past-none (judged os (cardsIn n box)) k (rw (boards-count os n box) h)) ∙ ap (stateAt (judged os (cardsIn n box))) g
+  state-past e h = sym (ap stateIn (board-past e h))
 
   pub behind-here : {p : ℕ} {s : BoardState} {b : Behind} → p ≡ k + 1 → k < n → s ≡ stateOf os (cardsIn n box) (cardsIn k box) (cardHere k box)
       → b ≡ behindState os (cardsIn n box) (cardAt (cardsIn n box) p) s → b ≡ behindAt os (cardsIn n box) (judged os (cardsIn n box)) p
   behind-here {p} {s} {b} e h f i =
-      let g : suc k ≡ p = omega arith in
-      let x : behindFrom os (cardsIn n box) (judged os (cardsIn n box)) k ≡ behindState os (cardsIn n box) (cardHere k box) (stateOf os (cardsIn n box) (cardsIn k box) (cardHere k box)) = behind-drop os (cardsIn n box) (judged os (cardsIn n box)) k ∙ ap (λ (l : List Judged). behindFrom os (cardsIn n box) l 0) (here h) in
-      let y : b ≡ behindState os (cardsIn n box) (cardHere k box) (stateOf os (cardsIn n box) (cardsIn k box) (cardHere k box)) = i ∙ ap (λ (z : List ℕ). behindState os (cardsIn n box) z s) (card-at n p k box e h) ∙ ap (behindState os (cardsIn n box) (cardHere k box)) f in
-      y ∙ sym x ∙ ap (behindAt os (cardsIn n box) (judged os (cardsIn n box))) g
+      let ns = cardsIn n box in
+      i ∙ ap (λ (z : List ℕ). behindState os ns z s) (card-at n p k box e h) ∙ ap (behindState os ns (cardHere k box)) f ∙ sym (ap (behindIn os ns) (board-here e h))
 
   pub behind-past : {p : ℕ} → p ≡ k + 1 → n ≤ k → Nothing ≡ behindAt os (cardsIn n box) (judged os (cardsIn n box)) p
-  behind-past {p} e h =
-      let g : suc k ≡ p = omega arith in
-      sym (behind-none os (cardsIn n box) (judged os (cardsIn n box)) k (rw (boards-count os n box) h)) ∙ ap (behindAt os (cardsIn n box) (judged os (cardsIn n box))) g
+  behind-past e h = sym (ap (behindIn os (cardsIn n box)) (board-past e h))
 
 -- The record behind a board as three numbers.
 pub behind-three : (b : Behind) → behindNumbers b ≡ getD (behindNumbers b) 0 0 ∷ getD (behindNumbers b) 1 0 ∷ getD (behindNumbers b) 2 0 ∷ []

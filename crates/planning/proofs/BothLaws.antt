@@ -16,13 +16,13 @@ use Rattle.reader.specs.declared.edition.Reading.the-variants as reading
 use Rattle.tables.proofs.Laws.{by-cases, clash}
 use Rattle.reader.specs.Store.{flat, padded, zeros}
 use Rattle.reader.specs.Editions.{Whole, readingOf, cardsOf, IsRead, isTaken}
-use Rattle.planning.specs.declared.editions.PlanRefusal.the-variants.{Old, New}
+use Rattle.planning.specs.declared.editions.EditionsRefusal.the-variants.{Old, New}
 use Rattle.planning.specs.declared.editions.Editions.{Editions}
 use Rattle.planning.specs.declared.editions.Editions.the-variants.{Both}
 use Rattle.planning.specs.declared.editions.Editions.the-variants as editions
-use Rattle.planning.specs.Plans.{bothAfter, editionsOf, limitedOf, limitedBoth, areBoth, BothRead, IsLimited, BothLimited}
+use Rattle.planning.specs.Plans.{Boxes, oldReading, newReading, bothAfter, editionsOf, limitedOf, limitedBoth, areBoth, BothRead, IsLimited, BothLimited}
 use Rattle.planning.specs.Cards.{cardsIn}
-use Rattle.planning.proofs.BoxLaws.{cards-back, taken-fits}
+use Rattle.planning.proofs.BoxLaws.{four, cards-back, taken-fits}
 
 -- ---- an edition with a limit
 
@@ -44,11 +44,11 @@ limited-read {c} {limit} {n} {text} en h i =
 
 module _ {c : Conventions} {limit : ℕ} {old new oc oe nc ne oc′ oe′ : List ℕ} {r : Reading} (i : IsLimited c limit old oc oe r oc′ oe′) where
   pub old-refused : {f : ReadRefusal} {nc′ ne′ : List ℕ} → r ≡ reading.Refused f → nc′ ≡ zeros nc → ne′ ≡ zeros ne
-      → BothLimited c limit old new oc oe nc ne oc′ oe′ nc′ ne′ (editions.Refused (Old f))
+      → BothLimited c limit old new (four oc oe nc ne) (four oc′ oe′ nc′ ne′) (editions.Refused (Old f))
   unfolding limitedBoth
   old-refused e ec ee = record {
     answer = rw (← i .answer, e);
-    boxes = record {
+    boxes-after = record {
       old-cards = rw e at (i .cards-after);
       old-entries = rw e at (i .entries-after);
       new-cards = ec;
@@ -58,11 +58,11 @@ module _ {c : Conventions} {limit : ℕ} {old new oc oe nc ne oc′ oe′ : List
 
   pub new-refused : {m x : ℕ} {f : ReadRefusal} {s : Reading} {nc′ ne′ oc″ oe″ : List ℕ} → r ≡ Taken m x → IsLimited c limit new nc ne s nc′ ne′ → s ≡ reading.Refused f
       → length oc′ ≡ length oc → length oe′ ≡ length oe → oc″ ≡ zeros oc′ → oe″ ≡ zeros oe′
-      → BothLimited c limit old new oc oe nc ne oc″ oe″ nc′ ne′ (editions.Refused (New f))
+      → BothLimited c limit old new (four oc oe nc ne) (four oc″ oe″ nc′ ne′) (editions.Refused (New f))
   unfolding limitedBoth
   new-refused e j e₂ lc le ec ee = record {
     answer = rw (← i .answer, e, ← j .answer, e₂);
-    boxes = record {
+    boxes-after = record {
       old-cards = ec ∙ rw lc;
       old-entries = ee ∙ rw le;
       new-cards = rw e₂ at (j .cards-after);
@@ -71,11 +71,11 @@ module _ {c : Conventions} {limit : ℕ} {old new oc oe nc ne oc′ oe′ : List
   }
 
   pub both-taken : {m x n y : ℕ} {s : Reading} {nc′ ne′ : List ℕ} → r ≡ Taken m x → IsLimited c limit new nc ne s nc′ ne′ → s ≡ Taken n y
-      → BothLimited c limit old new oc oe nc ne oc′ oe′ nc′ ne′ (Both m n)
+      → BothLimited c limit old new (four oc oe nc ne) (four oc′ oe′ nc′ ne′) (Both m n)
   unfolding limitedBoth
   both-taken e j e₂ = record {
     answer = rw (← i .answer, e, ← j .answer, e₂);
-    boxes = record {
+    boxes-after = record {
       old-cards = rw e at (i .cards-after);
       old-entries = rw e at (i .entries-after);
       new-cards = rw e₂ at (j .cards-after);
@@ -88,12 +88,13 @@ limited-all : (c : Conventions) (text : List ℕ) (lc le : ℕ) → limitedOf c 
 unfolding limitedOf readingOf
 limited-all c text lc le = by-cases (ltb 16777215 (length text)) (λ e. rw e) (λ e. rw e)
 
-pub both-all : {c : Conventions} {old new oc oe nc ne oc′ oe′ nc′ ne′ : List ℕ} {r : Editions} → BothLimited c 16777215 old new oc oe nc ne oc′ oe′ nc′ ne′ r
-    → BothRead c old new oc oe nc ne oc′ oe′ nc′ ne′ r
+pub both-all : {c : Conventions} {old new : List ℕ} {boxes boxes′ : Boxes} {r : Editions} → BothLimited c 16777215 old new boxes boxes′ r → BothRead c old new boxes boxes′ r
 unfolding limitedBoth editionsOf
-both-all {c} {old} {new} {oc} {oe} {nc} {ne} b = record {
-  answer = b .answer ∙ rw (limited-all c old (length oc) (length oe), limited-all c new (length nc) (length ne));
-  boxes = b .boxes;
+both-all {c} {old} {new} {boxes} b = record {
+  answer =
+      b .answer
+      ∙ rw (limited-all c old (length (boxes .old-cards)) (length (boxes .old-entries)), limited-all c new (length (boxes .new-cards)) (length (boxes .new-entries)));
+  boxes-after = b .boxes-after;
 }
 
 -- ---- both were taken
@@ -151,11 +152,11 @@ cards-there c text lc le n e box w t h =
     }
 
 -- Whole (cardsOf c text), which holds of every text, is taken as given.
-pub both-cards : {c : Conventions} {old new oc oe nc ne oc′ oe′ nc′ ne′ : List ℕ} {m n : ℕ} → BothRead c old new oc oe nc ne oc′ oe′ nc′ ne′ (Both m n)
-    → Whole (cardsOf c old) → Whole (cardsOf c new) → CardsThere c old oc′ m × CardsThere c new nc′ n
+pub both-cards : {c : Conventions} {old new : List ℕ} {boxes boxes′ : Boxes} {m n : ℕ} → BothRead c old new boxes boxes′ (Both m n)
+    → Whole (cardsOf c old) → Whole (cardsOf c new) → CardsThere c old (boxes′ .old-cards) m × CardsThere c new (boxes′ .new-cards) n
 unfolding editionsOf
-both-cards {c} {old} {new} {oc} {oe} {nc} {ne} {oc′} {oe′} {nc′} {ne′} {m} {n} b wo wn =
-    let t = taken-both (readingOf c old (length oc) (length oe)) (readingOf c new (length nc) (length ne)) m n (b .answer) in (
-      cards-there c old (length oc) (length oe) m (t .0 .entries) oc′ wo (t .0 .is) (b .boxes .old-cards),
-      cards-there c new (length nc) (length ne) n (t .1 .entries) nc′ wn (t .1 .is) (b .boxes .new-cards),
+both-cards {c} {old} {new} {boxes} {boxes′} {m} {n} b wo wn =
+    let t = taken-both (oldReading c old boxes) (newReading c new boxes) m n (b .answer) in (
+      cards-there c old (length (boxes .old-cards)) (length (boxes .old-entries)) m (t .0 .entries) (boxes′ .old-cards) wo (t .0 .is) (b .boxes-after .old-cards),
+      cards-there c new (length (boxes .new-cards)) (length (boxes .new-entries)) n (t .1 .entries) (boxes′ .new-cards) wn (t .1 .is) (b .boxes-after .new-cards),
     )

@@ -15,6 +15,11 @@ use Rattle.reader.specs.Store.{flat, padded}
 use Rattle.reader.specs.Editions.{Whole, none, one, isTaken, verdict, readingOf, cardsOf, entriesOf}
 use Rattle.planning.specs.Cards.{cardsIn, cardHere}
 use Rattle.planning.specs.Slips.{cardFrom}
+use Rattle.planning.specs.Plans.{Boxes}
+
+-- The four boxes, from their words.
+abbrev pub four : List ℕ → List ℕ → List ℕ → List ℕ → Boxes
+four oc oe nc ne = record { old-cards = oc; old-entries = oe; new-cards = nc; new-entries = ne }
 
 -- ---- the first n cards
 

@@ -15,13 +15,13 @@ use Rattle.reader.specs.declared.edition.Reading.the-variants.{Taken}
 use Rattle.reader.specs.declared.edition.Reading.the-variants as reading
 use Rattle.reader.specs.Deals.{handsOfWords}
 use Rattle.reader.specs.Records.{AlikeBut}
-use Rattle.reader.specs.Editions.{readingOf, isTaken, cardOf, cardsOf}
+use Rattle.reader.specs.Editions.{isTaken, cardOf, cardsOf}
 use Rattle.reader.specs.Fellows.{Stands, Fellow}
 use Rattle.reader.proofs.CardShape.{word-back}
 use Rattle.reader.proofs.Fellows.{EveryBoard, RecordEnds, InsideOnly, AlikeOther, InsideOrFellow}
 use Rattle.planning.specs.Cards.{handsOf}
 use Rattle.planning.specs.Slips.{cardFrom}
-use Rattle.planning.specs.Plans.{bothAfter, editionsOf, areBoth}
+use Rattle.planning.specs.Plans.{Boxes, oldReading, newReading, bothAfter, editionsOf, areBoth}
 use Rattle.planning.specs.Demands.{Among, here, WithDeal, Tabled, None, InFront, InStretch, InBack, AllSolved, ListedInside}
 use Rattle.planning.proofs.BothLaws.{both-are-taken, taken-short}
 use Rattle.planning.proofs.FoundLaws.{numbered, among-right}
@@ -49,9 +49,10 @@ ends-at c a n r h = word-back c a n r 23 ∙ omega arith
 
 -- ---- both editions were taken
 
-new-short : (c : Conventions) (old new : List ℕ) (lc le nc ne : ℕ) → areBoth (editionsOf c old new lc le nc ne) ≡ true → length new ≤ 16777215
+new-short : (c : Conventions) (old new : List ℕ) (boxes : Boxes) → areBoth (editionsOf c old new boxes) ≡ true → length new ≤ 16777215
 unfolding editionsOf
-new-short c old new lc le nc ne e = taken-short c new nc ne (both-are-taken (readingOf c old lc le) (readingOf c new nc ne) e .1)
+new-short c old new boxes e =
+    taken-short c new (length (boxes .new-cards)) (length (boxes .new-entries)) (both-are-taken (oldReading c old boxes) (newReading c new boxes) e .1)
 
 -- ---- a new board with an unsolved deal
 
@@ -97,12 +98,12 @@ module _ (c : Conventions) (front middle middle′ back : List ℕ) (al : AlikeB
       (λ a′ f. absurd (no-fellow a n a′ r (rw (← e) at d) f)))
 
 pub listed-inside : ListedInside
-listed-inside c front middle middle′ back oc oe nc ne slips oc′ oe′ nc′ ne′ slips′ t al p solved h listed =
+listed-inside c front middle middle′ back boxes slips boxes′ slips′ t al p solved h listed =
     let old = front ++ (middle ++ back) in
     let new = front ++ (middle′ ++ back) in
-    let q = told c old new oc oe nc ne slips oc′ oe′ nc′ ne′ slips′ t p in
-    let short = new-short c old new (length oc) (length oe) (length nc) (length ne) (q .taken) in
-    let u = listed-exactly-once c old new oc oe nc ne slips oc′ oe′ nc′ ne′ slips′ t p .exactly h .0 listed in
+    let q = told c old new boxes slips boxes′ slips′ t p in
+    let short = new-short c old new boxes (q .taken) in
+    let u = listed-exactly-once c old new boxes slips boxes′ slips′ t p .exactly h .0 listed in
     let at = placed c front middle middle′ back al solved short h (u .none-old) in
     let x = u .some-new in
     record {

@@ -17,7 +17,7 @@ use Rattle.reader.specs.declared.edition.Reading.the-variants as reading
 use Rattle.reader.specs.Store.{flat, padded}
 use Rattle.reader.specs.Deals.{ones, cardCount, wholeHands}
 use Rattle.reader.proofs.DealLaws.{WholeHands}
-use Rattle.reader.specs.Editions.{isTaken, readingOf, cardsOf}
+use Rattle.reader.specs.Editions.{isTaken, cardsOf}
 use Rattle.planning.specs.declared.state.BoardState.the-variants.{Solve}
 use Rattle.planning.specs.declared.editions.Editions.{Editions}
 use Rattle.planning.specs.declared.editions.Editions.the-variants.{Both}
@@ -27,7 +27,7 @@ use Rattle.planning.specs.declared.plan.Planned.the-variants.{Listed}
 use Rattle.planning.specs.Cards.{dealOf, handsOf, isWhole, hasTable, fits}
 use Rattle.planning.specs.States.{Judged, firstFrom, judgedFrom, judged, stateAt, stateNumber}
 use Rattle.planning.specs.Slips.{slipOf, slipsOf, totalsOf, countOf, cardFrom, cardAt}
-use Rattle.planning.specs.Plans.{bothAfter, editionsOf, areBoth, plannedBy, plannedOf, boardsOf, IsPlanned}
+use Rattle.planning.specs.Plans.{Boxes, oldReading, newReading, bothAfter, editionsOf, areBoth, plannedBy, plannedOf, boardsOf, IsPlanned}
 use Rattle.planning.specs.Demands.{Among, WithDeal, First, slipHere, Holds, Unsolved, OfSolve, ListedOnce, ListedExactlyOnce, ListedWhenTaken, NothingListed, TotalsTold}
 use Rattle.planning.proofs.AnswerLaws.{solve-sum}
 use Rattle.planning.proofs.FoundLaws.{Tells, zero-none, found-is-first, card-among, take-card}
@@ -248,26 +248,26 @@ plan-listed (Both m n) lent u t q =
     (λ b. let z = rw b at q in record { totals = cc; enough = ltb-false lent (u .solve) b; taken = refl })
 plan-listed (editions.Refused f) lent u t q = let y : _≡_ {A = ℕ} 0 1 = cc in absurd (omega arith)
 
-pub told : (c : Conventions) (old new oc oe nc ne slips oc′ oe′ nc′ ne′ slips′ : List ℕ) (t : Totals)
-    → IsPlanned c old new oc oe nc ne slips oc′ oe′ nc′ ne′ slips′ (Listed t)
-    → IsListed (editionsOf c old new (length oc) (length oe) (length nc) (length ne)) (length slips / 5) (totalsOf (boardsOf c old new)) t
+pub told : (c : Conventions) (old new : List ℕ) (boxes : Boxes) (slips : List ℕ) (boxes′ : Boxes) (slips′ : List ℕ) (t : Totals)
+    → IsPlanned c old new boxes slips boxes′ slips′ (Listed t)
+    → IsListed (editionsOf c old new boxes) (length slips / 5) (totalsOf (boardsOf c old new)) t
 unfolding plannedOf
-told c old new oc oe nc ne slips oc′ oe′ nc′ ne′ slips′ t p =
-    plan-listed (editionsOf c old new (length oc) (length oe) (length nc) (length ne)) (length slips / 5) (totalsOf (boardsOf c old new)) t (p .answer)
+told c old new boxes slips boxes′ slips′ t p =
+    plan-listed (editionsOf c old new boxes) (length slips / 5) (totalsOf (boardsOf c old new)) t (p .answer)
 
 boards-total : (t : Totals) (js : List Judged) → t ≡ totalsOf js → t .boards ≡ length js
 unfolding totalsOf
 boards-total t js e = ap (λ (u : Totals). u .boards) e
 
 pub listed-exactly-once : ListedExactlyOnce
-listed-exactly-once c old new oc oe nc ne slips oc′ oe′ nc′ ne′ slips′ t p =
-    let q = told c old new oc oe nc ne slips oc′ oe′ nc′ ne′ slips′ t p in
+listed-exactly-once c old new boxes slips boxes′ slips′ t p =
+    let q = told c old new boxes slips boxes′ slips′ t p in
     all-listed (cardsOf c old) (cardsOf c new) (CardsHanded c old) (CardsHanded c new) (t .solve) (length slips) slips′
     ((ap (λ (u : Totals). u .solve) (q .totals) ∙ solve-sum (boardsOf c old new))) (p .slips-after)
 
 pub totals-told : TotalsTold
-totals-told c old new oc oe nc ne slips oc′ oe′ nc′ ne′ slips′ t p =
-    let q = told c old new oc oe nc ne slips oc′ oe′ nc′ ne′ slips′ t p in (
+totals-told c old new boxes slips boxes′ slips′ t p =
+    let q = told c old new boxes slips boxes′ slips′ t p in (
       boards-total t (boardsOf c old new) (q .totals) ∙ boards-all (cardsOf c old) (cardsOf c new),
       rw (q .totals) (totals-add-up (boardsOf c old new)),
     )
@@ -281,9 +281,9 @@ both-are (reading.Refused f) y lent u a b h = clash a
 
 pub listed-when-taken : ListedWhenTaken
 unfolding plannedOf editionsOf
-listed-when-taken c old new oc oe nc ne slips oc′ oe′ nc′ ne′ slips′ r p a b h =
+listed-when-taken c old new boxes slips boxes′ slips′ r p a b h =
     p .answer
-    ∙ both-are (readingOf c old (length oc) (length oe)) (readingOf c new (length nc) (length ne)) (length slips / 5) (totalsOf (boardsOf c old new)) a b h
+    ∙ both-are (oldReading c old boxes) (newReading c new boxes) (length slips / 5) (totalsOf (boardsOf c old new)) a b h
 
 at-among : (xs : List (List ℕ)) (p : ℕ) → 1 ≤ p → p ≤ length xs → Among (cardAt xs p) xs
 at-among xs zero o l = absurd (omega arith)
@@ -297,8 +297,8 @@ no-solve c old new slip all s =
     clash (sym (f .no-table) ∙ all (cardAt (cardsOf c new) (s .position)) (at-among (cardsOf c new) (s .position) (s .from-one) (s .is-there)) (f .whole))
 
 pub nothing-listed : NothingListed
-nothing-listed c old new oc oe nc ne slips oc′ oe′ nc′ ne′ slips′ t p all =
-    let l = listed-exactly-once c old new oc oe nc ne slips oc′ oe′ nc′ ne′ slips′ t p in
+nothing-listed c old new boxes slips boxes′ slips′ t p all =
+    let l = listed-exactly-once c old new boxes slips boxes′ slips′ t p in
     let z : t .solve ≡ 0 =
     by-cases (ltb 0 (t .solve))
     (λ b. absurd (no-solve c old new (slipHere 0 slips′) all (l .of-solve 0 (ltb-true 0 (t .solve) b))))

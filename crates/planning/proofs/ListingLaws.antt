@@ -23,8 +23,9 @@ use Rattle.reader.specs.Editions.{isTaken, readingOf, cardsOf, IsRead}
 use Rattle.reader.proofs.StoreLaws.{Blocks, put-zeros}
 use Rattle.reader.proofs.Counts.{TextBoardsFew}
 use Rattle.planning.specs.declared.state.BoardState.{BoardState}
-use Rattle.planning.specs.declared.editions.PlanRefusal.{PlanRefusal}
-use Rattle.planning.specs.declared.editions.PlanRefusal.the-variants.{Old, New, SlipsShort}
+use Rattle.planning.specs.declared.editions.EditionsRefusal.{EditionsRefusal}
+use Rattle.planning.specs.declared.plan.PlanRefusal.{PlanRefusal}
+use Rattle.planning.specs.declared.plan.PlanRefusal.the-variants.{Edition}
 use Rattle.planning.specs.declared.editions.Editions.{Editions}
 use Rattle.planning.specs.declared.editions.Editions.the-variants.{Both}
 use Rattle.planning.specs.declared.editions.Editions.the-variants as editions
@@ -35,14 +36,14 @@ use Rattle.planning.specs.declared.plan.Planned.the-variants as planned
 use Rattle.planning.specs.Cards.{cardsIn, cardHere}
 use Rattle.planning.specs.States.{Judged, judged, stateOf}
 use Rattle.planning.specs.Slips.{slipsOf, countOf, totalsOf}
-use Rattle.planning.specs.Plans.{bothAfter, editionsOf, areBoth, lent, boardsOf, listedBy, plannedBy, isListed, BoxesAfter, BothRead, limitedOf, limitedBoth, BothLimited}
+use Rattle.planning.specs.Plans.{Boxes, bothAfter, editionsOf, areBoth, lent, boardsOf, listedBy, plannedBy, isListed, BoxesAfter, BothRead, limitedOf, limitedBoth, BothLimited}
 use Rattle.planning.specs.Steps.{Kept, PlanFinished}
 use Rattle.planning.specs.Listing.{boardLine, boardLines, totalLine, refusedLine, listText, Countable, listedOf, wellOn, PageKept, BoardsListed, ListedAs, IsListing}
 use Rattle.planning.proofs.BothLaws.{CardsThere, both-are-taken, taken-short}
 use Rattle.planning.proofs.BoardLaws.{boardsLeft, left-first, left-step, left-none, boards-count}
 use Rattle.planning.proofs.PlanLaws.{count-few}
 use Rattle.planning.proofs.SlipLaws.{slips-count, slips-five}
-use Rattle.planning.proofs.AnswerLaws.{kept, listed-fits, solve-sum, there, boards-are}
+use Rattle.planning.proofs.AnswerLaws.{SameRoom, boxes-kept, listed-fits, solve-sum, there, boards-are}
 
 -- ---- two editions that were taken are within the limit
 
@@ -54,14 +55,18 @@ limited-taken c limit text lc le h =
     (λ e. rw e)
 
 -- What both editions taken within the limit say: they are taken without it, and short.
-record TakenBoth (c : Conventions) (limit : ℕ) (old new : List ℕ) (lc le nc ne : ℕ) : Type 0 where
-  plain : limitedBoth c limit old new lc le nc ne ≡ editionsOf c old new lc le nc ne
+record TakenBoth (c : Conventions) (limit : ℕ) (old new : List ℕ) (boxes : Boxes) : Type 0 where
+  plain : limitedBoth c limit old new boxes ≡ editionsOf c old new boxes
   old-short : length old ≤ 16777215
   new-short : length new ≤ 16777215
 
-taken-both : (c : Conventions) (limit : ℕ) (old new : List ℕ) (lc le nc ne : ℕ) → areBoth (limitedBoth c limit old new lc le nc ne) ≡ true → TakenBoth c limit old new lc le nc ne
+taken-both : (c : Conventions) (limit : ℕ) (old new : List ℕ) (boxes : Boxes) → areBoth (limitedBoth c limit old new boxes) ≡ true → TakenBoth c limit old new boxes
 unfolding limitedBoth editionsOf
-taken-both c limit old new lc le nc ne h =
+taken-both c limit old new boxes h =
+    let lc = length (boxes .old-cards) in
+    let le = length (boxes .old-entries) in
+    let nc = length (boxes .new-cards) in
+    let ne = length (boxes .new-entries) in
     let t = both-are-taken (limitedOf c limit old lc le) (limitedOf c limit new nc ne) h in
     let eo = limited-taken c limit old lc le (t .0) in
     let en = limited-taken c limit new nc ne (t .1) in
@@ -71,15 +76,15 @@ taken-both c limit old new lc le nc ne h =
       new-short = taken-short c new nc ne (sym (ap isTaken en) ∙ t .1);
     }
 
-module _ {c : Conventions} {limit : ℕ} {old new oc oe nc ne oc′ oe′ nc′ ne′ : List ℕ} {r : Editions} (b : BothLimited c limit old new oc oe nc ne oc′ oe′ nc′ ne′ r) where
-  within : {m n : ℕ} → r ≡ Both m n → TakenBoth c limit old new (length oc) (length oe) (length nc) (length ne)
-  within e = taken-both c limit old new (length oc) (length oe) (length nc) (length ne) (sym (ap areBoth (b .answer)) ∙ ap areBoth e)
+module _ {c : Conventions} {limit : ℕ} {old new : List ℕ} {boxes boxes′ : Boxes} {r : Editions} (b : BothLimited c limit old new boxes boxes′ r) where
+  within : {m n : ℕ} → r ≡ Both m n → TakenBoth c limit old new boxes
+  within e = taken-both c limit old new boxes (sym (ap areBoth (b .answer)) ∙ ap areBoth e)
 
-  pub limited-both : {m n : ℕ} → r ≡ Both m n → BothRead c old new oc oe nc ne oc′ oe′ nc′ ne′ r
-  limited-both e = record { answer = b .answer ∙ within e .plain; boxes = b .boxes }
+  pub limited-both : {m n : ℕ} → r ≡ Both m n → BothRead c old new boxes boxes′ r
+  limited-both e = record { answer = b .answer ∙ within e .plain; boxes-after = b .boxes-after }
 
   -- The lent cards are there, and few.
-  pub limited-room : {m n : ℕ} → r ≡ Both m n → (64 * m ≤ length oc′) × (64 * n ≤ length nc′) × (m ≤ 16777215) × (n ≤ 16777215)
+  pub limited-room : {m n : ℕ} → r ≡ Both m n → (64 * m ≤ length (boxes′ .old-cards)) × (64 * n ≤ length (boxes′ .new-cards)) × (m ≤ 16777215) × (n ≤ 16777215)
   limited-room e =
       let t = there (limited-both e) e in (
         t .0 .room,
@@ -152,8 +157,8 @@ listed-totals l {t} {u} h =
     (λ e. clash (sym (ap isListed (rw e at h))))
     (λ e. ap (λ (p : Planned). totals-in p t) (rw e at h))
 
-pub listed-low : (os : List (List ℕ)) (n : ℕ) (box : List ℕ) {oc oe nc ne slips oc′ oe′ nc′ ne′ slips′ : List ℕ} {t u : Totals} {q : Planned} → t ≡ totalsOf (judged os (cardsIn n box)) → n ≤ 16777215
-    → PlanFinished oc oe nc ne slips t q oc′ oe′ nc′ ne′ slips′ → q ≡ Listed u → Countable u
+pub listed-low : (os : List (List ℕ)) (n : ℕ) (box : List ℕ) {boxes : Boxes} {slips : List ℕ} {boxes′ : Boxes} {slips′ : List ℕ} {t u : Totals} {q : Planned} → t ≡ totalsOf (judged os (cardsIn n box)) → n ≤ 16777215
+    → PlanFinished boxes slips t q boxes′ slips′ → q ≡ Listed u → Countable u
 listed-low os n box {slips = slips} {t = t} {u = u} et h p e =
     let js = judged os (cardsIn n box) in
     let eu : u ≡ totalsOf js = listed-totals (length slips / 5) (sym e ∙ p .answer) ∙ et in
@@ -162,53 +167,53 @@ listed-low os n box {slips = slips} {t = t} {u = u} et h p e =
 -- ---- the end
 
 -- What the answer of the plan is called does not matter.
-listed-as : {js : List Judged} {oc oe nc ne slips page oc′ oe′ nc′ ne′ slips′ page′ : List ℕ} {r : Written} (q : Planned) → q ≡ listedBy (length slips / 5) (totalsOf js)
-    → Wrote (listText q js) page page′ r → Kept (wellOn q js (length page)) oc oe nc ne oc′ oe′ nc′ ne′ → slips′ ≡ cond (wellOn q js (length page)) (putAll 5 slips 0 (slipsOf js)) (zeros slips)
-    → BoardsListed js oc oe nc ne slips page oc′ oe′ nc′ ne′ slips′ page′ r
-listed-as {js} {oc} {oe} {nc} {ne} {slips} {page} {oc′} {oe′} {nc′} {ne′} {slips′} {page′} {r} q e w k s = record {
+listed-as : {js : List Judged} {boxes : Boxes} {slips page : List ℕ} {boxes′ : Boxes} {slips′ page′ : List ℕ} {r : Written} (q : Planned) → q ≡ listedBy (length slips / 5) (totalsOf js)
+    → Wrote (listText q js) page page′ r → Kept (wellOn q js (length page)) boxes boxes′ → slips′ ≡ cond (wellOn q js (length page)) (putAll 5 slips 0 (slipsOf js)) (zeros slips)
+    → BoardsListed js boxes slips page boxes′ slips′ page′ r
+listed-as {js} {boxes} {slips} {page} {boxes′} {slips′} {page′} {r} q e w k s = record {
   wrote = subst (λ (p : Planned). Wrote (listText p js) page page′ r) e w;
-  boxes = subst (λ (p : Planned). Kept (wellOn p js (length page)) oc oe nc ne oc′ oe′ nc′ ne′) e k;
+  boxes-after = subst (λ (p : Planned). Kept (wellOn p js (length page)) boxes boxes′) e k;
   slips-after = subst (λ (p : Planned). slips′ ≡ cond (wellOn p js (length page)) (putAll 5 slips 0 (slipsOf js)) (zeros slips)) e s;
 }
 
-module _ (js : List Judged) (slips : List ℕ) {oc oe nc ne ps oc′ oe′ nc′ ne′ slips′ : List ℕ} {t : Totals} {q : Planned}
-    (f : (t ≡ totalsOf js) × (ps ≡ putAll 5 slips 0 (slipsOf js))) (el : length ps ≡ length slips) (p : PlanFinished oc oe nc ne ps t q oc′ oe′ nc′ ne′ slips′) where
+module _ (js : List Judged) (slips : List ℕ) {boxes : Boxes} {ps : List ℕ} {boxes′ : Boxes} {slips′ : List ℕ} {t : Totals} {q : Planned}
+    (f : (t ≡ totalsOf js) × (ps ≡ putAll 5 slips 0 (slipsOf js))) (el : length ps ≡ length slips) (p : PlanFinished boxes ps t q boxes′ slips′) where
   answer-is : q ≡ listedBy (length slips / 5) (totalsOf js)
   answer-is = p .answer ∙ ap (λ (k : ℕ). listedBy (k / 5) t) el ∙ ap (listedBy (length slips / 5)) (f .0)
 
   -- The plan is refused.
   pub boards-refused : {g : PlanRefusal} {page page₁ page′ : List ℕ} {n : ℕ} {r : Written} → q ≡ planned.Refused g → Put page 0 (refusedLine g) page₁ n → Finished n page₁ page′ r
-      → BoardsListed js oc oe nc ne slips page oc′ oe′ nc′ ne′ slips′ page′ r
+      → BoardsListed js boxes slips page boxes′ slips′ page′ r
   unfolding wellOn
   boards-refused {g} e w z =
       listed-as
       (planned.Refused g)
       (sym e ∙ answer-is)
       (finished w z)
-      (subst (λ (x : Planned). Kept (isListed x) oc oe nc ne oc′ oe′ nc′ ne′) e (p .boxes))
+      (subst (λ (x : Planned). Kept (isListed x) boxes boxes′) e (p .boxes-after))
       (subst (λ (x : Planned). slips′ ≡ cond (isListed x) ps (zeros ps)) e (p .slips-after) ∙ rw el)
 
   -- It is listed, and the lent words are kept.
-  listed-boxes : {u : Totals} → q ≡ Listed u → Kept true oc oe nc ne oc′ oe′ nc′ ne′ × (slips′ ≡ ps)
+  listed-boxes : {u : Totals} → q ≡ Listed u → Kept true boxes boxes′ × (slips′ ≡ ps)
   listed-boxes e = (
-    subst (λ (x : Planned). Kept (isListed x) oc oe nc ne oc′ oe′ nc′ ne′) e (p .boxes),
+    subst (λ (x : Planned). Kept (isListed x) boxes boxes′) e (p .boxes-after),
     subst (λ (x : Planned). slips′ ≡ cond (isListed x) ps (zeros ps)) e (p .slips-after),
   )
 
-  pub boards-listed : (a b : ℕ) {u : Totals} {oc″ oe″ nc″ ne″ slips″ page page₁ page′ : List ℕ} {n : ℕ} {r : Written} → js ≡ judged (cardsIn a oc) (cardsIn b nc) → q ≡ Listed u
-      → Put page 0 (boardLines (judged (cardsIn a oc′) (cardsIn b nc′)) ++ totalLine u) page₁ n
-      → PageKept n oc′ oe′ nc′ ne′ slips′ page₁ oc″ oe″ nc″ ne″ slips″ page′ r
-      → BoardsListed js oc oe nc ne slips page oc″ oe″ nc″ ne″ slips″ page′ r
+  pub boards-listed : (a b : ℕ) {u : Totals} {boxes″ : Boxes} {slips″ page page₁ page′ : List ℕ} {n : ℕ} {r : Written} → js ≡ judged (cardsIn a (boxes .old-cards)) (cardsIn b (boxes .new-cards)) → q ≡ Listed u
+      → Put page 0 (boardLines (judged (cardsIn a (boxes′ .old-cards)) (cardsIn b (boxes′ .new-cards))) ++ totalLine u) page₁ n
+      → PageKept n boxes′ slips′ page₁ boxes″ slips″ page′ r
+      → BoardsListed js boxes slips page boxes″ slips″ page′ r
   unfolding wellOn
-  boards-listed a b {u} {oc″} {oe″} {nc″} {ne″} {slips″} {page} {page₁} {page′} {n} ej e w z =
+  boards-listed a b {u} {boxes″} {slips″} {page} {page₁} {page′} {n} ej e w z =
       let k = listed-boxes e in
-      let same : judged (cardsIn a oc′) (cardsIn b nc′) ≡ js = rw (k .0 .old-cards, k .0 .new-cards) (sym ej) in
+      let same : judged (cardsIn a (boxes′ .old-cards)) (cardsIn b (boxes′ .new-cards)) ≡ js = rw (k .0 .old-cards, k .0 .new-cards) (sym ej) in
       let text = boardLines js ++ totalLine u in
       let w′ : Put page 0 text page₁ n = rw same at w in
       let en : n ≡ length text = omega (arith, w′ .next) in
       let ep : length page₁ ≡ length page = rw (w′ .after, length-sets) in
       let fit : leb n (length page₁) ≡ leb (length text) (length page) = rw (en, ep) in
-      let z′ : Kept (leb (length text) (length page)) oc′ oe′ nc′ ne′ oc″ oe″ nc″ ne″ = subst (λ (x : Bool). Kept x oc′ oe′ nc′ ne′ oc″ oe″ nc″ ne″) fit (z .boxes) in
+      let z′ : Kept (leb (length text) (length page)) boxes′ boxes″ = subst (λ (x : Bool). Kept x boxes′ boxes″) fit (z .boxes-after) in
       let well = leb (length text) (length page) in
       listed-as
       (Listed u)
@@ -238,50 +243,43 @@ slips-well : (b : Bool) (L : ℕ) {xs : List (List ℕ)} {w : List ℕ} → Bloc
 slips-well true L k h e = e ∙ put-zeros 5 L k (h refl)
 slips-well false L k h e = e
 
-module _ {c : Conventions} {limit : ℕ} {old new oc oe nc ne oc′ oe′ nc′ ne′ slips zs page : List ℕ} {r : Editions} (b : BothLimited c limit old new oc oe nc ne oc′ oe′ nc′ ne′ r) (z : zs ≡ zeros slips) where
-  pub list-refused : {f : PlanRefusal} {n : ℕ} {page₁ page′ : List ℕ} {w : Written} → r ≡ editions.Refused f → Put page 0 (refusedLine f) page₁ n → Finished n page₁ page′ w
-      → IsListing c limit old new oc oe nc ne slips page oc′ oe′ nc′ ne′ zs page′ w
+module _ {c : Conventions} {limit : ℕ} {old new : List ℕ} {boxes boxes′ : Boxes} {slips zs page : List ℕ} {r : Editions} (b : BothLimited c limit old new boxes boxes′ r) (z : zs ≡ zeros slips) where
+  pub list-refused : {f : EditionsRefusal} {n : ℕ} {page₁ page′ : List ℕ} {w : Written} → r ≡ editions.Refused f → Put page 0 (refusedLine (Edition f)) page₁ n → Finished n page₁ page′ w
+      → IsListing c limit old new boxes slips page boxes′ zs page′ w
   unfolding listedOf wellOn
   list-refused {f} {n} {page₁} {page′} {w} e p g =
-      let a : limitedBoth c limit old new (length oc) (length oe) (length nc) (length ne) ≡ editions.Refused f = sym (b .answer) ∙ e in
+      let a : limitedBoth c limit old new boxes ≡ editions.Refused f = sym (b .answer) ∙ e in
       let well : areBoth r ≡ false = ap areBoth e in
       record {
         wrote = rw a (finished p g);
-        boxes = rw a (rw well at (b .boxes));
+        boxes-after = rw a (rw well at (b .boxes-after));
         slips-after = rw a z;
       }
 
-  pub list-both : {m n : ℕ} {oc″ oe″ nc″ ne″ slips″ page′ : List ℕ} {w : Written} → r ≡ Both m n
-      → length oc′ ≡ length oc → length oe′ ≡ length oe → length nc′ ≡ length nc → length ne′ ≡ length ne
-      → BoardsListed (judged (cardsIn m oc′) (cardsIn n nc′)) oc′ oe′ nc′ ne′ zs page oc″ oe″ nc″ ne″ slips″ page′ w
-      → IsListing c limit old new oc oe nc ne slips page oc″ oe″ nc″ ne″ slips″ page′ w
+  pub list-both : {m n : ℕ} {boxes″ : Boxes} {slips″ page′ : List ℕ} {w : Written} → r ≡ Both m n → SameRoom boxes boxes′
+      → BoardsListed (judged (cardsIn m (boxes′ .old-cards)) (cardsIn n (boxes′ .new-cards))) boxes′ zs page boxes″ slips″ page′ w
+      → IsListing c limit old new boxes slips page boxes″ slips″ page′ w
   unfolding listedOf
-  list-both {m} {n} {oc″} {oe″} {nc″} {ne″} {slips″} {page′} {w} e lo le ln lm g =
+  list-both {m} {n} {boxes″} {slips″} {page′} {w} e room g =
       let ls = length slips in
       let js = boardsOf c old new in
       let t = totalsOf js in
-      let a : limitedBoth c limit old new (length oc) (length oe) (length nc) (length ne) ≡ Both m n = sym (b .answer) ∙ e in
-      let same : judged (cardsIn m oc′) (cardsIn n nc′) ≡ js = boards-are (limited-both b e) e in
+      let a : limitedBoth c limit old new boxes ≡ Both m n = sym (b .answer) ∙ e in
+      let same : judged (cardsIn m (boxes′ .old-cards)) (cardsIn n (boxes′ .new-cards)) ≡ js = boards-are (limited-both b e) e in
       let lz : length zs ≡ ls = ap length z ∙ length-replicate ls 0 in
-      let g′ : BoardsListed js oc′ oe′ nc′ ne′ zs page oc″ oe″ nc″ ne″ slips″ page′ w = subst (λ (x : List Judged). BoardsListed x oc′ oe′ nc′ ne′ zs page oc″ oe″ nc″ ne″ slips″ page′ w) same g in
+      let g′ : BoardsListed js boxes′ zs page boxes″ slips″ page′ w = subst (λ (x : List Judged). BoardsListed x boxes′ zs page boxes″ slips″ page′ w) same g in
       let q = listedBy (ls / 5) t in
       let well = wellOn q js (length page) in
-      let boxes : BoxesAfter c true old new oc oe nc ne oc′ oe′ nc′ ne′ = subst (λ (x : Editions). BoxesAfter c (areBoth x) old new oc oe nc ne oc′ oe′ nc′ ne′) e (b .boxes) in
-      let ks : Kept well oc′ oe′ nc′ ne′ oc″ oe″ nc″ ne″ = subst (λ (k : ℕ). Kept (wellOn (listedBy (k / 5) t) js (length page)) oc′ oe′ nc′ ne′ oc″ oe″ nc″ ne″) lz (g′ .boxes) in
+      let full : BoxesAfter c true old new boxes boxes′ = subst (λ (x : Editions). BoxesAfter c (areBoth x) old new boxes boxes′) e (b .boxes-after) in
+      let ks : Kept well boxes′ boxes″ = subst (λ (k : ℕ). Kept (wellOn (listedBy (k / 5) t) js (length page)) boxes′ boxes″) lz (g′ .boxes-after) in
       let es : t .solve ≡ length (slipsOf js) = solve-sum js ∙ sym (slips-count js) in
       let sl : slips″ ≡ cond well (putAll 5 zs 0 (slipsOf js)) (zeros zs) = subst (λ (k : ℕ). slips″ ≡ cond (wellOn (listedBy (k / 5) t) js (length page)) (putAll 5 zs 0 (slipsOf js)) (zeros zs)) lz (g′ .slips-after) in
       let sl′ : slips″ ≡ cond well (putAll 5 (replicate ls 0) 0 (slipsOf js)) (replicate ls 0) = sl ∙ rw (lz, z) in
       let h : well ≡ true → 5 * length (slipsOf js) ≤ ls = λ x. omega (arith, listed-fits ls t (well-listed q js (length page) x), es) in
-      let whole : ListedAs c q old new oc oe nc ne slips page oc″ oe″ nc″ ne″ slips″ page′ w =
+      let whole : ListedAs c q old new boxes slips page boxes″ slips″ page′ w =
       record {
         wrote = subst (λ (k : ℕ). Wrote (listText (listedBy (k / 5) t) js) page page′ w) lz (g′ .wrote);
-        boxes =
-            record {
-              old-cards = kept well (length oc) (boxes .old-cards) lo (ks .old-cards);
-              old-entries = kept well (length oe) (boxes .old-entries) le (ks .old-entries);
-              new-cards = kept well (length nc) (boxes .new-cards) ln (ks .new-cards);
-              new-entries = kept well (length ne) (boxes .new-entries) lm (ks .new-entries);
-            };
+        boxes-after = boxes-kept well full room ks;
         slips-after = slips-well well ls (slips-five js) h sl′;
       } in
-      subst⁻¹ (λ (x : Editions). ListedAs c (plannedBy x (ls / 5) t) old new oc oe nc ne slips page oc″ oe″ nc″ ne″ slips″ page′ w) a whole
+      subst⁻¹ (λ (x : Editions). ListedAs c (plannedBy x (ls / 5) t) old new boxes slips page boxes″ slips″ page′ w) a whole

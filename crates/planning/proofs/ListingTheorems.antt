@@ -22,8 +22,9 @@ use Rattle.reader.specs.declared.edition.Reading.the-variants as reading
 use Rattle.reader.specs.Editions.{isTaken, readingOf, cardsOf}
 use Rattle.planning.specs.declared.state.BoardState.{BoardState}
 use Rattle.planning.specs.declared.state.BoardState.the-variants.{Blank, Own, Old, Near, Twin, Solve}
-use Rattle.planning.specs.declared.editions.PlanRefusal.the-variants as refusal
-use Rattle.planning.specs.declared.editions.PlanRefusal.{PlanRefusal}
+use Rattle.planning.specs.declared.editions.EditionsRefusal.the-variants.{Old as OldRefused, New as NewRefused}
+use Rattle.planning.specs.declared.plan.PlanRefusal.{PlanRefusal}
+use Rattle.planning.specs.declared.plan.PlanRefusal.the-variants.{Edition}
 use Rattle.planning.specs.declared.editions.Editions.{Editions}
 use Rattle.planning.specs.declared.editions.Editions.the-variants.{Both}
 use Rattle.planning.specs.declared.editions.Editions.the-variants as editions
@@ -33,7 +34,7 @@ use Rattle.planning.specs.declared.plan.Planned.the-variants.{Listed}
 use Rattle.planning.specs.declared.plan.Planned.the-variants as planned
 use Rattle.planning.specs.States.{Judged, judged, fromOf}
 use Rattle.planning.specs.Slips.{totalsOf}
-use Rattle.planning.specs.Plans.{planNumber, planEdition, bothAfter, areBoth, boardsOf, plannedBy, isListed, limitedOf, limitedBoth, editionsOf, plannedOf}
+use Rattle.planning.specs.Plans.{planNumber, planEdition, Boxes, oldReading, bothAfter, areBoth, boardsOf, plannedBy, isListed, limitedOf, limitedBoth, editionsOf, plannedOf}
 use Rattle.planning.specs.Listing.{pair, stateText, boardLine, boardLines, totalLine, refusedLine, listText, listedOf, slipsShort, PageEnough, PageNeverFull, SlipsEnough}
 use Rattle.planning.proofs.BoxLaws.{taken-fits}
 use Rattle.planning.proofs.BoardLaws.{judged-count}
@@ -150,23 +151,28 @@ boards-are-cards c old new = judged-count (cardsOf c old) (cardsOf c new) 1 [] (
 
 -- ---- what the listing program lends
 
-boards-few : (c : Conventions) (limit : ℕ) (old new : List ℕ) (le ne ls : ℕ) → isListed (listedOf c limit old new 8192 le 8192 ne ls) ≡ true → length (boardsOf c old new) ≤ 128
+boards-few : (c : Conventions) (limit : ℕ) (old new : List ℕ) (boxes : Boxes) (ls : ℕ) → length (boxes .new-cards) ≡ 8192 → isListed (listedOf c limit old new boxes ls) ≡ true
+    → length (boardsOf c old new) ≤ 128
 unfolding listedOf limitedBoth
-boards-few c limit old new le ne ls h =
-    let b = planned-both (limitedBoth c limit old new 8192 le 8192 ne) (ls / 5) (totalsOf (boardsOf c old new)) h in
-    let t = both-are-taken (limitedOf c limit old 8192 le) (limitedOf c limit new 8192 ne) b in
-    omega (arith, boards-are-cards c old new, limited-few c limit new 8192 ne (t .1))
+boards-few c limit old new boxes ls room h =
+    let b = planned-both (limitedBoth c limit old new boxes) (ls / 5) (totalsOf (boardsOf c old new)) h in
+    let t = both-are-taken (limitedOf c limit old (length (boxes .old-cards)) (length (boxes .old-entries))) (limitedOf c limit new (length (boxes .new-cards)) (length (boxes .new-entries))) b in
+    omega (arith, boards-are-cards c old new, limited-few c limit new (length (boxes .new-cards)) (length (boxes .new-entries)) (t .1))
 
 pub page-enough : PageEnough
-page-enough c limit old new le ne ls = omega (arith, TextFew (listedOf c limit old new 8192 le 8192 ne ls) (boardsOf c old new) 128 (boards-few c limit old new le ne ls))
+page-enough c limit old new boxes ls room = omega (arith, TextFew (listedOf c limit old new boxes ls) (boardsOf c old new) 128 (boards-few c limit old new boxes ls room))
 
 pub page-never-full : PageNeverFull
 unfolding answerOf
-page-never-full c limit old new le ne ls = rw (le-leb (length (listText (listedOf c limit old new 8192 le 8192 ne ls) (boardsOf c old new))) 8192 (page-enough c limit old new le ne ls))
+page-never-full c limit old new boxes ls room = rw (le-leb (length (listText (listedOf c limit old new boxes ls) (boardsOf c old new))) 8192 (page-enough c limit old new boxes ls room))
 
 pub slips-enough : SlipsEnough
 unfolding listedOf limitedBoth
-slips-enough c limit old new le ne = go (limitedOf c limit old 8192 le) (limitedOf c limit new 8192 ne) (λ h. limited-few c limit new 8192 ne h)
+slips-enough c limit old new boxes room =
+    go
+    (limitedOf c limit old (length (boxes .old-cards)) (length (boxes .old-entries)))
+    (limitedOf c limit new (length (boxes .new-cards)) (length (boxes .new-entries)))
+    (λ h. omega (arith, limited-few c limit new (length (boxes .new-cards)) (length (boxes .new-entries)) h))
   where
     js : List Judged
     js = boardsOf c old new
@@ -181,23 +187,23 @@ slips-enough c limit old new le ne = go (limitedOf c limit old 8192 le) (limited
 
 -- ---- the limit
 
-module _ (c : Conventions) (limit : ℕ) (old new : List ℕ) (lc le nc ne ls : ℕ) where
+module _ (c : Conventions) (limit : ℕ) (old new : List ℕ) (boxes : Boxes) (ls : ℕ) where
   -- THEOREM. Where neither edition is longer than the limit, the answer is the plan's.
-  pub WithinLimit : length old ≤ limit → length new ≤ limit → listedOf c limit old new lc le nc ne ls ≡ plannedOf c old new lc le nc ne ls
+  pub WithinLimit : length old ≤ limit → length new ≤ limit → listedOf c limit old new boxes ls ≡ plannedOf c old new boxes ls
   unfolding listedOf limitedBoth limitedOf plannedOf editionsOf
   WithinLimit h g = rw (le-ltb limit (length old) h, le-ltb limit (length new) g)
 
   -- THEOREM. An old edition longer than the limit is refused with its length, whatever the new one is.
-  pub OldOverlong : limit < length old → listedOf c limit old new lc le nc ne ls ≡ planned.Refused (refusal.Old (Overlong (length old)))
+  pub OldOverlong : limit < length old → listedOf c limit old new boxes ls ≡ planned.Refused (Edition (OldRefused (Overlong (length old))))
   unfolding listedOf limitedBoth limitedOf
   OldOverlong h = rw (lt-ltb limit (length old) h)
 
   -- THEOREM. Any other refusal of the old edition is told too, whatever the new one is.
-  pub OldFirst : {f : ReadRefusal} → length old ≤ limit → readingOf c old lc le ≡ reading.Refused f → listedOf c limit old new lc le nc ne ls ≡ planned.Refused (refusal.Old f)
+  pub OldFirst : {f : ReadRefusal} → length old ≤ limit → oldReading c old boxes ≡ reading.Refused f → listedOf c limit old new boxes ls ≡ planned.Refused (Edition (OldRefused f))
   unfolding listedOf limitedBoth limitedOf
   OldFirst h e = rw (le-ltb limit (length old) h, e)
 
   -- THEOREM. Where the old edition is taken, a new one longer than the limit is refused with its length.
-  pub NewOverlong : {b e : ℕ} → length old ≤ limit → readingOf c old lc le ≡ Taken b e → limit < length new → listedOf c limit old new lc le nc ne ls ≡ planned.Refused (refusal.New (Overlong (length new)))
+  pub NewOverlong : {b e : ℕ} → length old ≤ limit → oldReading c old boxes ≡ Taken b e → limit < length new → listedOf c limit old new boxes ls ≡ planned.Refused (Edition (NewRefused (Overlong (length new))))
   unfolding listedOf limitedBoth limitedOf
   NewOverlong h e g = rw (le-ltb limit (length old) h, e, lt-ltb limit (length new) g)

@@ -16,7 +16,7 @@ use Rattle.reader.proofs.WordLaws.{same-is, same-self}
 use Rattle.planning.specs.declared.state.BoardState.{BoardState}
 use Rattle.planning.specs.declared.state.BoardState.the-variants.{Blank, Own, Old, Near, Twin, Solve}
 use Rattle.planning.specs.Cards.{dealOf, handsOf, isWhole, hasTable, hasDeal, fits}
-use Rattle.planning.specs.States.{firstFrom, firstWith, orElse, stateOf, judgedFrom, judged, stateFrom, stateAt}
+use Rattle.planning.specs.States.{firstFrom, firstWith, orElse, stateOf, judgedFrom, judged, boardFrom, stateIn, stateAt}
 use Rattle.planning.specs.Slips.{cardFrom}
 use Rattle.planning.specs.Demands.{WithDeal, Tabled, StateIs}
 use Rattle.planning.proofs.BoardLaws.{judged-count, past-none}
@@ -101,7 +101,7 @@ module _ (olds news earlier : List (List ℕ)) (x : List ℕ) (g : OfHands (deal
 
 -- The state of the board number i, from 0.
 from-state : (olds news : List (List ℕ)) (p : ℕ) (earlier xs : List (List ℕ)) (i : ℕ) → i < length xs
-    → stateFrom (judgedFrom olds news p earlier xs) i ≡ stateOf olds news (earlier ++ take i xs) (cardFrom xs i)
+    → stateIn (boardFrom (judgedFrom olds news p earlier xs) i) ≡ stateOf olds news (earlier ++ take i xs) (cardFrom xs i)
 from-state olds news p earlier [] i h = absurd (omega arith)
 from-state olds news p earlier (x ∷ xs) zero h = rw append-nil
 from-state olds news p earlier (x ∷ xs) (suc i) h =
@@ -115,7 +115,7 @@ state-here olds news i h = from-state olds news 1 [] news i h
 pub state-none : (olds news : List (List ℕ)) (p : ℕ) → length news < p → stateAt (judged olds news) p ≡ Blank
 unfolding judged
 state-none olds news zero h = refl
-state-none olds news (suc i) h = past-none (judgedFrom olds news 1 [] news) i (omega (arith, judged-count olds news 1 [] news))
+state-none olds news (suc i) h = ap stateIn (past-none (judgedFrom olds news 1 [] news) i (omega (arith, judged-count olds news 1 [] news)))
 
 -- What is said of each board of an edition.
 abbrev pub SaysAt : List (List ℕ) → List (List ℕ) → ℕ → BoardState → Type 0

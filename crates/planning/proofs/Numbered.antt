@@ -103,5 +103,5 @@ all-numbered olds news js L back ej e =
     }
 
 pub numbers-told : NumbersTold
-numbers-told c old new oc oe nc ne numbers oc′ oe′ nc′ ne′ numbers′ m n b =
+numbers-told c old new boxes numbers boxes′ numbers′ m n b =
     all-numbered (cardsOf c old) (cardsOf c new) (boardsOf c old new) (length numbers) numbers′ (boards-all (cardsOf c old) (cardsOf c new)) (b .numbers-after)

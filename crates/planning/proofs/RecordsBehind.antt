@@ -12,14 +12,14 @@ use Rattle.reader.specs.declared.edition.Reading.{Reading}
 use Rattle.reader.specs.declared.edition.Reading.the-variants.{Taken}
 use Rattle.reader.specs.declared.edition.Reading.the-variants as reading
 use Rattle.reader.specs.Records.{recordsOf}
-use Rattle.reader.specs.Editions.{readingOf, isTaken, cardOf, cardsOf}
+use Rattle.reader.specs.Editions.{isTaken, cardOf, cardsOf}
 use Rattle.reader.specs.Fellows.{Stands}
 use Rattle.reader.proofs.Fellows.{EveryBoard, RecordFilled, RecordEnds}
 use Rattle.planning.specs.declared.state.BoardState.{BoardState}
 use Rattle.planning.specs.declared.state.BoardState.the-variants.{Blank, Own, Old, Near, Twin, Solve}
-use Rattle.planning.specs.States.{judgedFrom, judged, stateFrom, stateAt}
-use Rattle.planning.specs.Slips.{cardFrom, behindState, behindFrom, behindAt, partOf}
-use Rattle.planning.specs.Plans.{bothAfter, editionsOf, behindBy, boardsOf}
+use Rattle.planning.specs.States.{judgedFrom, judged, boardFrom, stateIn, stateAt}
+use Rattle.planning.specs.Slips.{cardFrom, behindState, behindIn, behindAt, partOf}
+use Rattle.planning.specs.Plans.{oldReading, newReading, bothAfter, editionsOf, behindBy, boardsOf}
 use Rattle.planning.specs.Demands.{recordAt, IsBehind, PlacesBehind, RecordsBehind}
 use Rattle.planning.proofs.BothLaws.{taken-short}
 use Rattle.planning.proofs.StateLaws.{reach, state-reach}
@@ -66,7 +66,7 @@ whole-record c text k short h =
 -- ---- a board and its state
 
 from-behind : (os ns olds news : List (List ℕ)) (p : ℕ) (earlier xs : List (List ℕ)) (i : ℕ) → i < length xs
-    → behindFrom os ns (judgedFrom olds news p earlier xs) i ≡ behindState os ns (cardFrom xs i) (stateFrom (judgedFrom olds news p earlier xs) i)
+    → behindIn os ns (boardFrom (judgedFrom olds news p earlier xs) i) ≡ behindState os ns (cardFrom xs i) (stateIn (boardFrom (judgedFrom olds news p earlier xs) i))
 from-behind os ns olds news p earlier [] i h = absurd (omega arith)
 from-behind os ns olds news p earlier (x ∷ xs) zero h = refl
 from-behind os ns olds news p earlier (x ∷ xs) (suc i) h = from-behind os ns olds news (p + 1) (earlier ++ (x ∷ [])) xs i (omega arith)
@@ -120,8 +120,8 @@ both-behind (reading.Refused f) y c old new p a b = clash a
 
 pub records-behind : RecordsBehind
 unfolding editionsOf
-records-behind c old new oc oe nc ne oc′ oe′ nc′ ne′ p part t a b o l =
-    let x = readingOf c old (length oc) (length oe) in
-    let y = readingOf c new (length nc) (length ne) in
+records-behind c old new boxes boxes′ p part t a b o l =
+    let x = oldReading c old boxes in
+    let y = newReading c new boxes in
     let e = t .bytes ∙ ap (partOf old new) (both-behind x y c old new p a b) in
-    rw e (places-behind c old new p (taken-short c old (length oc) (length oe) a) (taken-short c new (length nc) (length ne) b) o l)
+    rw e (places-behind c old new p (taken-short c old (length (boxes .old-cards)) (length (boxes .old-entries)) a) (taken-short c new (length (boxes .new-cards)) (length (boxes .new-entries)) b) o l)

@@ -10,7 +10,7 @@ use Rattle.tables.specs.declared.letters.Conventions.{Conventions}
 use Rattle.reader.specs.declared.deal.Hands.{Hands}
 use Rattle.reader.specs.Deals.{wholeHands}
 use Rattle.reader.specs.Records.{recordsOf, AlikeBut}
-use Rattle.reader.specs.Editions.{isTaken, readingOf, cardsOf}
+use Rattle.reader.specs.Editions.{isTaken, cardsOf}
 use Rattle.planning.specs.declared.state.BoardState.{BoardState}
 use Rattle.planning.specs.declared.state.BoardState.the-variants.{Blank, Own, Old, Near, Twin, Solve}
 use Rattle.planning.specs.declared.editions.Editions.the-variants.{Both}
@@ -20,7 +20,7 @@ use Rattle.planning.specs.declared.plan.Planned.the-variants.{Listed}
 use Rattle.planning.specs.Cards.{handsOf, isWhole, hasTable, fits}
 use Rattle.planning.specs.States.{Judged, firstWith, stateNumber, fromOf, stateAt}
 use Rattle.planning.specs.Slips.{slipOf, slipsOf, totalsOf, cardAt, behindAt, partOf, behindNumbers}
-use Rattle.planning.specs.Plans.{boardsOf, IsPlanned, PartTold, BoardsTold}
+use Rattle.planning.specs.Plans.{Boxes, oldReading, newReading, boardsOf, IsPlanned, PartTold, BoardsTold}
 
 -- ---- boards and their deals
 
@@ -109,25 +109,25 @@ pub record ListedOnce (js : List Judged) (olds news : List (List ℕ)) (solve : 
 
 abbrev pub ListedExactlyOnce : Type 0
 ListedExactlyOnce =
-    (c : Conventions) (old new oc oe nc ne slips oc′ oe′ nc′ ne′ slips′ : List ℕ) (t : Totals)
-    → IsPlanned c old new oc oe nc ne slips oc′ oe′ nc′ ne′ slips′ (Listed t)
+    (c : Conventions) (old new : List ℕ) (boxes : Boxes) (slips : List ℕ) (boxes′ : Boxes) (slips′ : List ℕ) (t : Totals)
+    → IsPlanned c old new boxes slips boxes′ slips′ (Listed t)
     → ListedOnce (boardsOf c old new) (cardsOf c old) (cardsOf c new) (t .solve) slips′
 
 -- THEOREM (proofs/Listed.antt). It is listed whenever both editions are taken and slips are enough, whatever else is lent.
 abbrev pub ListedWhenTaken : Type 0
 ListedWhenTaken =
-    (c : Conventions) (old new oc oe nc ne slips oc′ oe′ nc′ ne′ slips′ : List ℕ) (r : Planned)
-    → IsPlanned c old new oc oe nc ne slips oc′ oe′ nc′ ne′ slips′ r
-    → isTaken (readingOf c old (length oc) (length oe)) ≡ true
-    → isTaken (readingOf c new (length nc) (length ne)) ≡ true
+    (c : Conventions) (old new : List ℕ) (boxes : Boxes) (slips : List ℕ) (boxes′ : Boxes) (slips′ : List ℕ) (r : Planned)
+    → IsPlanned c old new boxes slips boxes′ slips′ r
+    → isTaken (oldReading c old boxes) ≡ true
+    → isTaken (newReading c new boxes) ≡ true
     → totalsOf (boardsOf c old new) .solve ≤ length slips / 5
     → r ≡ Listed (totalsOf (boardsOf c old new))
 
 -- THEOREM (proofs/Listed.antt). Where every whole board of the new edition has a table, nothing is listed: every lent number is zero.
 abbrev pub NothingListed : Type 0
 NothingListed =
-    (c : Conventions) (old new oc oe nc ne slips oc′ oe′ nc′ ne′ slips′ : List ℕ) (t : Totals)
-    → IsPlanned c old new oc oe nc ne slips oc′ oe′ nc′ ne′ slips′ (Listed t)
+    (c : Conventions) (old new : List ℕ) (boxes : Boxes) (slips : List ℕ) (boxes′ : Boxes) (slips′ : List ℕ) (t : Totals)
+    → IsPlanned c old new boxes slips boxes′ slips′ (Listed t)
     → ((x : List ℕ) → Among x (cardsOf c new) → isWhole x ≡ true → hasTable x ≡ true)
     → (t .solve ≡ 0) × (slips′ ≡ replicate (length slips′) 0)
 
@@ -157,9 +157,9 @@ AllSolved cards = (x : List ℕ) → Among x cards → isWhole x ≡ true → So
 -- the stretch and of none outside.
 abbrev pub ListedInside : Type 0
 ListedInside =
-    (c : Conventions) (front middle middle′ back oc oe nc ne slips oc′ oe′ nc′ ne′ slips′ : List ℕ) (t : Totals)
+    (c : Conventions) (front middle middle′ back : List ℕ) (boxes : Boxes) (slips : List ℕ) (boxes′ : Boxes) (slips′ : List ℕ) (t : Totals)
     → AlikeBut front middle middle′ back
-    → IsPlanned c (front ++ (middle ++ back)) (front ++ (middle′ ++ back)) oc oe nc ne slips oc′ oe′ nc′ ne′ slips′ (Listed t)
+    → IsPlanned c (front ++ (middle ++ back)) (front ++ (middle′ ++ back)) boxes slips boxes′ slips′ (Listed t)
     → AllSolved (cardsOf c (front ++ (middle ++ back)))
     → (h : Hands) → ListedIn h (t .solve) slips′
     → OnlyInside front middle′ h (cardsOf c (front ++ (middle′ ++ back)))
@@ -243,10 +243,10 @@ PlacesBehind =
 -- THEOREM (proofs/RecordsBehind.antt). Both editions taken: what is handed back for a board of the new edition is the record behind it.
 abbrev pub RecordsBehind : Type 0
 RecordsBehind =
-    (c : Conventions) (old new oc oe nc ne oc′ oe′ nc′ ne′ : List ℕ) (p : ℕ) (part : List ℕ)
-    → PartTold c old new oc oe nc ne oc′ oe′ nc′ ne′ p part
-    → isTaken (readingOf c old (length oc) (length oe)) ≡ true
-    → isTaken (readingOf c new (length nc) (length ne)) ≡ true
+    (c : Conventions) (old new : List ℕ) (boxes boxes′ : Boxes) (p : ℕ) (part : List ℕ)
+    → PartTold c old new boxes boxes′ p part
+    → isTaken (oldReading c old boxes) ≡ true
+    → isTaken (newReading c new boxes) ≡ true
     → 1 ≤ p → p ≤ length (cardsOf c new)
     → IsBehind old new p (stateAt (boardsOf c old new) p) part
 
@@ -263,8 +263,8 @@ TotalsAddUp = (js : List Judged) → AddUp js (totalsOf js)
 -- THEOREM (proofs/Listed.antt). Those that are handed back do, and are of as many boards as the new edition has.
 abbrev pub TotalsTold : Type 0
 TotalsTold =
-    (c : Conventions) (old new oc oe nc ne slips oc′ oe′ nc′ ne′ slips′ : List ℕ) (t : Totals)
-    → IsPlanned c old new oc oe nc ne slips oc′ oe′ nc′ ne′ slips′ (Listed t)
+    (c : Conventions) (old new : List ℕ) (boxes : Boxes) (slips : List ℕ) (boxes′ : Boxes) (slips′ : List ℕ) (t : Totals)
+    → IsPlanned c old new boxes slips boxes′ slips′ (Listed t)
     → (t .boards ≡ length (cardsOf c new)) × AddUp (boardsOf c old new) t
 
 -- ---- the numbers of boards
@@ -284,6 +284,6 @@ pub record Numbered (olds news : List (List ℕ)) (js : List Judged) (lent : ℕ
 -- THEOREM (proofs/Numbered.antt). Both editions taken: the numbers of the boards are handed back, as many as fit.
 abbrev pub NumbersTold : Type 0
 NumbersTold =
-    (c : Conventions) (old new oc oe nc ne numbers oc′ oe′ nc′ ne′ numbers′ : List ℕ) (m n : ℕ)
-    → BoardsTold c old new oc oe nc ne numbers oc′ oe′ nc′ ne′ numbers′ (Both m n)
+    (c : Conventions) (old new : List ℕ) (boxes : Boxes) (numbers : List ℕ) (boxes′ : Boxes) (numbers′ : List ℕ) (m n : ℕ)
+    → BoardsTold c old new boxes numbers boxes′ numbers′ (Both m n)
     → Numbered (cardsOf c old) (cardsOf c new) (boardsOf c old new) (length numbers) numbers′

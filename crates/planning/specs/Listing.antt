@@ -14,14 +14,14 @@ use Rattle.tables.specs.declared.page.Written.the-variants.{Bytes}
 use Rattle.reader.specs.Store.{zeros, putAll}
 use Rattle.planning.specs.declared.state.BoardState.{BoardState}
 use Rattle.planning.specs.declared.state.BoardState.the-variants.{Blank, Own, Old, Near, Twin, Solve}
-use Rattle.planning.specs.declared.editions.PlanRefusal.{PlanRefusal}
-use Rattle.planning.specs.declared.editions.PlanRefusal.the-variants as refusal
+use Rattle.planning.specs.declared.plan.PlanRefusal.{PlanRefusal}
+use Rattle.planning.specs.declared.plan.PlanRefusal.the-variants as refusal
 use Rattle.planning.specs.declared.plan.Totals.{Totals}
 use Rattle.planning.specs.declared.plan.Planned.{Planned}
 use Rattle.planning.specs.declared.plan.Planned.the-variants.{Listed, Refused}
 use Rattle.planning.specs.States.{Judged, fromOf}
 use Rattle.planning.specs.Slips.{slipsOf, totalsOf}
-use Rattle.planning.specs.Plans.{planNumber, planEdition, limitedBoth, lent, boardsOf, listedBy, plannedBy, isListed, BoxesAfter}
+use Rattle.planning.specs.Plans.{planNumber, planEdition, Boxes, limitedBoth, lent, boardsOf, listedBy, plannedBy, isListed, BoxesAfter}
 use Rattle.planning.specs.Steps.{Kept}
 
 -- A name and a number.
@@ -73,8 +73,8 @@ pub record Countable (t : Totals) : Type 0 where
 -- ---- the plan with a limit
 
 -- The plan's answer with the limit.
-unfoldable pub listedOf : Conventions → ℕ → List ℕ → List ℕ → ℕ → ℕ → ℕ → ℕ → ℕ → Planned
-listedOf c limit old new lc le nc ne ls = plannedBy (limitedBoth c limit old new lc le nc ne) (ls / 5) (totalsOf (boardsOf c old new))
+unfoldable pub listedOf : Conventions → ℕ → List ℕ → List ℕ → Boxes → ℕ → Planned
+listedOf c limit old new boxes ls = plannedBy (limitedBoth c limit old new boxes) (ls / 5) (totalsOf (boardsOf c old new))
 
 -- ---- contracts
 
@@ -83,50 +83,49 @@ unfoldable pub wellOn : Planned → List Judged → ℕ → Bool
 wellOn p js n = isListed p && leb (length (listText p js)) n
 
 -- The end of a page on which n bytes were put, and the other lent words: as they were, or zeros where the bytes do not fit.
-pub record PageKept (n : ℕ) (oc oe nc ne slips page oc′ oe′ nc′ ne′ slips′ page′ : List ℕ) (r : Written) : Type 0 where
+pub record PageKept (n : ℕ) (boxes : Boxes) (slips page : List ℕ) (boxes′ : Boxes) (slips′ page′ : List ℕ) (r : Written) : Type 0 where
   pub end : Finished n page page′ r
-  pub boxes : Kept (leb n (length page)) oc oe nc ne oc′ oe′ nc′ ne′
+  pub boxes-after : Kept (leb n (length page)) boxes boxes′
   pub slips-after : slips′ ≡ cond (leb n (length page)) slips (zeros slips)
 
 -- The boards js, whose cards are lent, are listed: the page and its answer, and all lent words: as they were, or zeros after a refusal.
-pub record BoardsListed (js : List Judged) (oc oe nc ne slips page oc′ oe′ nc′ ne′ slips′ page′ : List ℕ) (r : Written) : Type 0 where
+pub record BoardsListed (js : List Judged) (boxes : Boxes) (slips page : List ℕ) (boxes′ : Boxes) (slips′ page′ : List ℕ) (r : Written) : Type 0 where
   pub wrote : Wrote (listText (listedBy (length slips / 5) (totalsOf js)) js) page page′ r
-  pub boxes : Kept (wellOn (listedBy (length slips / 5) (totalsOf js)) js (length page)) oc oe nc ne oc′ oe′ nc′ ne′
+  pub boxes-after : Kept (wellOn (listedBy (length slips / 5) (totalsOf js)) js (length page)) boxes boxes′
   pub slips-after : slips′ ≡ cond (wellOn (listedBy (length slips / 5) (totalsOf js)) js (length page)) (putAll 5 slips 0 (slipsOf js)) (zeros slips)
 
 -- A listing on a page, p the plan's answer: the text, or refusal 7 with the bytes that it has; and every lent word, zero after any refusal.
-pub record ListedAs (c : Conventions) (p : Planned) (old new oc oe nc ne slips page oc′ oe′ nc′ ne′ slips′ page′ : List ℕ) (r : Written) : Type 0 where
+pub record ListedAs (c : Conventions) (p : Planned) (old new : List ℕ) (boxes : Boxes) (slips page : List ℕ) (boxes′ : Boxes) (slips′ page′ : List ℕ) (r : Written) : Type 0 where
   pub wrote : Wrote (listText p (boardsOf c old new)) page page′ r
-  pub boxes : BoxesAfter c (wellOn p (boardsOf c old new) (length page)) old new oc oe nc ne oc′ oe′ nc′ ne′
+  pub boxes-after : BoxesAfter c (wellOn p (boardsOf c old new) (length page)) old new boxes boxes′
   pub slips-after : slips′ ≡ lent (wellOn p (boardsOf c old new) (length page)) (length slips) (slipsOf (boardsOf c old new))
 
 -- The contract of list.
-abbrev pub IsListing : Conventions → ℕ → List ℕ → List ℕ → List ℕ → List ℕ → List ℕ → List ℕ → List ℕ → List ℕ → List ℕ → List ℕ → List ℕ → List ℕ → List ℕ → List ℕ → Written → Type 0
-IsListing c limit old new oc oe nc ne slips page oc′ oe′ nc′ ne′ slips′ page′ r =
-    ListedAs c (listedOf c limit old new (length oc) (length oe) (length nc) (length ne) (length slips)) old new oc oe nc ne slips page oc′ oe′ nc′ ne′ slips′ page′ r
+abbrev pub IsListing : Conventions → ℕ → List ℕ → List ℕ → Boxes → List ℕ → List ℕ → Boxes → List ℕ → List ℕ → Written → Type 0
+IsListing c limit old new boxes slips page boxes′ slips′ page′ r =
+    ListedAs c (listedOf c limit old new boxes (length slips)) old new boxes slips page boxes′ slips′ page′ r
 
 -- ---- the listing program lends 128 cards an edition (8,192 words), 128 slips (640 numbers) and a page of 8,192 bytes
 
 -- Refused because fewer slips are lent than there are boards to solve.
 abbrev pub slipsShort : Planned → Bool
 slipsShort (Listed t) = false
-slipsShort (Refused (refusal.Old f)) = false
-slipsShort (Refused (refusal.New f)) = false
+slipsShort (Refused (refusal.Edition f)) = false
 slipsShort (Refused (refusal.SlipsShort n)) = true
 
 -- THEOREM (proofs/ListingTheorems.antt). With 128 cards an edition the text has at most 8,192 bytes.
 abbrev pub PageEnough : Type 0
 PageEnough =
-    (c : Conventions) (limit : ℕ) (old new : List ℕ) (le ne ls : ℕ)
-    → length (listText (listedOf c limit old new 8192 le 8192 ne ls) (boardsOf c old new)) ≤ 8192
+    (c : Conventions) (limit : ℕ) (old new : List ℕ) (boxes : Boxes) (ls : ℕ) → length (boxes .new-cards) ≡ 8192
+    → length (listText (listedOf c limit old new boxes ls) (boardsOf c old new)) ≤ 8192
 
 -- THEOREM (proofs/ListingTheorems.antt). So a page of 8,192 bytes is never too short: refusal 7 is never told.
 abbrev pub PageNeverFull : Type 0
 PageNeverFull =
-    (c : Conventions) (limit : ℕ) (old new : List ℕ) (le ne ls : ℕ)
-    → answerOf (listText (listedOf c limit old new 8192 le 8192 ne ls) (boardsOf c old new)) 8192
-    ≡ Bytes (length (listText (listedOf c limit old new 8192 le 8192 ne ls) (boardsOf c old new)))
+    (c : Conventions) (limit : ℕ) (old new : List ℕ) (boxes : Boxes) (ls : ℕ) → length (boxes .new-cards) ≡ 8192
+    → answerOf (listText (listedOf c limit old new boxes ls) (boardsOf c old new)) 8192
+    ≡ Bytes (length (listText (listedOf c limit old new boxes ls) (boardsOf c old new)))
 
 -- THEOREM (proofs/ListingTheorems.antt). With 128 cards an edition and 128 slips, refusal 4 is never met.
 abbrev pub SlipsEnough : Type 0
-SlipsEnough = (c : Conventions) (limit : ℕ) (old new : List ℕ) (le ne : ℕ) → slipsShort (listedOf c limit old new 8192 le 8192 ne 640) ≡ false
+SlipsEnough = (c : Conventions) (limit : ℕ) (old new : List ℕ) (boxes : Boxes) → length (boxes .new-cards) ≡ 8192 → slipsShort (listedOf c limit old new boxes 640) ≡ false

@@ -16,12 +16,14 @@ use Rattle.planning.specs.declared.state.BoardState.{BoardState}
 use Rattle.planning.specs.declared.state.BoardState.the-variants.{Blank}
 use Rattle.planning.specs.declared.behind.Behind.{Behind}
 use Rattle.planning.specs.declared.behind.Behind.the-variants.{Nothing}
-use Rattle.planning.specs.declared.editions.PlanRefusal.{PlanRefusal}
-use Rattle.planning.specs.declared.editions.PlanRefusal.the-variants.{Old, New, SlipsShort}
+use Rattle.planning.specs.declared.editions.EditionsRefusal.{EditionsRefusal}
+use Rattle.planning.specs.declared.editions.EditionsRefusal.the-variants.{Old, New}
 use Rattle.planning.specs.declared.editions.Editions.{Editions}
 use Rattle.planning.specs.declared.editions.Editions.the-variants.{Both}
 use Rattle.planning.specs.declared.editions.Editions.the-variants as editions
 use Rattle.planning.specs.declared.plan.Totals.{Totals}
+use Rattle.planning.specs.declared.plan.PlanRefusal.{PlanRefusal}
+use Rattle.planning.specs.declared.plan.PlanRefusal.the-variants.{Edition, SlipsShort}
 use Rattle.planning.specs.declared.plan.Planned.{Planned}
 use Rattle.planning.specs.declared.plan.Planned.the-variants.{Listed}
 use Rattle.planning.specs.declared.plan.Planned.the-variants as planned
@@ -30,21 +32,47 @@ use Rattle.planning.specs.Slips.{slipsOf, totalsOf, countOf, behindAt, p
 
 -- ---- refusals: 1 to 3 of the old edition, then of the new, then 4 slips short (the boards to solve)
 
+abbrev pub editionsNumber : EditionsRefusal → ℕ
+editionsNumber (Old f) = readNumber f
+editionsNumber (New f) = readNumber f
+
+abbrev pub editionsCarries : EditionsRefusal → ℕ
+editionsCarries (Old f) = readCarries f
+editionsCarries (New f) = readCarries f
+
+-- The edition that is refused: 1 old, 2 new.
+abbrev pub editionRefused : EditionsRefusal → ℕ
+editionRefused (Old f) = 1
+editionRefused (New f) = 2
+
 abbrev pub planNumber : PlanRefusal → ℕ
-planNumber (Old f) = readNumber f
-planNumber (New f) = readNumber f
+planNumber (Edition f) = editionsNumber f
 planNumber (SlipsShort n) = 4
 
 abbrev pub planCarries : PlanRefusal → ℕ
-planCarries (Old f) = readCarries f
-planCarries (New f) = readCarries f
+planCarries (Edition f) = editionsCarries f
 planCarries (SlipsShort n) = n
 
 -- 0 none, 1 old, 2 new.
 abbrev pub planEdition : PlanRefusal → ℕ
-planEdition (Old f) = 1
-planEdition (New f) = 2
+planEdition (Edition f) = editionRefused f
 planEdition (SlipsShort n) = 0
+
+-- ---- what is lent for both editions
+
+-- The four boxes: words lent for the cards and the entries of the old edition, and of the new.
+pub record Boxes : Type 0 where
+  pub old-cards : List ℕ
+  pub old-entries : List ℕ
+  pub new-cards : List ℕ
+  pub new-entries : List ℕ
+
+-- The reading of each edition into its boxes.
+abbrev pub oldReading : Conventions → List ℕ → Boxes → Reading
+oldReading c old boxes = readingOf c old (length (boxes .old-cards)) (length (boxes .old-entries))
+
+abbrev pub newReading : Conventions → List ℕ → Boxes → Reading
+newReading c new boxes = readingOf c new (length (boxes .new-cards)) (length (boxes .new-entries))
 
 -- ---- both editions
 
@@ -56,17 +84,20 @@ abbrev pub bothAfter : Reading → Reading → Editions
 bothAfter (Taken boards entries) new = newAfter boards new
 bothAfter (reading.Refused f) new = editions.Refused (Old f)
 
--- The answer for the texts, with lc card words and le entry words lent for the old edition, nc and ne for the new.
-unfoldable pub editionsOf : Conventions → List ℕ → List ℕ → ℕ → ℕ → ℕ → ℕ → Editions
-editionsOf c old new lc le nc ne = bothAfter (readingOf c old lc le) (readingOf c new nc ne)
+-- The answer for the texts, with these boxes lent.
+unfoldable pub editionsOf : Conventions → List ℕ → List ℕ → Boxes → Editions
+editionsOf c old new boxes = bothAfter (oldReading c old boxes) (newReading c new boxes)
 
 -- An edition longer than the limit is refused with 1, whatever else it is; any other is read.
 unfoldable pub limitedOf : Conventions → ℕ → List ℕ → ℕ → ℕ → Reading
 limitedOf c limit text lc le = cond (ltb limit (length text)) (reading.Refused (Overlong (length text))) (readingOf c text lc le)
 
 -- Both with the limit: each refusal of the old one, its length too, comes before those of the new.
-unfoldable pub limitedBoth : Conventions → ℕ → List ℕ → List ℕ → ℕ → ℕ → ℕ → ℕ → Editions
-limitedBoth c limit old new lc le nc ne = bothAfter (limitedOf c limit old lc le) (limitedOf c limit new nc ne)
+unfoldable pub limitedBoth : Conventions → ℕ → List ℕ → List ℕ → Boxes → Editions
+limitedBoth c limit old new boxes =
+    bothAfter
+    (limitedOf c limit old (length (boxes .old-cards)) (length (boxes .old-entries)))
+    (limitedOf c limit new (length (boxes .new-cards)) (length (boxes .new-entries)))
 
 abbrev pub areBoth : Editions → Bool
 areBoth (Both m n) = true
@@ -87,29 +118,29 @@ listedBy slips t = cond (ltb slips (t .solve)) (planned.Refused (SlipsShort (t .
 
 abbrev pub plannedBy : Editions → ℕ → Totals → Planned
 plannedBy (Both m n) slips t = listedBy slips t
-plannedBy (editions.Refused f) slips t = planned.Refused f
+plannedBy (editions.Refused f) slips t = planned.Refused (Edition f)
 
 -- The answer; ls numbers are lent for slips, five a slip, and a tail too short for one counts as none.
-unfoldable pub plannedOf : Conventions → List ℕ → List ℕ → ℕ → ℕ → ℕ → ℕ → ℕ → Planned
-plannedOf c old new lc le nc ne ls = plannedBy (editionsOf c old new lc le nc ne) (ls / 5) (totalsOf (boardsOf c old new))
+unfoldable pub plannedOf : Conventions → List ℕ → List ℕ → Boxes → ℕ → Planned
+plannedOf c old new boxes ls = plannedBy (editionsOf c old new boxes) (ls / 5) (totalsOf (boardsOf c old new))
 
 abbrev pub isListed : Planned → Bool
 isListed (Listed t) = true
 isListed (planned.Refused f) = false
 
--- ---- contracts
+-- ---- contracts: boxes are the four before the call, boxes′ the four after it
 
--- Lent cards and entries of both editions afterwards.
-pub record BoxesAfter (c : Conventions) (well : Bool) (old new oc oe nc ne oc′ oe′ nc′ ne′ : List ℕ) : Type 0 where
-  pub old-cards : oc′ ≡ lent well (length oc) (cardsOf c old)
-  pub old-entries : oe′ ≡ lent well (length oe) (entriesOf c old)
-  pub new-cards : nc′ ≡ lent well (length nc) (cardsOf c new)
-  pub new-entries : ne′ ≡ lent well (length ne) (entriesOf c new)
+-- Each box afterwards.
+pub record BoxesAfter (c : Conventions) (well : Bool) (old new : List ℕ) (boxes boxes′ : Boxes) : Type 0 where
+  pub old-cards : boxes′ .old-cards ≡ lent well (length (boxes .old-cards)) (cardsOf c old)
+  pub old-entries : boxes′ .old-entries ≡ lent well (length (boxes .old-entries)) (entriesOf c old)
+  pub new-cards : boxes′ .new-cards ≡ lent well (length (boxes .new-cards)) (cardsOf c new)
+  pub new-entries : boxes′ .new-entries ≡ lent well (length (boxes .new-entries)) (entriesOf c new)
 
 -- Both editions are read.
-pub record BothRead (c : Conventions) (old new oc oe nc ne oc′ oe′ nc′ ne′ : List ℕ) (r : Editions) : Type 0 where
-  pub answer : r ≡ editionsOf c old new (length oc) (length oe) (length nc) (length ne)
-  pub boxes : BoxesAfter c (areBoth r) old new oc oe nc ne oc′ oe′ nc′ ne′
+pub record BothRead (c : Conventions) (old new : List ℕ) (boxes boxes′ : Boxes) (r : Editions) : Type 0 where
+  pub answer : r ≡ editionsOf c old new boxes
+  pub boxes-after : BoxesAfter c (areBoth r) old new boxes boxes′
 
 -- An edition is read, if it is not longer than the limit.
 pub record IsLimited (c : Conventions) (limit : ℕ) (text cards entries : List ℕ) (r : Reading) (cards′ entries′ : List ℕ) : Type 0 where
@@ -118,14 +149,14 @@ pub record IsLimited (c : Conventions) (limit : ℕ) (text cards entries : List 
   pub entries-after : entries′ ≡ lentAfter r (length entries) (entriesOf c text)
 
 -- Both editions are read, if neither is longer than the limit.
-pub record BothLimited (c : Conventions) (limit : ℕ) (old new oc oe nc ne oc′ oe′ nc′ ne′ : List ℕ) (r : Editions) : Type 0 where
-  pub answer : r ≡ limitedBoth c limit old new (length oc) (length oe) (length nc) (length ne)
-  pub boxes : BoxesAfter c (areBoth r) old new oc oe nc ne oc′ oe′ nc′ ne′
+pub record BothLimited (c : Conventions) (limit : ℕ) (old new : List ℕ) (boxes boxes′ : Boxes) (r : Editions) : Type 0 where
+  pub answer : r ≡ limitedBoth c limit old new boxes
+  pub boxes-after : BoxesAfter c (areBoth r) old new boxes boxes′
 
 -- The contract of plan: the answer, and every lent number.
-pub record IsPlanned (c : Conventions) (old new oc oe nc ne slips oc′ oe′ nc′ ne′ slips′ : List ℕ) (r : Planned) : Type 0 where
-  pub answer : r ≡ plannedOf c old new (length oc) (length oe) (length nc) (length ne) (length slips)
-  pub boxes : BoxesAfter c (isListed r) old new oc oe nc ne oc′ oe′ nc′ ne′
+pub record IsPlanned (c : Conventions) (old new : List ℕ) (boxes : Boxes) (slips : List ℕ) (boxes′ : Boxes) (slips′ : List ℕ) (r : Planned) : Type 0 where
+  pub answer : r ≡ plannedOf c old new boxes (length slips)
+  pub boxes-after : BoxesAfter c (isListed r) old new boxes boxes′
   pub slips-after : slips′ ≡ lent (isListed r) (length slips) (slipsOf (boardsOf c old new))
 
 -- The state at a position: blank after a refusal.
@@ -144,21 +175,21 @@ boardsAfter (Both m n) c old new ls = putAll 5 (replicate ls 0) 0 (numbersFrom (
 boardsAfter (editions.Refused f) c old new ls = replicate ls 0
 
 -- The contract of state_at: whether both editions were taken, and the state.
-pub record StateTold (c : Conventions) (old new oc oe nc ne oc′ oe′ nc′ ne′ : List ℕ) (p : ℕ) (r : Editions) (s : BoardState) : Type 0 where
-  pub editions-read : BothRead c old new oc oe nc ne oc′ oe′ nc′ ne′ r
+pub record StateTold (c : Conventions) (old new : List ℕ) (boxes boxes′ : Boxes) (p : ℕ) (r : Editions) (s : BoardState) : Type 0 where
+  pub editions-read : BothRead c old new boxes boxes′ r
   pub state : s ≡ stateBy r (boardsOf c old new) p
 
 -- The contract of place_behind: the places of the record behind a board.
-pub record BehindTold (c : Conventions) (old new oc oe nc ne oc′ oe′ nc′ ne′ : List ℕ) (p : ℕ) (r : Editions) (b : Behind) : Type 0 where
-  pub editions-read : BothRead c old new oc oe nc ne oc′ oe′ nc′ ne′ r
+pub record BehindTold (c : Conventions) (old new : List ℕ) (boxes boxes′ : Boxes) (p : ℕ) (r : Editions) (b : Behind) : Type 0 where
+  pub editions-read : BothRead c old new boxes boxes′ r
   pub behind : b ≡ behindBy r c old new p
 
 -- The contract of record_behind: a part of the old or the new text, empty where there is nothing.
-pub record PartTold (c : Conventions) (old new oc oe nc ne oc′ oe′ nc′ ne′ : List ℕ) (p : ℕ) (part : List ℕ) : Type 0 where
-  pub bytes : part ≡ partOf old new (behindBy (editionsOf c old new (length oc) (length oe) (length nc) (length ne)) c old new p)
-  pub boxes : BoxesAfter c (areBoth (editionsOf c old new (length oc) (length oe) (length nc) (length ne))) old new oc oe nc ne oc′ oe′ nc′ ne′
+pub record PartTold (c : Conventions) (old new : List ℕ) (boxes boxes′ : Boxes) (p : ℕ) (part : List ℕ) : Type 0 where
+  pub bytes : part ≡ partOf old new (behindBy (editionsOf c old new boxes) c old new p)
+  pub boxes-after : BoxesAfter c (areBoth (editionsOf c old new boxes)) old new boxes boxes′
 
 -- The contract of plan_boards: five numbers a board.
-pub record BoardsTold (c : Conventions) (old new oc oe nc ne numbers oc′ oe′ nc′ ne′ numbers′ : List ℕ) (r : Editions) : Type 0 where
-  pub editions-read : BothRead c old new oc oe nc ne oc′ oe′ nc′ ne′ r
+pub record BoardsTold (c : Conventions) (old new : List ℕ) (boxes : Boxes) (numbers : List ℕ) (boxes′ : Boxes) (numbers′ : List ℕ) (r : Editions) : Type 0 where
+  pub editions-read : BothRead c old new boxes boxes′ r
   pub numbers-after : numbers′ ≡ boardsAfter r c old new (length numbers)

@@ -2,6 +2,7 @@
 use Prim.Native.Nat.{ℕ, zero, suc, _+_, _-_, _*_}
 use mathlib.Core.Bool.{Bool, true, false, cond}
 use mathlib.Core.List.{List, [], _∷_, map}
+use mathlib.Core.Option.{Option, none, some}
 use lib.Dec.{eqb}
 use lib.ListN.{length, getD, take, drop}
 use Rattle.reader.specs.Store.{flat}
@@ -11,7 +12,7 @@ use Rattle.planning.specs.declared.behind.Behind.{Behind}
 use Rattle.planning.specs.declared.behind.Behind.the-variants.{InOld, InNew, Nothing}
 use Rattle.planning.specs.declared.plan.Totals.{Totals}
 use Rattle.planning.specs.Cards.{handsOf}
-use Rattle.planning.specs.States.{Judged, judged, isSolve, stateNumber, fromOf}
+use Rattle.planning.specs.States.{Judged, isSolve, stateNumber, fromOf, boardAt}
 
 -- ---- slips
 
@@ -46,9 +47,7 @@ totalsOf js = record {
 
 -- The k-th of the cards, from 0; no words where there is none.
 abbrev pub cardFrom : List (List ℕ) → ℕ → List ℕ
-cardFrom [] k = []
-cardFrom (x ∷ xs) zero = x
-cardFrom (x ∷ xs) (suc k) = cardFrom xs k
+cardFrom xs k = getD xs k []
 
 -- The card of the board at a position from 1.
 abbrev pub cardAt : List (List ℕ) → ℕ → List ℕ
@@ -74,16 +73,13 @@ behindState olds news card Solve = newRecord card
 abbrev pub behindOf : List (List ℕ) → List (List ℕ) → Judged → Behind
 behindOf olds news j = behindState olds news (j .card) (j .state)
 
--- The record behind the k-th of the boards, from 0.
-abbrev pub behindFrom : List (List ℕ) → List (List ℕ) → List Judged → ℕ → Behind
-behindFrom olds news [] k = Nothing
-behindFrom olds news (j ∷ js) zero = behindOf olds news j
-behindFrom olds news (j ∷ js) (suc k) = behindFrom olds news js k
+abbrev pub behindIn : List (List ℕ) → List (List ℕ) → Option Judged → Behind
+behindIn olds news none = Nothing
+behindIn olds news (some j) = behindOf olds news j
 
 -- At a position from 1; nothing outside 1 to boards.
 abbrev pub behindAt : List (List ℕ) → List (List ℕ) → List Judged → ℕ → Behind
-behindAt olds news js zero = Nothing
-behindAt olds news js (suc k) = behindFrom olds news js k
+behindAt olds news js p = behindIn olds news (boardAt js p)
 
 -- The part of the old or the new text.
 abbrev pub partOf : List ℕ → List ℕ → Behind → List ℕ

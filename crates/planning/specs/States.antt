@@ -2,6 +2,7 @@
 use Prim.Native.Nat.{ℕ, zero, suc, _+_}
 use mathlib.Core.Bool.{Bool, true, false, cond}
 use mathlib.Core.List.{List, [], _∷_, _++_}
+use mathlib.Core.Option.{Option, none, some}
 use lib.Dec.{eqb}
 use Rattle.planning.specs.declared.state.BoardState.{BoardState}
 use Rattle.planning.specs.declared.state.BoardState.the-variants.{Blank, Own, Old, Near, Twin, Solve}
@@ -68,13 +69,21 @@ judgedFrom olds news p earlier (x ∷ xs) =
 unfoldable pub judged : List (List ℕ) → List (List ℕ) → List Judged
 judged olds news = judgedFrom olds news 1 [] news
 
--- The state of the k-th of the boards, from 0.
-abbrev pub stateFrom : List Judged → ℕ → BoardState
-stateFrom [] k = Blank
-stateFrom (j ∷ js) zero = j .state
-stateFrom (j ∷ js) (suc k) = stateFrom js k
+-- The board at a position from 1; none outside 1 to boards.
+abbrev pub boardFrom : List Judged → ℕ → Option Judged
+boardFrom [] k = none
+boardFrom (j ∷ js) zero = some j
+boardFrom (j ∷ js) (suc k) = boardFrom js k
 
--- The state at a position, blank outside 1 to boards.
+abbrev pub boardAt : List Judged → ℕ → Option Judged
+boardAt js zero = none
+boardAt js (suc k) = boardFrom js k
+
+-- Its state, blank where there is none.
+abbrev pub stateIn : Option Judged → BoardState
+stateIn none = Blank
+stateIn (some j) = j .state
+
+-- The state at a position.
 abbrev pub stateAt : List Judged → ℕ → BoardState
-stateAt js zero = Blank
-stateAt js (suc k) = stateFrom js k
+stateAt js p = stateIn (boardAt js p)

@@ -11,7 +11,7 @@ use Rattle.planning.specs.declared.plan.Totals.{Totals}
 use Rattle.planning.specs.declared.plan.Planned.{Planned}
 use Rattle.planning.specs.Cards.{cardsIn, cardHere}
 use Rattle.planning.specs.States.{Judged, stateOf, stateNumber}
-use Rattle.planning.specs.Plans.{listedBy, isListed}
+use Rattle.planning.specs.Plans.{Boxes, listedBy, isListed}
 
 -- The board at index k of the lent cards of the new edition.
 abbrev pub boardHere : List (List ℕ) → List (List ℕ) → ℕ → List ℕ → Judged
@@ -47,15 +47,15 @@ pub record Within (n : ℕ) (t : Totals) : Type 0 where
   pub twin : t .twin ≤ n
   pub solve : t .solve ≤ n
 
--- Lent words of both editions, kept or set to 0.
-pub record Kept (well : Bool) (oc oe nc ne oc′ oe′ nc′ ne′ : List ℕ) : Type 0 where
-  pub old-cards : oc′ ≡ cond well oc (zeros oc)
-  pub old-entries : oe′ ≡ cond well oe (zeros oe)
-  pub new-cards : nc′ ≡ cond well nc (zeros nc)
-  pub new-entries : ne′ ≡ cond well ne (zeros ne)
+-- The four boxes, kept or set to 0.
+pub record Kept (well : Bool) (boxes boxes′ : Boxes) : Type 0 where
+  pub old-cards : boxes′ .old-cards ≡ cond well (boxes .old-cards) (zeros (boxes .old-cards))
+  pub old-entries : boxes′ .old-entries ≡ cond well (boxes .old-entries) (zeros (boxes .old-entries))
+  pub new-cards : boxes′ .new-cards ≡ cond well (boxes .new-cards) (zeros (boxes .new-cards))
+  pub new-entries : boxes′ .new-entries ≡ cond well (boxes .new-entries) (zeros (boxes .new-entries))
 
 -- The answer for the totals, and all lent words: as they were, or zeros after a refusal.
-pub record PlanFinished (oc oe nc ne slips : List ℕ) (t : Totals) (r : Planned) (oc′ oe′ nc′ ne′ slips′ : List ℕ) : Type 0 where
+pub record PlanFinished (boxes : Boxes) (slips : List ℕ) (t : Totals) (r : Planned) (boxes′ : Boxes) (slips′ : List ℕ) : Type 0 where
   pub answer : r ≡ listedBy (length slips / 5) t
-  pub boxes : Kept (isListed r) oc oe nc ne oc′ oe′ nc′ ne′
+  pub boxes-after : Kept (isListed r) boxes boxes′
   pub slips-after : slips′ ≡ cond (isListed r) slips (zeros slips)

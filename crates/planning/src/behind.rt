@@ -109,7 +109,10 @@ pub fn place_behind_with(
     new_entries: &mut [u32],
     position: u64,
 ) -> BehindAnswer
-    ensures { λ r. ⌜ BehindTold c (now (old .entry)) (now (new .entry)) (now («old_cards» .entry)) (now («old_entries» .entry)) (now («new_cards» .entry)) (now («new_entries» .entry)) (now («old_cards» .exit)) (now («old_entries» .exit)) (now («new_cards» .exit)) (now («new_entries» .exit)) position (r .editions) (r .behind) ⌝ }
+    ensures { λ r. ⌜ BehindTold c (now (old .entry)) (now (new .entry))
+        (record { old-cards = now («old_cards» .entry); old-entries = now («old_entries» .entry); new-cards = now («new_cards» .entry); new-entries = now («new_entries» .entry) })
+        (record { old-cards = now («old_cards» .exit); old-entries = now («old_entries» .exit); new-cards = now («new_cards» .exit); new-entries = now («new_entries» .exit) })
+        position (r .editions) (r .behind) ⌝ }
 {
     let editions = read_both(c, old, new, old_cards, old_entries, new_cards, new_entries);
     match editions {
@@ -134,7 +137,10 @@ pub fn place_behind(
     new_entries: &mut [u32],
     position: u64,
 ) -> BehindAnswer
-    ensures { λ r. ⌜ BehindTold builtIn (now (old .entry)) (now (new .entry)) (now («old_cards» .entry)) (now («old_entries» .entry)) (now («new_cards» .entry)) (now («new_entries» .entry)) (now («old_cards» .exit)) (now («old_entries» .exit)) (now («new_cards» .exit)) (now («new_entries» .exit)) position (r .editions) (r .behind) ⌝ }
+    ensures { λ r. ⌜ BehindTold builtIn (now (old .entry)) (now (new .entry))
+        (record { old-cards = now («old_cards» .entry); old-entries = now («old_entries» .entry); new-cards = now («new_cards» .entry); new-entries = now («new_entries» .entry) })
+        (record { old-cards = now («old_cards» .exit); old-entries = now («old_entries» .exit); new-cards = now («new_cards» .exit); new-entries = now («new_entries» .exit) })
+        position (r .editions) (r .behind) ⌝ }
 {
     place_behind_with(
         built_in(),
@@ -168,7 +174,10 @@ pub fn record_behind<'a>(
     new_entries: &mut [u32],
     position: u64,
 ) -> &'a [u8]
-    ensures { λ r. ⌜ PartTold builtIn (now (old .entry)) (now (new .entry)) (now («old_cards» .entry)) (now («old_entries» .entry)) (now («new_cards» .entry)) (now («new_entries» .entry)) (now («old_cards» .exit)) (now («old_entries» .exit)) (now («new_cards» .exit)) (now («new_entries» .exit)) position (now r) ⌝ }
+    ensures { λ r. ⌜ PartTold builtIn (now (old .entry)) (now (new .entry))
+        (record { old-cards = now («old_cards» .entry); old-entries = now («old_entries» .entry); new-cards = now («new_cards» .entry); new-entries = now («new_entries» .entry) })
+        (record { old-cards = now («old_cards» .exit); old-entries = now («old_entries» .exit); new-cards = now («new_cards» .exit); new-entries = now («new_entries» .exit) })
+        position (now r) ⌝ }
 {
     let found = place_behind(
         old,

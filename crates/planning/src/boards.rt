@@ -101,7 +101,11 @@ pub fn plan_boards_with(
     new_entries: &mut [u32],
     numbers: &mut [u64],
 ) -> Editions
-    ensures { λ r. ⌜ BoardsTold c (now (old .entry)) (now (new .entry)) (now («old_cards» .entry)) (now («old_entries» .entry)) (now («new_cards» .entry)) (now («new_entries» .entry)) (now (numbers .entry)) (now («old_cards» .exit)) (now («old_entries» .exit)) (now («new_cards» .exit)) (now («new_entries» .exit)) (now (numbers .exit)) r ⌝ }
+    ensures { λ r. ⌜ BoardsTold c (now (old .entry)) (now (new .entry))
+        (record { old-cards = now («old_cards» .entry); old-entries = now («old_entries» .entry); new-cards = now («new_cards» .entry); new-entries = now («new_entries» .entry) })
+        (now (numbers .entry))
+        (record { old-cards = now («old_cards» .exit); old-entries = now («old_entries» .exit); new-cards = now («new_cards» .exit); new-entries = now («new_entries» .exit) })
+        (now (numbers .exit)) r ⌝ }
 {
     zero_numbers(numbers);
     let editions = read_both(c, old, new, old_cards, old_entries, new_cards, new_entries);
@@ -124,7 +128,11 @@ pub fn plan_boards(
     new_entries: &mut [u32],
     numbers: &mut [u64],
 ) -> Editions
-    ensures { λ r. ⌜ BoardsTold builtIn (now (old .entry)) (now (new .entry)) (now («old_cards» .entry)) (now («old_entries» .entry)) (now («new_cards» .entry)) (now («new_entries» .entry)) (now (numbers .entry)) (now («old_cards» .exit)) (now («old_entries» .exit)) (now («new_cards» .exit)) (now («new_entries» .exit)) (now (numbers .exit)) r ⌝ }
+    ensures { λ r. ⌜ BoardsTold builtIn (now (old .entry)) (now (new .entry))
+        (record { old-cards = now («old_cards» .entry); old-entries = now («old_entries» .entry); new-cards = now («new_cards» .entry); new-entries = now («new_entries» .entry) })
+        (now (numbers .entry))
+        (record { old-cards = now («old_cards» .exit); old-entries = now («old_entries» .exit); new-cards = now («new_cards» .exit); new-entries = now («new_entries» .exit) })
+        (now (numbers .exit)) r ⌝ }
 {
     plan_boards_with(
         built_in(),

@@ -1,6 +1,6 @@
 // Both editions, read.
 ghost use mathlib.Core.Path.{_≡_};
-ghost use Rattle.planning.specs.Plans.{planNumber, planCarries, planEdition, BothRead, IsLimited, BothLimited};
+ghost use Rattle.planning.specs.Plans.{editionsNumber, editionsCarries, editionRefused, BothRead, IsLimited, BothLimited};
 use reader::edition::ReadRefusal;
 use reader::edition::Reading;
 use reader::edition::read_carried;
@@ -9,46 +9,43 @@ use reader::edition::read_pbn_with;
 use reader::store::zero;
 use tables::letters::Conventions;
 
-// Refusals 1 to 3 of the old edition, then of the new, then 4: fewer slips lent than boards to solve.
-pub enum PlanRefusal {
+// Refusals 1 to 3 of the old edition, then of the new.
+pub enum EditionsRefusal {
     Old(ReadRefusal),
     New(ReadRefusal),
-    SlipsShort(u64),
 }
 
 // Both taken, with the boards of each, or refused.
 pub enum Editions {
     Both(u64, u64),
-    Refused(PlanRefusal),
+    Refused(EditionsRefusal),
 }
 
-pub fn plan_number(f: PlanRefusal) -> u64
-    ensures { λ r. ⌜ r ≡ planNumber f ⌝ }
+pub fn editions_number(f: EditionsRefusal) -> u64
+    ensures { λ r. ⌜ r ≡ editionsNumber f ⌝ }
 {
     match f {
-        PlanRefusal::Old(g) => read_number(g),
-        PlanRefusal::New(g) => read_number(g),
-        PlanRefusal::SlipsShort(_) => 4,
+        EditionsRefusal::Old(g) => read_number(g),
+        EditionsRefusal::New(g) => read_number(g),
     }
 }
 
-pub fn plan_carried(f: PlanRefusal) -> u64
-    ensures { λ r. ⌜ r ≡ planCarries f ⌝ }
+pub fn editions_carried(f: EditionsRefusal) -> u64
+    ensures { λ r. ⌜ r ≡ editionsCarries f ⌝ }
 {
     match f {
-        PlanRefusal::Old(g) => read_carried(g),
-        PlanRefusal::New(g) => read_carried(g),
-        PlanRefusal::SlipsShort(n) => n,
+        EditionsRefusal::Old(g) => read_carried(g),
+        EditionsRefusal::New(g) => read_carried(g),
     }
 }
 
-pub fn plan_edition(f: PlanRefusal) -> u64
-    ensures { λ r. ⌜ r ≡ planEdition f ⌝ }
+// The edition that is refused: 1 old, 2 new.
+pub fn edition_refused(f: EditionsRefusal) -> u64
+    ensures { λ r. ⌜ r ≡ editionRefused f ⌝ }
 {
     match f {
-        PlanRefusal::Old(_) => 1,
-        PlanRefusal::New(_) => 2,
-        PlanRefusal::SlipsShort(_) => 0,
+        EditionsRefusal::Old(_) => 1,
+        EditionsRefusal::New(_) => 2,
     }
 }
 
@@ -82,19 +79,22 @@ pub fn read_both_limited(
     new_cards: &mut [u32],
     new_entries: &mut [u32],
 ) -> Editions
-    ensures { λ r. ⌜ BothLimited c limit (now (old .entry)) (now (new .entry)) (now («old_cards» .entry)) (now («old_entries» .entry)) (now («new_cards» .entry)) (now («new_entries» .entry)) (now («old_cards» .exit)) (now («old_entries» .exit)) (now («new_cards» .exit)) (now («new_entries» .exit)) r ⌝ }
+    ensures { λ r. ⌜ BothLimited c limit (now (old .entry)) (now (new .entry))
+        (record { old-cards = now («old_cards» .entry); old-entries = now («old_entries» .entry); new-cards = now («new_cards» .entry); new-entries = now («new_entries» .entry) })
+        (record { old-cards = now («old_cards» .exit); old-entries = now («old_entries» .exit); new-cards = now («new_cards» .exit); new-entries = now («new_entries» .exit) })
+        r ⌝ }
 {
     match read_limited(c, old, limit, old_cards, old_entries) {
         Reading::Refused(f) => {
             zero(new_cards);
             zero(new_entries);
-            Editions::Refused(PlanRefusal::Old(f))
+            Editions::Refused(EditionsRefusal::Old(f))
         }
         Reading::Taken(m, _) => match read_limited(c, new, limit, new_cards, new_entries) {
             Reading::Refused(f) => {
                 zero(old_cards);
                 zero(old_entries);
-                Editions::Refused(PlanRefusal::New(f))
+                Editions::Refused(EditionsRefusal::New(f))
             }
             Reading::Taken(n, _) => Editions::Both(m, n),
         },
@@ -111,7 +111,10 @@ pub fn read_both(
     new_cards: &mut [u32],
     new_entries: &mut [u32],
 ) -> Editions
-    ensures { λ r. ⌜ BothRead c (now (old .entry)) (now (new .entry)) (now («old_cards» .entry)) (now («old_entries» .entry)) (now («new_cards» .entry)) (now («new_entries» .entry)) (now («old_cards» .exit)) (now («old_entries» .exit)) (now («new_cards» .exit)) (now («new_entries» .exit)) r ⌝ }
+    ensures { λ r. ⌜ BothRead c (now (old .entry)) (now (new .entry))
+        (record { old-cards = now («old_cards» .entry); old-entries = now («old_entries» .entry); new-cards = now («new_cards» .entry); new-entries = now («new_entries» .entry) })
+        (record { old-cards = now («old_cards» .exit); old-entries = now («old_entries» .exit); new-cards = now («new_cards» .exit); new-entries = now («new_entries» .exit) })
+        r ⌝ }
 {
     read_both_limited(
         c,

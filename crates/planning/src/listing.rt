@@ -14,6 +14,7 @@ use crate::lines::put_board;
 use crate::lines::put_refused;
 use crate::lines::put_total;
 use crate::numbers::zero_numbers;
+use crate::plan::PlanRefusal;
 use crate::plan::Planned;
 use crate::plan::Totals;
 use crate::plan::finish_plan;
@@ -72,7 +73,11 @@ fn finish_listing(
     page: &mut [u8],
     n: usize,
 ) -> Written
-    ensures { λ r. ⌜ PageKept n (now («old_cards» .entry)) (now («old_entries» .entry)) (now («new_cards» .entry)) (now («new_entries» .entry)) (now (slips .entry)) (now (page .entry)) (now («old_cards» .exit)) (now («old_entries» .exit)) (now («new_cards» .exit)) (now («new_entries» .exit)) (now (slips .exit)) (now (page .exit)) r ⌝ }
+    ensures { λ r. ⌜ PageKept n
+        (record { old-cards = now («old_cards» .entry); old-entries = now («old_entries» .entry); new-cards = now («new_cards» .entry); new-entries = now («new_entries» .entry) })
+        (now (slips .entry)) (now (page .entry))
+        (record { old-cards = now («old_cards» .exit); old-entries = now («old_entries» .exit); new-cards = now («new_cards» .exit); new-entries = now («new_entries» .exit) })
+        (now (slips .exit)) (now (page .exit)) r ⌝ }
 {
     if n <= page.len() {
         return finish(page, n);
@@ -94,7 +99,11 @@ fn list_taken(
     page: &mut [u8],
 ) -> Written
     requires { ⌜ (64 * olds ≤ length (now «old_cards»)) × (64 * news ≤ length (now «new_cards»)) × (olds ≤ 16777215) × (news ≤ 16777215) ⌝ }
-    ensures { λ r. ⌜ BoardsListed (judged (cardsIn olds (now («old_cards» .entry))) (cardsIn news (now («new_cards» .entry)))) (now («old_cards» .entry)) (now («old_entries» .entry)) (now («new_cards» .entry)) (now («new_entries» .entry)) (now (slips .entry)) (now (page .entry)) (now («old_cards» .exit)) (now («old_entries» .exit)) (now («new_cards» .exit)) (now («new_entries» .exit)) (now (slips .exit)) (now (page .exit)) r ⌝ }
+    ensures { λ r. ⌜ BoardsListed (judged (cardsIn olds (now («old_cards» .entry))) (cardsIn news (now («new_cards» .entry))))
+        (record { old-cards = now («old_cards» .entry); old-entries = now («old_entries» .entry); new-cards = now («new_cards» .entry); new-entries = now («new_entries» .entry) })
+        (now (slips .entry)) (now (page .entry))
+        (record { old-cards = now («old_cards» .exit); old-entries = now («old_entries» .exit); new-cards = now («new_cards» .exit); new-entries = now («new_entries» .exit) })
+        (now (slips .exit)) (now (page .exit)) r ⌝ }
 {
     let totals = list_boards(old_cards, olds, new_cards, news, slips);
     match finish_plan(
@@ -137,7 +146,11 @@ pub fn list_with(
     slips: &mut [u64],
     page: &mut [u8],
 ) -> Written
-    ensures { λ r. ⌜ IsListing c limit (now (old .entry)) (now (new .entry)) (now («old_cards» .entry)) (now («old_entries» .entry)) (now («new_cards» .entry)) (now («new_entries» .entry)) (now (slips .entry)) (now (page .entry)) (now («old_cards» .exit)) (now («old_entries» .exit)) (now («new_cards» .exit)) (now («new_entries» .exit)) (now (slips .exit)) (now (page .exit)) r ⌝ }
+    ensures { λ r. ⌜ IsListing c limit (now (old .entry)) (now (new .entry))
+        (record { old-cards = now («old_cards» .entry); old-entries = now («old_entries» .entry); new-cards = now («new_cards» .entry); new-entries = now («new_entries» .entry) })
+        (now (slips .entry)) (now (page .entry))
+        (record { old-cards = now («old_cards» .exit); old-entries = now («old_entries» .exit); new-cards = now («new_cards» .exit); new-entries = now («new_entries» .exit) })
+        (now (slips .exit)) (now (page .exit)) r ⌝ }
 {
     zero_numbers(slips);
     match read_both_limited(
@@ -151,7 +164,7 @@ pub fn list_with(
         new_entries,
     ) {
         Editions::Refused(f) => {
-            let n = put_refused(page, 0, f);
+            let n = put_refused(page, 0, PlanRefusal::Edition(f));
             finish(page, n)
         }
         Editions::Both(olds, news) => list_taken(
@@ -180,7 +193,11 @@ pub fn list(
     slips: &mut [u64],
     page: &mut [u8],
 ) -> Written
-    ensures { λ r. ⌜ IsListing builtIn limit (now (old .entry)) (now (new .entry)) (now («old_cards» .entry)) (now («old_entries» .entry)) (now («new_cards» .entry)) (now («new_entries» .entry)) (now (slips .entry)) (now (page .entry)) (now («old_cards» .exit)) (now («old_entries» .exit)) (now («new_cards» .exit)) (now («new_entries» .exit)) (now (slips .exit)) (now (page .exit)) r ⌝ }
+    ensures { λ r. ⌜ IsListing builtIn limit (now (old .entry)) (now (new .entry))
+        (record { old-cards = now («old_cards» .entry); old-entries = now («old_entries» .entry); new-cards = now («new_cards» .entry); new-entries = now («new_entries» .entry) })
+        (now (slips .entry)) (now (page .entry))
+        (record { old-cards = now («old_cards» .exit); old-entries = now («old_entries» .exit); new-cards = now («new_cards» .exit); new-entries = now («new_entries» .exit) })
+        (now (slips .exit)) (now (page .exit)) r ⌝ }
 {
     list_with(
         built_in(),

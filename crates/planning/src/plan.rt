@@ -8,11 +8,14 @@ ghost use Rattle.reader.specs.Store.{put, putAll};
 ghost use Rattle.planning.specs.Cards.{cardHere, cardsIn};
 ghost use Rattle.planning.specs.States.{judged, isSolve};
 ghost use Rattle.planning.specs.Slips.{slipOf, slipsOf, totalsOf};
-ghost use Rattle.planning.specs.Plans.{IsPlanned};
+ghost use Rattle.planning.specs.Plans.{planNumber, planCarries, planEdition, IsPlanned};
 ghost use Rattle.planning.specs.Steps.{counted, Within, Kept, PlanFinished};
 use crate::cards::deal_at;
 use crate::editions::Editions;
-use crate::editions::PlanRefusal;
+use crate::editions::EditionsRefusal;
+use crate::editions::edition_refused;
+use crate::editions::editions_carried;
+use crate::editions::editions_number;
 use crate::editions::read_both;
 use crate::numbers::put_five;
 use crate::numbers::zero_numbers;
@@ -34,10 +37,44 @@ pub struct Totals {
     pub solve: u64,
 }
 
+// A refusal of an edition, or 4: fewer slips lent than boards to solve.
+pub enum PlanRefusal {
+    Edition(EditionsRefusal),
+    SlipsShort(u64),
+}
+
 // Listed with the totals, or refused, which leaves all lent words zero.
 pub enum Planned {
     Listed(Totals),
     Refused(PlanRefusal),
+}
+
+pub fn plan_number(f: PlanRefusal) -> u64
+    ensures { λ r. ⌜ r ≡ planNumber f ⌝ }
+{
+    match f {
+        PlanRefusal::Edition(g) => editions_number(g),
+        PlanRefusal::SlipsShort(_) => 4,
+    }
+}
+
+pub fn plan_carried(f: PlanRefusal) -> u64
+    ensures { λ r. ⌜ r ≡ planCarries f ⌝ }
+{
+    match f {
+        PlanRefusal::Edition(g) => editions_carried(g),
+        PlanRefusal::SlipsShort(n) => n,
+    }
+}
+
+// The edition that is refused: 0 none, 1 old, 2 new.
+pub fn plan_edition(f: PlanRefusal) -> u64
+    ensures { λ r. ⌜ r ≡ planEdition f ⌝ }
+{
+    match f {
+        PlanRefusal::Edition(g) => edition_refused(g),
+        PlanRefusal::SlipsShort(_) => 0,
+    }
 }
 
 // Totals with one board more.
@@ -106,6 +143,15 @@ pub fn list_boards(
     t
 }
 
+// How many boards of the new edition are in each state: their totals alone, with no slip lent.
+pub fn count_boards(old_cards: &[u32], olds: usize, new_cards: &[u32], news: usize) -> Totals
+    requires { ⌜ (64 * olds ≤ length (now «old_cards»)) × (64 * news ≤ length (now «new_cards»)) ⌝ }
+    ensures { λ r. ⌜ r ≡ totalsOf (judged (cardsIn olds (now («old_cards» .entry))) (cardsIn news (now («new_cards» .entry)))) ⌝ }
+{
+    let mut none = [0u64; 0];
+    list_boards(old_cards, olds, new_cards, news, &mut none)
+}
+
 // Sets all cards and entries to 0.
 pub fn zero_boxes(
     old_cards: &mut [u32],
@@ -113,7 +159,10 @@ pub fn zero_boxes(
     new_cards: &mut [u32],
     new_entries: &mut [u32],
 )
-    ensures { λ _. ⌜ Kept false (now («old_cards» .entry)) (now («old_entries» .entry)) (now («new_cards» .entry)) (now («new_entries» .entry)) (now («old_cards» .exit)) (now («old_entries» .exit)) (now («new_cards» .exit)) (now («new_entries» .exit)) ⌝ }
+    ensures { λ _. ⌜ Kept false
+        (record { old-cards = now («old_cards» .entry); old-entries = now («old_entries» .entry); new-cards = now («new_cards» .entry); new-entries = now («new_entries» .entry) })
+        (record { old-cards = now («old_cards» .exit); old-entries = now («old_entries» .exit); new-cards = now («new_cards» .exit); new-entries = now («new_entries» .exit) })
+        ⌝ }
 {
     zero(old_cards);
     zero(old_entries);
@@ -130,7 +179,11 @@ pub fn finish_plan(
     slips: &mut [u64],
     t: Totals,
 ) -> Planned
-    ensures { λ r. ⌜ PlanFinished (now («old_cards» .entry)) (now («old_entries» .entry)) (now («new_cards» .entry)) (now («new_entries» .entry)) (now (slips .entry)) t r (now («old_cards» .exit)) (now («old_entries» .exit)) (now («new_cards» .exit)) (now («new_entries» .exit)) (now (slips .exit)) ⌝ }
+    ensures { λ r. ⌜ PlanFinished
+        (record { old-cards = now («old_cards» .entry); old-entries = now («old_entries» .entry); new-cards = now («new_cards» .entry); new-entries = now («new_entries» .entry) })
+        (now (slips .entry)) t r
+        (record { old-cards = now («old_cards» .exit); old-entries = now («old_entries» .exit); new-cards = now («new_cards» .exit); new-entries = now («new_entries» .exit) })
+        (now (slips .exit)) ⌝ }
 {
     let solve = t.solve;
     if ((slips.len() / 5) as u64) < solve {
@@ -152,11 +205,15 @@ pub fn plan_with(
     new_entries: &mut [u32],
     slips: &mut [u64],
 ) -> Planned
-    ensures { λ r. ⌜ IsPlanned c (now (old .entry)) (now (new .entry)) (now («old_cards» .entry)) (now («old_entries» .entry)) (now («new_cards» .entry)) (now («new_entries» .entry)) (now (slips .entry)) (now («old_cards» .exit)) (now («old_entries» .exit)) (now («new_cards» .exit)) (now («new_entries» .exit)) (now (slips .exit)) r ⌝ }
+    ensures { λ r. ⌜ IsPlanned c (now (old .entry)) (now (new .entry))
+        (record { old-cards = now («old_cards» .entry); old-entries = now («old_entries» .entry); new-cards = now («new_cards» .entry); new-entries = now («new_entries» .entry) })
+        (now (slips .entry))
+        (record { old-cards = now («old_cards» .exit); old-entries = now («old_entries» .exit); new-cards = now («new_cards» .exit); new-entries = now («new_entries» .exit) })
+        (now (slips .exit)) r ⌝ }
 {
     zero_numbers(slips);
     match read_both(c, old, new, old_cards, old_entries, new_cards, new_entries) {
-        Editions::Refused(f) => Planned::Refused(f),
+        Editions::Refused(f) => Planned::Refused(PlanRefusal::Edition(f)),
         Editions::Both(olds, news) => {
             let t = list_boards(old_cards, olds as usize, new_cards, news as usize, slips);
             finish_plan(old_cards, old_entries, new_cards, new_entries, slips, t)
@@ -174,7 +231,11 @@ pub fn plan(
     new_entries: &mut [u32],
     slips: &mut [u64],
 ) -> Planned
-    ensures { λ r. ⌜ IsPlanned builtIn (now (old .entry)) (now (new .entry)) (now («old_cards» .entry)) (now («old_entries» .entry)) (now («new_cards» .entry)) (now («new_entries» .entry)) (now (slips .entry)) (now («old_cards» .exit)) (now («old_entries» .exit)) (now («new_cards» .exit)) (now («new_entries» .exit)) (now (slips .exit)) r ⌝ }
+    ensures { λ r. ⌜ IsPlanned builtIn (now (old .entry)) (now (new .entry))
+        (record { old-cards = now («old_cards» .entry); old-entries = now («old_entries» .entry); new-cards = now («new_cards» .entry); new-entries = now («new_entries» .entry) })
+        (now (slips .entry))
+        (record { old-cards = now («old_cards» .exit); old-entries = now («old_entries» .exit); new-cards = now («new_cards» .exit); new-entries = now («new_entries» .exit) })
+        (now (slips .exit)) r ⌝ }
 {
     plan_with(
         built_in(),

@@ -45,7 +45,10 @@ pub fn state_at_with(
     new_entries: &mut [u32],
     position: u64,
 ) -> StateAnswer
-    ensures { λ r. ⌜ StateTold c (now (old .entry)) (now (new .entry)) (now («old_cards» .entry)) (now («old_entries» .entry)) (now («new_cards» .entry)) (now («new_entries» .entry)) (now («old_cards» .exit)) (now («old_entries» .exit)) (now («new_cards» .exit)) (now («new_entries» .exit)) position (r .editions) (r .state) ⌝ }
+    ensures { λ r. ⌜ StateTold c (now (old .entry)) (now (new .entry))
+        (record { old-cards = now («old_cards» .entry); old-entries = now («old_entries» .entry); new-cards = now («new_cards» .entry); new-entries = now («new_entries» .entry) })
+        (record { old-cards = now («old_cards» .exit); old-entries = now («old_entries» .exit); new-cards = now («new_cards» .exit); new-entries = now («new_entries» .exit) })
+        position (r .editions) (r .state) ⌝ }
 {
     let editions = read_both(c, old, new, old_cards, old_entries, new_cards, new_entries);
     match editions {
@@ -70,7 +73,10 @@ pub fn state_at(
     new_entries: &mut [u32],
     position: u64,
 ) -> StateAnswer
-    ensures { λ r. ⌜ StateTold builtIn (now (old .entry)) (now (new .entry)) (now («old_cards» .entry)) (now («old_entries» .entry)) (now («new_cards» .entry)) (now («new_entries» .entry)) (now («old_cards» .exit)) (now («old_entries» .exit)) (now («new_cards» .exit)) (now («new_entries» .exit)) position (r .editions) (r .state) ⌝ }
+    ensures { λ r. ⌜ StateTold builtIn (now (old .entry)) (now (new .entry))
+        (record { old-cards = now («old_cards» .entry); old-entries = now («old_entries» .entry); new-cards = now («new_cards» .entry); new-entries = now («new_entries» .entry) })
+        (record { old-cards = now («old_cards» .exit); old-entries = now («old_entries» .exit); new-cards = now («new_cards» .exit); new-entries = now («new_entries» .exit) })
+        position (r .editions) (r .state) ⌝ }
 {
     state_at_with(
         built_in(),

@@ -3,9 +3,9 @@ use Rattle.golavimes.proofs.refused_head.Statement.{statement}
 use Rattle.golavimes.proofs.refused_head.Tie as tie
 use Rattle.golavimes.proofs.refused_head.Reads as reads
 use Rattle.golavimes.proofs.refused_head.Lts as lts
-use Rattle.planning.proofs.editions.plan_carried.Reads as plan-carried-reads
-use Rattle.planning.proofs.editions.plan_edition.Reads as plan-edition-reads
-use Rattle.planning.proofs.editions.plan_number.Reads as plan-number-reads
+use Rattle.planning.proofs.plan.plan_carried.Reads as plan-carried-reads
+use Rattle.planning.proofs.plan.plan_edition.Reads as plan-edition-reads
+use Rattle.planning.proofs.plan.plan_number.Reads as plan-number-reads
 
 plan-number-requires : tie.Need-plan-number-requires
 plan-number-requires c κs = search needs

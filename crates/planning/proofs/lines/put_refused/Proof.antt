@@ -7,8 +7,8 @@ use Rattle.planning.proofs.lines.put_refused.Statement.{statement}
 use Rattle.planning.proofs.lines.put_refused.Tie as tie
 use Rattle.planning.proofs.lines.put_refused.Reads as reads
 use Rattle.planning.proofs.lines.put_refused.Lts as lts
-use Rattle.planning.proofs.editions.plan_edition.Reads as plan-edition-reads
-use Rattle.planning.proofs.editions.plan_number.Reads as plan-number-reads
+use Rattle.planning.proofs.plan.plan_edition.Reads as plan-edition-reads
+use Rattle.planning.proofs.plan.plan_number.Reads as plan-number-reads
 use Rattle.planning.proofs.lines.put_edition.Reads as put-edition-reads
 use Rattle.planning.proofs.lines.put_pair.Reads as put-pair-reads
 use Rattle.tables.proofs.page.put_byte.Reads as put-byte-reads

@@ -16,7 +16,7 @@ same-length : tie.Need-same-length
 same-length c = search needs
 
 returns : tie.Need-returns
-returns c = record { end = c .before .before .finish .ensures; boxes = record { old-cards = simp (le-leb _ _ (c .before .before .before .before .if1 .taken)); old-entries = simp (le-leb _ _ (c .before .before .before .before .if1 .taken)); new-cards = simp (le-leb _ _ (c .before .before .before .before .if1 .taken)); new-entries = simp (le-leb _ _ (c .before .before .before .before .if1 .taken)) }; slips-after = simp (le-leb _ _ (c .before .before .before .before .if1 .taken)) }
+returns c = record { end = c .before .before .finish .ensures; boxes-after = record { old-cards = simp (le-leb _ _ (c .before .before .before .before .if1 .taken)); old-entries = simp (le-leb _ _ (c .before .before .before .before .if1 .taken)); new-cards = simp (le-leb _ _ (c .before .before .before .before .if1 .taken)); new-entries = simp (le-leb _ _ (c .before .before .before .before .if1 .taken)) }; slips-after = simp (le-leb _ _ (c .before .before .before .before .if1 .taken)) }
 
 zero-boxes-requires : tie.Need-zero-boxes-requires
 zero-boxes-requires c κs = search needs
@@ -46,7 +46,7 @@ same-length-7 : tie.Need-same-length-7
 same-length-7 c = search needs
 
 returns-2 : tie.Need-returns-2
-returns-2 c = let e = lt-leb _ _ (c .before .before .before .before .before .before .before .before .before .before .before .before .before .before .before .before .before .before .before .before .before .if1 .left) in record { end = c .before .before .finish2 .ensures; boxes = rw e (c .before .before .before .before .before .before .before .before .before .before .before .before .before .before .before .before .zero-boxes .ensures); slips-after = rw e (c .before .before .before .before .before .before .zero-numbers .ensures) }
+returns-2 c = let e = lt-leb _ _ (c .before .before .before .before .before .before .before .before .before .before .before .before .before .before .before .before .before .before .before .before .before .if1 .left) in record { end = c .before .before .finish2 .ensures; boxes-after = rw e (c .before .before .before .before .before .before .before .before .before .before .before .before .before .before .before .before .zero-boxes .ensures); slips-after = rw e (c .before .before .before .before .before .before .zero-numbers .ensures) }
 
 pub finish-listing-spec : {M : Type 1} → statement M
 finish-listing-spec =

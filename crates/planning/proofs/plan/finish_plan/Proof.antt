@@ -26,10 +26,10 @@ same-length-5 : tie.Need-same-length-5
 same-length-5 c = search needs
 
 returns : tie.Need-returns
-returns c = record { answer = simp (lt-ltb _ _ (c .before .before .before .before .before .before .before .before .before .before .before .before .before .before .before .before .before .if1 .taken)); boxes = c .before .before .before .before .before .before .before .before .before .before .before .before .zero-boxes .ensures; slips-after = c .before .before .zero-numbers .ensures }
+returns c = record { answer = simp (lt-ltb _ _ (c .before .before .before .before .before .before .before .before .before .before .before .before .before .before .before .before .before .if1 .taken)); boxes-after = c .before .before .before .before .before .before .before .before .before .before .before .before .zero-boxes .ensures; slips-after = c .before .before .zero-numbers .ensures }
 
 returns-2 : tie.Need-returns-2
-returns-2 c = record { answer = simp (le-ltb _ _ (c .if1 .left)); boxes = record { old-cards = refl; old-entries = refl; new-cards = refl; new-entries = refl }; slips-after = refl }
+returns-2 c = record { answer = simp (le-ltb _ _ (c .if1 .left)); boxes-after = record { old-cards = refl; old-entries = refl; new-cards = refl; new-entries = refl }; slips-after = refl }
 
 pub finish-plan-spec : {M : Type 1} → statement M
 finish-plan-spec =

@@ -58,7 +58,7 @@ same-length-10 c = c .before .before .before .before .before .before .before .be
 returns-2 : tie.Need-returns-2
 returns-2 c = let b = c .before .before .before .before .before .before .before .before .before .before .before .before .before .before .before .before .before .before .before .before .before .before .before .before .before .before .before .before .before .before .before .before .before .read-both in
     let p = c .before .before .before .before .before .before .before .before .before .before .before .before .before .before .before .before .before .before .list-boards in
-    plan-listed (b .ensures) (c .before .before .before .before .before .before .before .before .before .before .before .before .before .before .before .before .before .before .before .before .before .before .before .olds .given .1) (b .kept .1 .1 .1 .0) (b .kept .1 .1 .1 .1 .0) (b .kept .1 .1 .1 .1 .1 .0) (b .kept .1 .1 .1 .1 .1 .1 .0)
+    plan-listed (b .ensures) (c .before .before .before .before .before .before .before .before .before .before .before .before .before .before .before .before .before .before .before .before .before .before .before .olds .given .1) (record { old-cards = b .kept .1 .1 .1 .0; old-entries = b .kept .1 .1 .1 .1 .0; new-cards = b .kept .1 .1 .1 .1 .1 .0; new-entries = b .kept .1 .1 .1 .1 .1 .1 .0 })
     (c .before .before .before .before .before .before .before .before .before .before .before .before .before .before .before .before .before .before .before .before .before .before .before .before .before .before .before .before .before .before .before .before .before .before .before .before .before .before .before .before .zero-numbers .ensures) (p .kept .1 .1 .1 .1 .0) (p .ensures) (c .before .before .before .before .before .before .before .before .before .before .finish-plan .ensures)
 
 pub plan-with-spec : {M : Type 1} → statement M
