@@ -66,8 +66,7 @@ none-given [] B answer n e k s b h =
 none-given (f ∷ fs) B answer n e k s b h =
     let a = both (not (eqb n (f .number) && eqb e (f .edition))) (isApart n e fs) h in
     let z : Begins answer f → ⊥ =
-    λ g. apart-not n e (f .number) (f .edition) (a .0) (sym (s .number-said) ∙ g .number-is) (sym (s .edition-said) ∙ g .edition-is) in
-    (
+    λ g. apart-not n e (f .number) (f .edition) (a .0) (sym (s .number-said) ∙ g .number-is) (sym (s .edition-said) ∙ g .edition-is) in (
       record { exactly = (λ g. absurd (z g), λ p. absurd (b (p .0))); carried = λ g. absurd (z g) },
       none-given fs (B × (f .when → ⊥)) answer n e k s (λ p. b (p .0)) (a .1),
     )
@@ -88,8 +87,7 @@ given-from fs B answer d b (nothing s) =
       carried = λ g. s .carried-said;
     }
 given-from fs B answer d b (this {f = f} {fs = xs} w s) =
-    let a = both (isApart (f .number) (f .edition) xs) (areApart xs) d in
-    (
+    let a = both (isApart (f .number) (f .edition) xs) (areApart xs) d in (
       record {
         exactly = (λ g. (b, w), λ p. record { number-is = s .number-said; edition-is = s .edition-said });
         carried = λ g. s .carried-said;
@@ -98,8 +96,7 @@ given-from fs B answer d b (this {f = f} {fs = xs} w s) =
     )
 given-from fs B answer d b (later {f = f} {fs = xs} w m) =
     let a = both (isApart (f .number) (f .edition) xs) (areApart xs) d in
-    let z = not-begun xs answer f m (a .0) in
-    (
+    let z = not-begun xs answer f m (a .0) in (
       record { exactly = (λ g. absurd (z g), λ p. absurd (w (p .1))); carried = λ g. absurd (z g) },
       given-from xs (B × (f .when → ⊥)) answer (a .1) (b, w) m,
     )
