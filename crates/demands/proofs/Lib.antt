@@ -1,2 +1,4 @@
+pub mod Fellowship
+pub mod Listing
 pub mod Refusing
 pub mod TableRefusing

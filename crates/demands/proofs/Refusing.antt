@@ -199,7 +199,7 @@ planned-not : (p : Planned) → (getD (planNumbers p) 0 0 ≡ 0 → ⊥) → (is
 planned-not (Listed t) h = absurd (h refl)
 planned-not (planned.Refused f) h = (refl, refl)
 
-plan-met : (c : Conventions) (old new : List ℕ) (boxes : Boxes) (slips answer : List ℕ) → answer ≡ planNumbers (plannedOf c old new boxes (length slips))
+pub plan-met : (c : Conventions) (old new : List ℕ) (boxes : Boxes) (slips answer : List ℕ) → answer ≡ planNumbers (plannedOf c old new boxes (length slips))
     → Met answer (ofEditions c old new boxes ++ (refusal 4 0 (solveIn c old new) (SlipsShort c old new slips) ∷ []))
 unfolding plannedOf
 plan-met c old new boxes slips answer e =

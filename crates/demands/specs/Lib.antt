@@ -1,1 +1,3 @@
+pub mod Boards
 pub mod Demand1
+pub mod Demand3

@@ -1,0 +1,118 @@
+-- Demand 3, sentence by sentence, in the user's order. A deal is four hands; a board has it if it is whole (word 9 is 1, 13 cards in each
+-- hand) and its hands are these (`WithDeal`); it carries a table if word 38 is not 0 (`Tabled`: both). A board's card is the one that the
+-- definitions read from its edition's text (`cardsOf`), and is what the lent words hold (`CardsHanded`, below). A deal is listed if one of
+-- the slips handed back, answer[9] of them, holds its four hands (`ListedIn`). The statements hold for every set of letters c; the C
+-- functions read with the built-in ones. The file of proofs/ that proves each is named beside it; proofs/Worked.antt has a pair of
+-- editions that meets every premise.
+use Prim.Native.Nat.{ℕ, _+_, _-_, _*_, _<_}
+use mathlib.Core.Path.{_≡_}
+use mathlib.Core.Logic.{_↔_}
+use mathlib.Core.List.{List, [], _∷_, _++_}
+use lib.ListN.{length, getD, drop, replicate}
+use Rattle.tables.specs.declared.letters.Conventions.{Conventions}
+use Rattle.reader.specs.declared.deal.Hands.{Hands}
+use Rattle.reader.specs.Records.{AlikeBut}
+use Rattle.reader.specs.Editions.{cardsOf}
+use Rattle.planning.specs.Cards.{cardHere}
+use Rattle.planning.specs.Plans.{Boxes}
+use Rattle.planning.specs.Demands.{slipHere, Holds, ListedIn, Unsolved, InFront, InBack, AllSolved, OnlyInside}
+use Rattle.golavimes.specs.Answers.{PlanOut}
+use Rattle.demands.specs.Demand1.{boardsIn, Overlong, BoxFull, ListFull, SlipsShort}
+use Rattle.demands.specs.Boards.{HandedBack, Board, recordStart, boardHere, ReadAlike}
+
+-- ---- "Whatever two editions hold, if both are read without refusal and slips are enough, .."
+
+-- An edition is read without refusal when none of 1 to 3 is met.
+pub record IsTaken (c : Conventions) (text cards entries : List ℕ) : Type 0 where
+  pub not-overlong : Overlong text → ⊥
+  pub box-not-full : BoxFull c text cards → ⊥
+  pub list-not-full : ListFull c text entries → ⊥
+
+-- Both are, and slips are enough.
+pub record Plannable (c : Conventions) (old new : List ℕ) (boxes : Boxes) (slips : List ℕ) : Type 0 where
+  pub old-taken : IsTaken c old (boxes .old-cards) (boxes .old-entries)
+  pub new-taken : IsTaken c new (boxes .new-cards) (boxes .new-entries)
+  pub slips-enough : SlipsShort c old new slips → ⊥
+
+-- THEOREM (proofs/Listing.antt). That is so exactly when golavimes_plan returns 0.
+abbrev pub PlannedWhenTaken : Type 0
+PlannedWhenTaken =
+    (c : Conventions) (old new : List ℕ) (boxes : Boxes) (slips : List ℕ) (boxes′ : Boxes) (slips′ answer′ : List ℕ) (r : ℕ)
+    → PlanOut c old new boxes slips boxes′ slips′ answer′ r
+    → (r ≡ 0) ↔ Plannable c old new boxes slips
+
+-- ---- ".. a whole deal is listed for solving exactly when a board of the new one has it and no board of either with that deal carries a
+-- table."
+
+-- THEOREM (proofs/Listing.antt).
+abbrev pub ListedExactly : Type 0
+ListedExactly =
+    (c : Conventions) (old new : List ℕ) (boxes : Boxes) (slips : List ℕ) (boxes′ : Boxes) (slips′ answer′ : List ℕ)
+    → PlanOut c old new boxes slips boxes′ slips′ answer′ 0
+    → (h : Hands) → ListedIn h (getD answer′ 9 0) slips′ ↔ Unsolved h (cardsOf c old) (cardsOf c new)
+
+-- ---- "It is listed once."
+
+-- THEOREM (proofs/Listing.antt). Two slips that hold its hands are one.
+abbrev pub ListedOnce : Type 0
+ListedOnce =
+    (c : Conventions) (old new : List ℕ) (boxes : Boxes) (slips : List ℕ) (boxes′ : Boxes) (slips′ answer′ : List ℕ)
+    → PlanOut c old new boxes slips boxes′ slips′ answer′ 0
+    → (h : Hands) (j k : ℕ) → j < getD answer′ 9 0 → k < getD answer′ 9 0 → Holds h (slipHere j slips′) → Holds h (slipHere k slips′) → j ≡ k
+
+-- THEOREM (proofs/Listing.antt). Behind the slips handed back all that is lent is zero.
+abbrev pub RestZero : Type 0
+RestZero =
+    (c : Conventions) (old new : List ℕ) (boxes : Boxes) (slips : List ℕ) (boxes′ : Boxes) (slips′ answer′ : List ℕ)
+    → PlanOut c old new boxes slips boxes′ slips′ answer′ 0
+    → drop (5 * getD answer′ 9 0) slips′ ≡ replicate (length slips′ - 5 * getD answer′ 9 0) 0
+
+-- ---- "If the two are alike but for a stretch between seams, every board outside the stretch is read alike in both."
+
+-- The fellow of a board: the other edition, of so many boards, has a board whose record starts at the place, only one, and the two are
+-- read alike.
+pub record HasFellow (board : Board) (place boards : ℕ) (cards entries : List ℕ) : Type 0 where
+  pub fellow : ℕ
+  pub is-there : fellow < boards
+  pub starts : recordStart (cardHere fellow cards) ≡ place
+  pub only : (j : ℕ) → j < boards → recordStart (cardHere j cards) ≡ place → j ≡ fellow
+  pub alike : ReadAlike board (boardHere fellow cards entries)
+
+-- Every board of the edition front, middle, back whose record lies in the front or in the back has its fellow in the edition front, other,
+-- back: at the same place of the front, or at the same place of the back.
+pub record OutsideAlike (c : Conventions) (front middle other back cards entries cards′ entries′ : List ℕ) : Type 0 where
+  pub in-front : (k : ℕ) → k < boardsIn c (front ++ (middle ++ back)) → InFront front (cardHere k cards)
+      → HasFellow (boardHere k cards entries) (recordStart (cardHere k cards)) (boardsIn c (front ++ (other ++ back))) cards′ entries′
+  pub in-back : (k : ℕ) → k < boardsIn c (front ++ (middle ++ back)) → InBack front middle (cardHere k cards)
+      → HasFellow (boardHere k cards entries)
+      (length (front ++ other) + (recordStart (cardHere k cards) - length (front ++ middle)))
+      (boardsIn c (front ++ (other ++ back))) cards′ entries′
+
+-- THEOREM (proofs/Fellowship.antt). For the boards of either edition.
+abbrev pub OutsideReadAlike : Type 0
+OutsideReadAlike =
+    (c : Conventions) (front middle middle′ back cards entries cards′ entries′ : List ℕ)
+    → AlikeBut front middle middle′ back
+    → HandedBack c (front ++ (middle ++ back)) cards entries
+    → HandedBack c (front ++ (middle′ ++ back)) cards′ entries′
+    → OutsideAlike c front middle middle′ back cards entries cards′ entries′
+    × OutsideAlike c front middle′ middle back cards′ entries′ cards entries
+
+-- THEOREM (proofs/Fellowship.antt). The cards in the lent words are those that the definitions read from the text.
+abbrev pub CardsHanded : Type 0
+CardsHanded =
+    (c : Conventions) (text cards entries : List ℕ) → HandedBack c text cards entries
+    → (k : ℕ) → k < boardsIn c text → cardHere k cards ≡ getD (cardsOf c text) k []
+
+-- ---- "If, besides, each whole deal of the old one has a table on some old board, each listed deal belongs to a board of the new one inside
+-- the stretch, and to none outside."
+
+-- THEOREM (proofs/Listing.antt).
+abbrev pub ListedInside : Type 0
+ListedInside =
+    (c : Conventions) (front middle middle′ back : List ℕ) (boxes : Boxes) (slips : List ℕ) (boxes′ : Boxes) (slips′ answer′ : List ℕ)
+    → AlikeBut front middle middle′ back
+    → PlanOut c (front ++ (middle ++ back)) (front ++ (middle′ ++ back)) boxes slips boxes′ slips′ answer′ 0
+    → AllSolved (cardsOf c (front ++ (middle ++ back)))
+    → (h : Hands) → ListedIn h (getD answer′ 9 0) slips′
+    → OnlyInside front middle′ h (cardsOf c (front ++ (middle′ ++ back)))
