@@ -1,3 +1,4 @@
 pub mod Boards
 pub mod Demand1
 pub mod Demand3
+pub mod Worked

@@ -1,0 +1,73 @@
+-- The worked pair meets every premise of demand 3, and one deal of it is listed.
+use Prim.Native.Nat.{ℕ, _<_}
+use mathlib.Core.Path.{_≡_, refl, sym}
+use mathlib.Core.Bool.{true}
+use mathlib.Core.List.{List, [], _∷_}
+use native.Mathlib.Omega.{arith}
+use lib.ListN.{length, replicate}
+use Rattle.tables.specs.Letters.{builtIn}
+use Rattle.reader.specs.declared.deal.Hands.{Hands}
+use Rattle.reader.specs.Deals.{ones, cardCount, wholeHands, handWords, handsOfWords}
+use Rattle.reader.specs.Editions.{readingOf, cardsOf}
+use Rattle.planning.specs.Cards.{dealOf, handsOf, isWhole, hasTable, hasDeal, fits}
+use Rattle.planning.specs.States.{firstWith, stateOf, judged}
+use Rattle.planning.specs.Slips.{slipOf, slipsOf, totalsOf}
+use Rattle.planning.specs.Plans.{Boxes, editionsOf, plannedOf, isListed, lent, boardsOf}
+use Rattle.planning.specs.Demands.{Among, here, there, Tabled, Some, AllSolved}
+use Rattle.planning.proofs.FoundLaws.{among-cases}
+use Rattle.golavimes.specs.Answers.{planNumbers, PlanOut}
+use Rattle.demands.specs.Worked.{old, new, dealA, dealD, boxes, slips, boxes′, slips′, answer′, front, oldStretch, WorkedPair}
+use Rattle.demands.proofs.WorkedCards.{frontCard, backCard, olds, old-cards, new-cards, old-entries, new-entries, alike}
+
+told : answer′ ≡ planNumbers (plannedOf builtIn old new boxes 5)
+unfolding ones cardCount wholeHands handWords handsOfWords dealOf isWhole hasTable hasDeal fits firstWith stateOf judged totalsOf readingOf editionsOf plannedOf
+told = rw (old-cards, new-cards, old-entries, new-entries)
+
+slips-are : slips′ ≡ lent true 5 (slipsOf (boardsOf builtIn old new))
+unfolding ones cardCount wholeHands handWords handsOfWords dealOf isWhole hasTable hasDeal fits firstWith stateOf judged slipOf
+slips-are = rw (old-cards, new-cards)
+
+is-listed : isListed (plannedOf builtIn old new boxes 5) ≡ true
+unfolding ones cardCount wholeHands handWords handsOfWords dealOf isWhole hasTable hasDeal fits firstWith stateOf judged totalsOf readingOf editionsOf plannedOf
+is-listed = rw (old-cards, new-cards, old-entries, new-entries)
+
+planned : PlanOut builtIn old new boxes slips boxes′ slips′ answer′ 0
+planned =
+    record {
+      told = told;
+      boxes-after = rw is-listed (record { old-cards = refl; old-entries = refl; new-cards = refl; new-entries = refl });
+      slips-after = rw is-listed slips-are;
+      returned = refl;
+    }
+
+front-tabled : Tabled dealA frontCard
+unfolding ones cardCount wholeHands handWords handsOfWords dealOf isWhole hasTable
+front-tabled = record { deal = record { whole = refl; hands = refl }; table = refl }
+
+back-tabled : Tabled dealD backCard
+unfolding ones cardCount wholeHands handWords handsOfWords dealOf isWhole hasTable
+back-tabled = record { deal = record { whole = refl; hands = refl }; table = refl }
+
+among-none : {P : Type 0} {x : List ℕ} → Among x [] → P
+among-none a = elim a [ ]
+
+-- Both boards with the deal a have a table on the first, the third has its own.
+solved-cards : AllSolved olds
+unfolding handWords handsOfWords dealOf
+solved-cards x a w =
+    let P : List ℕ → Type 0 = λ y. Some (Tabled (handsOf y)) olds in
+    let first : Some (Tabled dealA) olds = record { card = frontCard; among = here; holds = front-tabled } in
+    let last : Some (Tabled dealD) olds = record { card = backCard; among = there (there here); holds = back-tabled } in
+    among-cases P a first (λ b. among-cases P b first (λ d. among-cases P d last (λ e. among-none e)))
+
+pub worked-pair : WorkedPair
+unfolding handWords
+worked-pair =
+    record {
+      alike = alike;
+      planned = planned;
+      solved = rw old-cards solved-cards;
+      solved-in-front = rw old-cards (record { card = frontCard; among = here; holds = (front-tabled, omega arith) });
+      solved-in-back = rw old-cards (record { card = backCard; among = there (there here); holds = (back-tabled, omega arith) });
+      listed = record { slip = 0; below = omega arith; holds = record { north = refl; east = refl; south = refl; west = refl } };
+    }

@@ -1,0 +1,77 @@
+-- A worked pair of editions that meets every premise of demand 3: both are read, slips are enough, they are alike but for a stretch, each
+-- whole deal of the old one has a table on some old board, solved deals stand in the front and in the back, and one deal is listed.
+use Prim.Native.Nat.{ℕ}
+use mathlib.Core.Bool.{true}
+use mathlib.Core.List.{List, [], _∷_, _++_}
+use lib.ListN.{length, getD, replicate}
+use Rattle.tables.specs.Text.{ascii}
+use Rattle.tables.specs.Letters.{builtIn}
+use Rattle.reader.specs.declared.deal.Hands.{Hands}
+use Rattle.reader.specs.Records.{AlikeBut}
+use Rattle.reader.specs.Editions.{cardsOf, entriesOf}
+use Rattle.planning.specs.Plans.{Boxes, lent}
+use Rattle.planning.specs.Demands.{Tabled, Some, ListedIn, InFront, InBack, AllSolved}
+use Rattle.golavimes.specs.Answers.{PlanOut}
+
+-- The front: the deal a (N has the spades, E the hearts, S the diamonds, W the clubs) with a table. The back: the deal d, turned from S, with a
+-- table. The old stretch: a again, without a table. The new stretch: the deal b, turned from E.
+abbrev pub front : List ℕ
+front = ascii "[Deal \"N:AKQJT98765432... .AKQJT98765432.. ..AKQJT98765432. ...AKQJT98765432\"]\n[DoubleDummyTricks \"00000000000000000000\"]\n\n"
+
+abbrev pub oldStretch : List ℕ
+oldStretch = ascii "[Event \"x\"]\n[Deal \"N:AKQJT98765432... .AKQJT98765432.. ..AKQJT98765432. ...AKQJT98765432\"]\n\n"
+
+abbrev pub newStretch : List ℕ
+newStretch = ascii "[Deal \"E:AKQJT98765432... .AKQJT98765432.. ..AKQJT98765432. ...AKQJT98765432\"]\n\n"
+
+abbrev pub back : List ℕ
+back = ascii "[Deal \"S:AKQJT98765432... .AKQJT98765432.. ..AKQJT98765432. ...AKQJT98765432\"]\n[DoubleDummyTricks \"0123456789abcd012345\"]\n"
+
+abbrev pub old : List ℕ
+old = front ++ (oldStretch ++ back)
+
+abbrev pub new : List ℕ
+new = front ++ (newStretch ++ back)
+
+-- All spades, hearts, diamonds and clubs are 4503049871556608, 549688705024, 67100672 and 8191.
+abbrev pub dealA : Hands
+dealA = record { north = 4503049871556608; east = 549688705024; south = 67100672; west = 8191 }
+
+abbrev pub dealB : Hands
+dealB = record { north = 8191; east = 4503049871556608; south = 549688705024; west = 67100672 }
+
+abbrev pub dealD : Hands
+dealD = record { north = 67100672; east = 8191; south = 4503049871556608; west = 549688705024 }
+
+-- Three cards and twelve entries are lent for the old edition, three and ten for the new, and one slip.
+abbrev pub boxes : Boxes
+boxes = record { old-cards = replicate 192 0; old-entries = replicate 48 0; new-cards = replicate 192 0; new-entries = replicate 40 0 }
+
+abbrev pub slips : List ℕ
+slips = replicate 5 0
+
+-- What golavimes_plan hands back: the second board is to be solved.
+abbrev pub boxes′ : Boxes
+boxes′ =
+    record {
+      old-cards = lent true 192 (cardsOf builtIn old);
+      old-entries = lent true 48 (entriesOf builtIn old);
+      new-cards = lent true 192 (cardsOf builtIn new);
+      new-entries = lent true 40 (entriesOf builtIn new);
+    }
+
+abbrev pub slips′ : List ℕ
+slips′ = 2 ∷ 8191 ∷ 4503049871556608 ∷ 549688705024 ∷ 67100672 ∷ []
+
+-- No refusal; three boards, none blank, two with a table of their own, none old, near or twin, one to solve.
+abbrev pub answer′ : List ℕ
+answer′ = 0 ∷ 0 ∷ 0 ∷ 3 ∷ 0 ∷ 2 ∷ 0 ∷ 0 ∷ 0 ∷ 1 ∷ []
+
+-- THEOREM (proofs/Worked.antt).
+pub record WorkedPair : Type 0 where
+  pub alike : AlikeBut front oldStretch newStretch back
+  pub planned : PlanOut builtIn old new boxes slips boxes′ slips′ answer′ 0
+  pub solved : AllSolved (cardsOf builtIn old)
+  pub solved-in-front : Some (λ x. Tabled dealA x × InFront front x) (cardsOf builtIn old)
+  pub solved-in-back : Some (λ x. Tabled dealD x × InBack front oldStretch x) (cardsOf builtIn old)
+  pub listed : ListedIn dealB (getD answer′ 9 0) slips′
