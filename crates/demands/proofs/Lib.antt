@@ -1,5 +1,5 @@
-pub mod Fellowship
 pub mod Listing
+pub mod ReadAlike
 pub mod Refusing
 pub mod TableRefusing
 pub mod Worked

@@ -1,10 +1,9 @@
 -- What golavimes_plan lists: exactly the unsolved deals, each once, and inside the stretch alone.
-use Prim.Native.Nat.{ℕ, _+_, _-_, _*_, _/_, _≤_, _<_}
+use Prim.Native.Nat.{ℕ}
 use mathlib.Core.Path.{_≡_, refl, sym, ap, _∙_}
-use mathlib.Core.Bool.{true}
 use mathlib.Core.List.{List, [], _∷_, _++_}
 use native.Mathlib.Omega.{arith}
-use lib.ListN.{length, getD, drop, replicate, length-append, length-replicate}
+use lib.ListN.{length, getD}
 use Rattle.tables.specs.declared.letters.Conventions.{Conventions}
 use Rattle.reader.specs.declared.edition.ReadRefusal.{ReadRefusal}
 use Rattle.reader.specs.declared.edition.ReadRefusal.the-variants.{Overlong, BoxFull, ListFull}
@@ -19,9 +18,9 @@ use Rattle.planning.specs.Plans.{Boxes, plannedOf, IsPlanned}
 use Rattle.planning.proofs.Listed.{listed-exactly-once}
 use Rattle.planning.proofs.Inside.{listed-inside}
 use Rattle.golavimes.specs.Answers.{planNumbers, PlanOut}
-use Rattle.demands.specs.Demand1.{Refusal, refusal, ofEditions, solveIn}
-use Rattle.demands.specs.Demand3.{IsTaken, Plannable, PlannedWhenTaken, ListedExactly, ListedOnce, RestZero, ListedInside}
-use Rattle.demands.proofs.Refusing.{Says, Met, nothing, this, later, plan-met}
+use Rattle.demands.specs.Demand1.{Refusal}
+use Rattle.demands.specs.Demand3.{PlannedWhenTaken, ListedExactly, OneSlip, RestZero, InsideAlone}
+use Rattle.demands.proofs.Refusing.{Met, nothing, this, later, plan-met}
 
 -- ---- both taken, and slips enough
 
@@ -94,6 +93,7 @@ pub record Promised (c : Conventions) (old new : List ℕ) (boxes : Boxes) (slip
   pub totals : Totals
   pub planned : IsPlanned c old new boxes slips boxes′ slips′ (Listed totals)
   pub solve-told : getD answer′ 9 0 ≡ totals .solve
+  pub boards-told : getD answer′ 3 0 ≡ totals .boards
 
 pub promised : (c : Conventions) (old new : List ℕ) (boxes : Boxes) (slips : List ℕ) (boxes′ : Boxes) (slips′ answer′ : List ℕ)
     → PlanOut c old new boxes slips boxes′ slips′ answer′ 0 → Promised c old new boxes slips boxes′ slips′ answer′
@@ -104,6 +104,7 @@ promised c old new boxes slips boxes′ slips′ answer′ o =
       totals = l .totals;
       planned = record { answer = sym (l .is); boxes-after = rw (l .is) at (o .boxes-after); slips-after = rw (l .is) at (o .slips-after) };
       solve-told = ap (λ (a : List ℕ). getD a 9 0) (o .told ∙ ap planNumbers (l .is));
+      boards-told = ap (λ (a : List ℕ). getD a 3 0) (o .told ∙ ap planNumbers (l .is));
     }
 
 pub listed-exactly : ListedExactly
@@ -111,8 +112,8 @@ listed-exactly c old new boxes slips boxes′ slips′ answer′ o h =
     let p = promised c old new boxes slips boxes′ slips′ answer′ o in
     rw (p .solve-told) (listed-exactly-once c old new boxes slips boxes′ slips′ (p .totals) (p .planned) .exactly h)
 
-pub listed-once : ListedOnce
-listed-once c old new boxes slips boxes′ slips′ answer′ o h j k lj lk a b =
+pub one-slip : OneSlip
+one-slip c old new boxes slips boxes′ slips′ answer′ o h j k lj lk a b =
     let p = promised c old new boxes slips boxes′ slips′ answer′ o in
     listed-exactly-once c old new boxes slips boxes′ slips′ (p .totals) (p .planned) .once h j k (rw (p .solve-told) at lj) (rw (p .solve-told) at lk) a b
 
@@ -121,7 +122,7 @@ rest-zero c old new boxes slips boxes′ slips′ answer′ o =
     let p = promised c old new boxes slips boxes′ slips′ answer′ o in
     rw (p .solve-told) (listed-exactly-once c old new boxes slips boxes′ slips′ (p .totals) (p .planned) .rest-zero)
 
-pub inside-listed : ListedInside
-inside-listed c front middle middle′ back boxes slips boxes′ slips′ answer′ al o solved h l =
+pub inside-alone : InsideAlone
+inside-alone c front middle middle′ back boxes slips boxes′ slips′ answer′ al o solved h l =
     let p = promised c (front ++ (middle ++ back)) (front ++ (middle′ ++ back)) boxes slips boxes′ slips′ answer′ o in
     listed-inside c front middle middle′ back boxes slips boxes′ slips′ (p .totals) al (p .planned) solved h (rw (p .solve-told) at l)

@@ -1,21 +1,18 @@
 -- Each refusal on its condition, and all that is lent zero after it.
-use Prim.Native.Nat.{ℕ, zero, suc, _+_, _/_, _≤_, _<_}
+use Prim.Native.Nat.{ℕ, _/_, _<_}
 use mathlib.Core.Path.{_≡_, refl, sym, ap, _∙_}
-use mathlib.Core.Bool.{Bool, true, false, not, cond, _&&_}
+use mathlib.Core.Bool.{Bool, true, false, not, _&&_}
 use mathlib.Core.List.{List, [], _∷_, _++_}
-use mathlib.Core.Option.{Option, none, some}
-use native.Mathlib.Omega.{arith}
-use lib.Dec.{ltb, eqb, leb}
-use lib.ListN.{length, getD, drop, replicate}
-use borrow.Author.Tests.{ltb-true, ltb-false, leb-true, leb-false, eqb-true, eqb-false, eq-eqb, le-ltb, lt-ltb}
+use lib.Dec.{ltb, eqb}
+use lib.ListN.{length, getD, replicate}
+use borrow.Author.Tests.{ltb-true, eq-eqb, lt-ltb}
 use Rattle.tables.specs.declared.letters.Conventions.{Conventions}
-use Rattle.tables.proofs.Laws.{by-cases, clash, both}
+use Rattle.tables.proofs.Laws.{clash, both}
 use Rattle.reader.specs.declared.edition.ReadRefusal.{ReadRefusal}
 use Rattle.reader.specs.declared.edition.ReadRefusal.the-variants as readRefusal
 use Rattle.reader.specs.declared.edition.Reading.{Reading}
 use Rattle.reader.specs.declared.edition.Reading.the-variants.{Taken}
 use Rattle.reader.specs.declared.edition.Reading.the-variants as reading
-use Rattle.reader.specs.Store.{zeros}
 use Rattle.reader.specs.Editions.{readNumber, readCarries, isTaken, readingOf, cardsOf, entriesOf}
 use Rattle.planning.specs.declared.editions.EditionsRefusal.{EditionsRefusal}
 use Rattle.planning.specs.declared.editions.EditionsRefusal.the-variants.{Old, New}
@@ -29,7 +26,7 @@ use Rattle.planning.specs.States.{Judged}
 use Rattle.planning.specs.Slips.{totalsOf}
 use Rattle.planning.specs.Plans.{Boxes, editionsNumber, editionsCarries, editionRefused, editionsOf, areBoth, plannedOf, isListed, boardsOf, stateBy, behindBy, boardsAfter, BoxesAfter}
 use Rattle.golavimes.specs.Answers.{readingNumbers, editionsHead, headThen, planNumbers, stateNumbers, recordNumbers, boardsNumbers}
-use Rattle.demands.specs.Demand1.{Refusal, refusal, Begins, Given, GivenFrom, FirstThatHolds, boardsIn, entriesIn, Overlong, BoxFull, ListFull, ofEdition, ofEditions, solveIn, SlipsShort, BoxesZero, NoValues, ReadRefuses, PlanRefuses, StateRefuses, BehindRefuses, BoardsRefuse}
+use Rattle.demands.specs.Demand1.{Refusal, refusal, Begins, GivenFrom, FirstThatHolds, Overlong, BoxFull, ListFull, ofEdition, ofEditions, solveIn, SlipsShort, BoxesZero, NoValues, ReadRefuses, PlanRefuses, StateRefuses, BehindRefuses, BoardsRefuse}
 
 -- ---- the first whose condition holds
 

@@ -1,7 +1,7 @@
 -- Each refusal of the five functions on tables on its condition, and all that is lent zero after it.
 use Prim.Native.Nat.{ℕ, zero, suc, _+_, _≤_, _<_}
 use mathlib.Core.Path.{_≡_, refl, sym, ap, _∙_}
-use mathlib.Core.Bool.{Bool, true, false, not, cond}
+use mathlib.Core.Bool.{true, false}
 use mathlib.Core.List.{List, [], _∷_, map}
 use mathlib.Core.Option.{Option, none, some}
 use native.Mathlib.Omega.{arith}
@@ -11,10 +11,6 @@ use borrow.Author.Tests.{ltb-true, ltb-false, leb-true, leb-false, eqb-true, eqb
 use Rattle.tables.specs.declared.letters.Conventions.{Conventions}
 use Rattle.tables.specs.declared.refusal.Refusal.{Refusal as TableRefusal}
 use Rattle.tables.specs.declared.refusal.Refusal.the-variants.{Length, Digit, Fields, Declarer, Denomination, Outcome, Over, Missing}
-use Rattle.tables.specs.declared.refusal.Refusal.the-variants as tableRefusal
-use Rattle.tables.specs.declared.page.Written.{Written}
-use Rattle.tables.specs.declared.page.Written.the-variants.{Bytes}
-use Rattle.tables.specs.declared.page.Written.the-variants as written
 use Rattle.tables.specs.declared.dd.Row.{Row}
 use Rattle.tables.specs.declared.dd.Row.the-variants.{Blank, Cell, Fault}
 use Rattle.tables.specs.declared.numbers.Number.{Number}
@@ -24,11 +20,11 @@ use Rattle.tables.specs.Numbers.{numberOf}
 use Rattle.tables.specs.Letters.{seatOf, strainOf}
 use Rattle.tables.specs.Refusals.{refusalNumber, refusalCarries}
 use Rattle.tables.specs.Page.{answerOf, pageOf}
-use Rattle.tables.specs.Tables.{Reading, holds, refuses, tableRead, digitOf, firstBad, digitsReading, tableOfDigits, cellOf, resultRow, strainRow, fieldsRow, rowWith, rowOf, storedRow, missing, gathered, unless, gather, tableOfRows}
+use Rattle.tables.specs.Tables.{Reading, holds, refuses, tableRead, digitOf, firstBad, digitsReading, tableOfDigits, cellOf, resultRow, fieldsRow, rowWith, rowOf, storedRow, gathered, unless, gather, tableOfRows}
 use Rattle.tables.proofs.Laws.{by-cases, clash}
 use Rattle.golavimes.specs.Answers.{writtenNumbers, decodedNumbers}
-use Rattle.demands.specs.Demand1.{Refusal, refusal, PageFull, valueOf, digitsBefore, ofDigits, isFault, rowsBefore, field, NotThree, BadSeat, BadStrain, NoNumber, Above, InRow, cellsAfter, absent, ofRows, NoValues, WriterRefuses, DigitsRefuse, RowsRefuse}
-use Rattle.demands.proofs.Refusing.{Says, Met, nothing, this, later, met-by, met-below, first-that-holds}
+use Rattle.demands.specs.Demand1.{refusal, PageFull, valueOf, digitsBefore, ofDigits, isFault, rowsBefore, field, NotThree, BadSeat, BadStrain, NoNumber, Above, InRow, cellsAfter, absent, ofRows, NoValues, WriterRefuses, DigitsRefuse, RowsRefuse}
+use Rattle.demands.proofs.Refusing.{Says, Met, nothing, this, later, met-by, first-that-holds}
 
 -- ---- pages
 

@@ -1,22 +1,24 @@
 -- The worked pair meets every premise of demand 3, and one deal of it is listed.
-use Prim.Native.Nat.{ℕ, _<_}
-use mathlib.Core.Path.{_≡_, refl, sym}
+use Prim.Native.Nat.{ℕ}
+use mathlib.Core.Path.{_≡_, refl}
 use mathlib.Core.Bool.{true}
-use mathlib.Core.List.{List, [], _∷_}
+use mathlib.Core.List.{List, []}
 use native.Mathlib.Omega.{arith}
-use lib.ListN.{length, replicate}
 use Rattle.tables.specs.Letters.{builtIn}
-use Rattle.reader.specs.declared.deal.Hands.{Hands}
 use Rattle.reader.specs.Deals.{ones, cardCount, wholeHands, handWords, handsOfWords}
 use Rattle.reader.specs.Editions.{readingOf, cardsOf}
 use Rattle.planning.specs.Cards.{dealOf, handsOf, isWhole, hasTable, hasDeal, fits}
 use Rattle.planning.specs.States.{firstWith, stateOf, judged}
 use Rattle.planning.specs.Slips.{slipOf, slipsOf, totalsOf}
-use Rattle.planning.specs.Plans.{Boxes, editionsOf, plannedOf, isListed, lent, boardsOf}
-use Rattle.planning.specs.Demands.{Among, here, there, Tabled, Some, AllSolved}
+use Rattle.planning.specs.Plans.{editionsOf, plannedOf, isListed, lent, boardsOf}
+use Rattle.planning.specs.Demands.{Among, here, there, Tabled, Some, AllSolved, OnlyInside}
 use Rattle.planning.proofs.FoundLaws.{among-cases}
 use Rattle.golavimes.specs.Answers.{planNumbers, PlanOut}
-use Rattle.demands.specs.Worked.{old, new, dealA, dealD, boxes, slips, boxes′, slips′, answer′, front, oldStretch, WorkedPair}
+use Rattle.demands.specs.Worked.{front, oldStretch, newStretch, back, old, new, dealA, dealB, dealD, boxes, slips, boxes′, slips′, answer′, WorkedPair}
+use Rattle.demands.specs.Boards.{by-plan-old, by-plan-new}
+use Rattle.demands.specs.Demand3.{OutsideAlike}
+use Rattle.demands.proofs.ReadAlike.{outside-read-alike}
+use Rattle.demands.proofs.Listing.{inside-alone}
 use Rattle.demands.proofs.WorkedCards.{frontCard, backCard, olds, old-cards, new-cards, old-entries, new-entries, alike}
 
 told : answer′ ≡ planNumbers (plannedOf builtIn old new boxes 5)
@@ -71,3 +73,15 @@ worked-pair =
       solved-in-back = rw old-cards (record { card = backCard; among = there (there here); holds = (back-tabled, omega arith) });
       listed = record { slip = 0; below = omega arith; holds = record { north = refl; east = refl; south = refl; west = refl } };
     }
+
+-- ---- so the sentences of demand 3 hold of it: boards outside the stretch are read alike, and the listed deal is inside it alone
+
+pub worked-alike : OutsideAlike builtIn front oldStretch newStretch back (boxes′ .old-cards) (boxes′ .old-entries) (boxes′ .new-cards) (boxes′ .new-entries)
+worked-alike =
+    outside-read-alike builtIn front oldStretch newStretch back (boxes′ .old-cards) (boxes′ .old-entries) (boxes′ .new-cards) (boxes′ .new-entries)
+    (worked-pair .alike) (by-plan-old (worked-pair .planned)) (by-plan-new (worked-pair .planned)) .0
+
+pub worked-inside : OnlyInside front newStretch dealB (cardsOf builtIn new)
+worked-inside =
+    inside-alone builtIn front oldStretch newStretch back boxes slips boxes′ slips′ answer′
+    (worked-pair .alike) (worked-pair .planned) (worked-pair .solved) dealB (worked-pair .listed)

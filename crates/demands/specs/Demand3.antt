@@ -7,7 +7,7 @@
 use Prim.Native.Nat.{ℕ, _+_, _-_, _*_, _<_}
 use mathlib.Core.Path.{_≡_}
 use mathlib.Core.Logic.{_↔_}
-use mathlib.Core.List.{List, [], _∷_, _++_}
+use mathlib.Core.List.{List, [], _++_}
 use lib.ListN.{length, getD, drop, replicate}
 use Rattle.tables.specs.declared.letters.Conventions.{Conventions}
 use Rattle.reader.specs.declared.deal.Hands.{Hands}
@@ -16,8 +16,8 @@ use Rattle.reader.specs.Editions.{cardsOf}
 use Rattle.planning.specs.Cards.{cardHere}
 use Rattle.planning.specs.Plans.{Boxes}
 use Rattle.planning.specs.Demands.{slipHere, Holds, ListedIn, Unsolved, InFront, InBack, AllSolved, OnlyInside}
-use Rattle.golavimes.specs.Answers.{PlanOut}
-use Rattle.demands.specs.Demand1.{boardsIn, Overlong, BoxFull, ListFull, SlipsShort}
+use Rattle.golavimes.specs.Answers.{EditionOut, PlanOut}
+use Rattle.demands.specs.Demand1.{boardsIn, entriesIn, Overlong, BoxFull, ListFull, SlipsShort}
 use Rattle.demands.specs.Boards.{HandedBack, Board, recordStart, boardHere, ReadAlike}
 
 -- ---- "Whatever two editions hold, if both are read without refusal and slips are enough, .."
@@ -54,8 +54,8 @@ ListedExactly =
 -- ---- "It is listed once."
 
 -- THEOREM (proofs/Listing.antt). Two slips that hold its hands are one.
-abbrev pub ListedOnce : Type 0
-ListedOnce =
+abbrev pub OneSlip : Type 0
+OneSlip =
     (c : Conventions) (old new : List ℕ) (boxes : Boxes) (slips : List ℕ) (boxes′ : Boxes) (slips′ answer′ : List ℕ)
     → PlanOut c old new boxes slips boxes′ slips′ answer′ 0
     → (h : Hands) (j k : ℕ) → j < getD answer′ 9 0 → k < getD answer′ 9 0 → Holds h (slipHere j slips′) → Holds h (slipHere k slips′) → j ≡ k
@@ -88,7 +88,7 @@ pub record OutsideAlike (c : Conventions) (front middle other back cards entries
       (length (front ++ other) + (recordStart (cardHere k cards) - length (front ++ middle)))
       (boardsIn c (front ++ (other ++ back))) cards′ entries′
 
--- THEOREM (proofs/Fellowship.antt). For the boards of either edition.
+-- THEOREM (proofs/ReadAlike.antt). For the boards of either edition.
 abbrev pub OutsideReadAlike : Type 0
 OutsideReadAlike =
     (c : Conventions) (front middle middle′ back cards entries cards′ entries′ : List ℕ)
@@ -98,18 +98,27 @@ OutsideReadAlike =
     → OutsideAlike c front middle middle′ back cards entries cards′ entries′
     × OutsideAlike c front middle′ middle back cards′ entries′ cards entries
 
--- THEOREM (proofs/Fellowship.antt). The cards in the lent words are those that the definitions read from the text.
+-- THEOREM (proofs/ReadAlike.antt). The cards in the lent words are those that the definitions read from the text.
 abbrev pub CardsHanded : Type 0
 CardsHanded =
     (c : Conventions) (text cards entries : List ℕ) → HandedBack c text cards entries
     → (k : ℕ) → k < boardsIn c text → cardHere k cards ≡ getD (cardsOf c text) k []
 
+-- THEOREM (proofs/ReadAlike.antt). There are as many as the answer says: answer[3] of the text read, of the new edition when planning;
+-- golavimes_read tells the entries too.
+pub record CountsTold : Type 0 where
+  pub by-read : (c : Conventions) (text cards entries cards′ entries′ answer′ : List ℕ) → EditionOut c text cards entries cards′ entries′ answer′ 0
+      → (getD answer′ 3 0 ≡ boardsIn c text) × (getD answer′ 4 0 ≡ entriesIn c text)
+  pub by-plan : (c : Conventions) (old new : List ℕ) (boxes : Boxes) (slips : List ℕ) (boxes′ : Boxes) (slips′ answer′ : List ℕ)
+      → PlanOut c old new boxes slips boxes′ slips′ answer′ 0
+      → getD answer′ 3 0 ≡ boardsIn c new
+
 -- ---- "If, besides, each whole deal of the old one has a table on some old board, each listed deal belongs to a board of the new one inside
 -- the stretch, and to none outside."
 
 -- THEOREM (proofs/Listing.antt).
-abbrev pub ListedInside : Type 0
-ListedInside =
+abbrev pub InsideAlone : Type 0
+InsideAlone =
     (c : Conventions) (front middle middle′ back : List ℕ) (boxes : Boxes) (slips : List ℕ) (boxes′ : Boxes) (slips′ answer′ : List ℕ)
     → AlikeBut front middle middle′ back
     → PlanOut c (front ++ (middle ++ back)) (front ++ (middle′ ++ back)) boxes slips boxes′ slips′ answer′ 0

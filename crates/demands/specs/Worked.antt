@@ -3,7 +3,7 @@
 use Prim.Native.Nat.{ℕ}
 use mathlib.Core.Bool.{true}
 use mathlib.Core.List.{List, [], _∷_, _++_}
-use lib.ListN.{length, getD, replicate}
+use lib.ListN.{getD, replicate}
 use Rattle.tables.specs.Text.{ascii}
 use Rattle.tables.specs.Letters.{builtIn}
 use Rattle.reader.specs.declared.deal.Hands.{Hands}

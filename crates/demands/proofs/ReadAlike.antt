@@ -1,13 +1,13 @@
 -- Boards as they are handed back are those that the definitions read; those outside a stretch are read alike in both editions.
-use Prim.Native.Nat.{ℕ, zero, suc, _+_, _-_, _*_, _≤_, _<_}
+use Prim.Native.Nat.{ℕ, suc, _+_, _-_, _*_, _≤_, _<_}
 use mathlib.Core.Path.{_≡_, refl, sym, ap, _∙_}
-use mathlib.Core.Bool.{Bool, true, false, cond}
+use mathlib.Core.Bool.{true, false}
 use mathlib.Core.List.{List, [], _∷_, _++_, map, append-assoc}
 use native.Mathlib.Omega.{arith}
 use lib.Dec.{ltb, eqb}
-use lib.ListN.{length, getD, take, drop, replicate, length-append, length-map}
-use lib.Seq.{take-at, drop-at, drop-drop, take-append-seam}
-use borrow.Author.Tests.{ltb-true, ltb-false, eqb-true, eqb-false, ne-eqb, le-leb, lt-leb}
+use lib.ListN.{length, getD, drop, replicate, length-map}
+use lib.Seq.{take-at, drop-at}
+use borrow.Author.Tests.{ltb-true, ltb-false, eqb-true, ne-eqb, le-leb, lt-leb}
 use Rattle.tables.specs.declared.letters.Conventions.{Conventions}
 use Rattle.tables.proofs.Laws.{by-cases, clash}
 use Rattle.reader.specs.declared.tag.Span.{Span}
@@ -33,15 +33,14 @@ use Rattle.reader.proofs.Relocated.{RelocatedBoards}
 use Rattle.planning.specs.Cards.{cardHere, cardsIn}
 use Rattle.planning.specs.Slips.{cardFrom}
 use Rattle.planning.specs.Plans.{Boxes, oldReading, newReading, editionsOf, areBoth}
-use Rattle.planning.specs.Demands.{InFront, InBack}
 use Rattle.planning.proofs.BoxLaws.{cards-back, card-nth, taken-fits}
 use Rattle.planning.proofs.BothLaws.{both-are-taken, taken-short}
 use Rattle.planning.proofs.Inside.{stands-card, starts-at, ends-at}
-use Rattle.planning.proofs.Listed.{told}
-use Rattle.golavimes.specs.Answers.{readingNumbers, EditionOut, PlanOut}
+use Rattle.planning.proofs.Listed.{told, totals-told}
+use Rattle.golavimes.specs.Answers.{readingNumbers}
 use Rattle.demands.specs.Demand1.{boardsIn}
-use Rattle.demands.specs.Boards.{HandedBack, by-read, by-plan-old, by-plan-new, Board, firstEntry, recordStart, entriesFrom, boardHere, isEntryPlace, isTextPlace, countedWord, countedEntry, ReadAlike}
-use Rattle.demands.specs.Demand3.{HasFellow, OutsideAlike, OutsideReadAlike, CardsHanded}
+use Rattle.demands.specs.Boards.{HandedBack, by-read, by-plan-old, by-plan-new, Board, recordStart, entriesFrom, boardHere, isEntryPlace, isTextPlace, countedWord, countedEntry, ReadAlike}
+use Rattle.demands.specs.Demand3.{HasFellow, OutsideAlike, OutsideReadAlike, CardsHanded, CountsTold}
 use Rattle.demands.proofs.Listing.{read-number, promised}
 
 -- ---- read alike: one record's boards, moved
@@ -302,8 +301,8 @@ has-fellow c text text′ cards entries cards′ entries′ h h′ k a n a′ r 
     let there = board-held c text′ cards′ entries′ h′ k′ a′ n′ r l′ (f .is) in
     let at : (j : ℕ) (q : List ℕ) (d m : ℕ) → j < boardsIn c text′ → BoardAt c text′ j d m q → recordStart (cardHere j cards′) ≡ d =
     λ j q d m i y.
-        ap (λ (z : Board). recordStart (z .card)) (board-held c text′ cards′ entries′ h′ j d m q i y)
-        ∙ starts-at c d m q (omega (arith, RecordEnds (y .record-at), h′ .short)) in
+    ap (λ (z : Board). recordStart (z .card)) (board-held c text′ cards′ entries′ h′ j d m q i y)
+    ∙ starts-at c d m q (omega (arith, RecordEnds (y .record-at), h′ .short)) in
     record {
       fellow = k′;
       is-there = l′;
@@ -355,3 +354,21 @@ outside-read-alike c front middle middle′ back cards entries cards′ entries�
       outside c front middle middle′ back cards entries cards′ entries′ al h h′,
       outside c front middle′ middle back cards′ entries′ cards entries (AlikeOther al) h′ h,
     )
+
+-- ---- how many there are
+
+read-counts : (r : Reading) (boards entries b e : ℕ) → r ≡ Taken b e → b ≡ boards → e ≡ entries → (getD (readingNumbers r) 3 0 ≡ boards) × (getD (readingNumbers r) 4 0 ≡ entries)
+read-counts r boards entries b e q x y = rw q (x, y)
+
+pub counts-told : CountsTold
+counts-told =
+    record {
+      by-read = λ c text cards entries cards′ entries′ answer′ o.
+          let q = readingOf c text (length cards) (length entries) in
+          let t = taken-as q (reading-zero q (sym (ap (λ (a : List ℕ). getD a 0 0) (o .told)) ∙ sym (o .returned))) in
+          let f = taken-fits c text (length cards) (length entries) (t .boards) (t .count) (t .is) in
+          rw (o .told) (read-counts q (length (cardsOf c text)) (length (entriesOf c text)) (t .boards) (t .count) (t .is) (f .boards-are) (f .entries-are));
+      by-plan = λ c old new boxes slips boxes′ slips′ answer′ o.
+          let p = promised c old new boxes slips boxes′ slips′ answer′ o in
+          p .boards-told ∙ totals-told c old new boxes slips boxes′ slips′ (p .totals) (p .planned) .0;
+    }
