@@ -1,4 +1,5 @@
 pub mod Boards
+pub mod Cases
 pub mod Demand1
 pub mod Demand3
 pub mod Worked

@@ -8,8 +8,6 @@ pub mod CardLength
 pub mod CardPlaced
 pub mod CardSets
 pub mod CardShape
-pub mod CaseNumbers
-pub mod Cases
 pub mod Counts
 pub mod DealBack
 pub mod DealLaws

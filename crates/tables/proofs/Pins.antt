@@ -5,7 +5,7 @@ use mathlib.Core.Bool.{true, false}
 use mathlib.Core.List.{[], _∷_, _++_, map}
 use lib.ListN.{replicate}
 use Rattle.tables.specs.declared.dd.Row.the-variants.{Blank, Cell, Fault}
-use Rattle.tables.specs.declared.refusal.Refusal.the-variants.{Length, Digit, Fields, Declarer, Denomination, Outcome, Over, Missing}
+use Rattle.tables.specs.declared.refusal.Refusal.the-variants.{Digit, Fields, Declarer, Denomination, Over}
 use Rattle.tables.specs.declared.numbers.Number.the-variants.{Value, Bad}
 use Rattle.tables.specs.Text.{ascii, isWhite, isInside, trimmed, fields, lines, characters, firstCharacter}
 use Rattle.tables.specs.Numbers.{numberOf, signedOf, digits, decimal}
@@ -15,28 +15,10 @@ use Rattle.tables.specs.Tables.{holds, refuses, digitByte, digitOf, digi
 
 -- ---- rows
 
--- 13 tricks are taken; 14 are above 13, and 256 is no number 0 to 255.
-pub result-13 : rowOf builtIn 4 (ascii "N NT 13") ≡ Cell 0 13
-unfolding builtIn isWhite capital seatOf suitOf rowOrder cellOf fieldsRow rowOf
-result-13 = refl
-
-pub result-14 : rowOf builtIn 4 (ascii "N NT 14") ≡ Fault (Over 4)
-unfolding builtIn isWhite capital seatOf suitOf rowOrder cellOf fieldsRow rowOf
-result-14 = refl
-
-pub result-256 : rowOf builtIn 4 (ascii "N NT 256") ≡ Fault (Outcome 4)
-unfolding builtIn isWhite capital seatOf suitOf rowOrder cellOf fieldsRow rowOf
-result-256 = refl
-
 -- A plus sign is taken.
 pub result-plus : rowOf builtIn 4 (ascii "W C +9") ≡ Cell 19 9
 unfolding builtIn isWhite capital seatOf suitOf rowOrder cellOf fieldsRow rowOf
 result-plus = refl
-
--- Of the declarer the first letter counts; n is notrump.
-pub declarer-north : rowOf builtIn 4 (ascii "North n 9") ≡ Cell 0 9
-unfolding builtIn isWhite isInside capital seatOf suitOf rowOrder cellOf fieldsRow rowOf
-declarer-north = refl
 
 -- A blank row; rows of two and of four fields; no seat; no strain.
 pub blank-row : rowOf builtIn 4 (ascii " \t\r") ≡ Blank
@@ -58,11 +40,6 @@ row-no-seat = refl
 pub row-no-strain : rowOf builtIn 4 (ascii "N NTX 7") ≡ Fault (Denomination 4)
 unfolding builtIn isWhite capital seatOf suitOf rowOrder cellOf fieldsRow rowOf
 row-no-strain = refl
-
--- Nineteen cells: west's clubs are missing.
-pub nineteen-rows : tableOfRows builtIn (ascii "N NT 7\nN S 7\nN H 7\nN D 7\nN C 7\nS NT 7\nS S 7\nS H 7\nS D 7\nS C 7\nE NT 7\nE S 7\nE H 7\nE D 7\nE C 7\nW NT 7\nW S 7\nW H 7\nW D 7\n") ≡ refuses (Missing 1)
-unfolding builtIn isWhite capital seatOf suitOf rowOrder cellOf fieldsRow rowOf gathered tableOfRows
-nineteen-rows = refl
 
 -- The first row that is refused is the answer, with its number; blank rows count.
 pub first-fault : tableOfRows builtIn (ascii "N NT 7\n\nN NT 14\nN X 7\n") ≡ refuses (Over 2)
@@ -101,10 +78,6 @@ unfolding headerText
 header-two = refl
 
 -- ---- digits
-
-pub nineteen-digits : tableOfDigits (ascii "0123456789abcd01234") ≡ refuses (Length 19)
-unfolding isWhite isInside trimmed digitOf digitsReading tableOfDigits
-nineteen-digits = refl
 
 -- The character 14 is the first bad one.
 pub digit-e : tableOfDigits (ascii "0123456789abcde0123x") ≡ refuses (Digit 14)
