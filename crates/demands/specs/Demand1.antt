@@ -5,7 +5,8 @@
 -- `requires`). The second is stated here. For each C function one record says which refusals it can give, each exactly on its condition, in
 -- the order in which they are looked for, with the number carried; that 0 is answered exactly when none of the conditions holds; and
 -- that every lent word, and every value of the answer, is zero after a refusal. An answer array is: number, edition, carried number, values.
--- The statements hold for every set of letters c; the C functions read with the built-in ones. proofs/Refusing.antt proves them.
+-- The statements hold for every set of letters c; the C functions read with the built-in ones. proofs/Refusing.antt proves
+-- them, and proofs/TableRefusing.antt those of tables.
 use Prim.Native.Nat.{ℕ, suc, _/_, _<_}
 use mathlib.Core.Path.{_≡_}
 use mathlib.Core.Logic.{_↔_}
