@@ -144,6 +144,10 @@ reading-not : (r : Reading) → (getD (readingNumbers r) 0 0 ≡ 0 → ⊥) → 
 reading-not (Taken m n) h = absurd (h refl)
 reading-not (reading.Refused f) h = (refl, refl)
 
+reading-one : (r : Reading) → getD (readingNumbers r) 1 0 ≡ 0
+reading-one (Taken m n) = refl
+reading-one (reading.Refused f) = refl
+
 pub read-refuses : ReadRefuses
 read-refuses c text cards entries cards′ entries′ answer′ r o =
     let q = readingOf c text (length cards) (length entries) in
@@ -152,6 +156,7 @@ read-refuses c text cards entries cards′ entries′ answer′ r o =
     record {
       refused = first-that-holds (ofEdition 0 c text cards entries) answer′ refl
           (edition-met 0 c text cards entries answer′ [] (λ f e. reading-says q answer′ f (o .told) e) (λ m n e. nothing (reading-taken q answer′ m n (o .told) e)));
+      one-edition = rw (o .told) (reading-one q);
       returned = o .returned;
       cards-zero = λ h. o .cards-after ∙ rw (refused h .0);
       entries-zero = λ h. o .entries-after ∙ rw (refused h .0);

@@ -39,12 +39,17 @@ writer-not : (text : List ℕ) (n : ℕ) → (getD (writtenNumbers (answerOf tex
 unfolding answerOf pageOf
 writer-not text n h = by-cases (leb (length text) n) (λ t. absurd (h (rw t))) (λ t. (rw t, rw t))
 
+writer-one : (text : List ℕ) (n : ℕ) → getD (writtenNumbers (answerOf text n)) 1 0 ≡ 0
+unfolding answerOf
+writer-one text n = by-cases (leb (length text) n) (λ t. rw t) (λ t. rw t)
+
 pub writer-refuses : WriterRefuses
 writer-refuses text page page′ answer′ r o =
     let refused : (r ≡ 0 → ⊥) → (pageOf text (length page) ≡ replicate (length page) 0) × NoValues 1 (writtenNumbers (answerOf text (length page))) =
     λ h. writer-not text (length page) (λ z. h (o .returned ∙ ap (λ (l : List ℕ). getD l 0 0) (o .told) ∙ z)) in
     record {
       refused = first-that-holds (refusal 7 0 (length text) (PageFull text page) ∷ []) answer′ refl (writer-met text page answer′ (o .told));
+      one-edition = rw (o .told) (writer-one text (length page));
       returned = o .returned;
       page-zero = λ h. o .page-after ∙ refused h .0;
       no-values = λ h. rw (o .told) (refused h .1);
@@ -56,6 +61,10 @@ writer-refuses text page page′ answer′ r o =
 table-not : (t : Reading) → (getD (decodedNumbers (tableRead t .answer)) 0 0 ≡ 0 → ⊥) → tableRead t .table ≡ replicate 20 0
 table-not (holds cells) h = absurd (h refl)
 table-not (refuses f) h = refl
+
+table-one : (t : Reading) → getD (decodedNumbers (tableRead t .answer)) 1 0 ≡ 0
+table-one (holds cells) = refl
+table-one (refuses f) = refl
 
 refused-says : (t : Reading) (answer : List ℕ) (f : TableRefusal) → answer ≡ decodedNumbers (tableRead t .answer) → t ≡ refuses f → Says answer (refusalNumber f) 0 (refusalCarries f)
 refused-says t answer f e q = rw (e, q) (record { number-said = refl; edition-said = refl; carried-said = refl })
@@ -99,6 +108,7 @@ pub digits-refuse : DigitsRefuse
 digits-refuse value table′ answer′ r o =
     record {
       refused = first-that-holds (ofDigits value) answer′ refl (digits-met value answer′ (o .told));
+      one-edition = rw (o .told) (table-one (tableOfDigits value));
       returned = o .returned;
       table-zero = λ h. o .table-after ∙ table-not (tableOfDigits value) (λ z. h (o .returned ∙ ap (λ (l : List ℕ). getD l 0 0) (o .told) ∙ z));
     }
@@ -295,6 +305,7 @@ pub rows-refuse : RowsRefuse
 rows-refuse c text table′ answer′ r o =
     record {
       refused = first-that-holds (ofRows c (lines text)) answer′ refl (rows-met c text answer′ (o .told));
+      one-edition = rw (o .told) (table-one (tableOfRows c text));
       returned = o .returned;
       table-zero = λ h. o .table-after ∙ table-not (tableOfRows c text) (λ z. h (o .returned ∙ ap (λ (l : List ℕ). getD l 0 0) (o .told) ∙ z));
     }

@@ -208,6 +208,7 @@ NoValues n answer = drop 3 answer ≡ replicate n 0
 -- they write: 7, carrying the bytes needed.
 pub record WriterRefusals (text page page′ answer′ : List ℕ) (r : ℕ) : Type 0 where
   pub refused : FirstThatHolds (refusal 7 0 (length text) (PageFull text page) ∷ []) answer′
+  pub one-edition : getD answer′ 1 0 ≡ 0
   pub returned : r ≡ getD answer′ 0 0
   pub page-zero : (r ≡ 0 → ⊥) → page′ ≡ zeros page
   pub no-values : (r ≡ 0 → ⊥) → NoValues 1 answer′
@@ -218,6 +219,7 @@ WriterRefuses = (text page page′ answer′ : List ℕ) (r : ℕ) → WroteOut 
 -- THEOREM. golavimes_dd_table_from_pbn: 8, carrying the characters, then 9, carrying the index of the first bad one.
 pub record DigitsRefusals (value table′ answer′ : List ℕ) (r : ℕ) : Type 0 where
   pub refused : FirstThatHolds (ofDigits value) answer′
+  pub one-edition : getD answer′ 1 0 ≡ 0
   pub returned : r ≡ getD answer′ 0 0
   pub table-zero : (r ≡ 0 → ⊥) → table′ ≡ replicate 20 0
 
@@ -227,6 +229,7 @@ DigitsRefuse = (value table′ answer′ : List ℕ) (r : ℕ) → ReadOut (tabl
 -- THEOREM. golavimes_optimum_result_table_from_rows: for the first row that is refused 10 to 14, then 15.
 pub record RowsRefusals (c : Conventions) (text table′ answer′ : List ℕ) (r : ℕ) : Type 0 where
   pub refused : FirstThatHolds (ofRows c (lines text)) answer′
+  pub one-edition : getD answer′ 1 0 ≡ 0
   pub returned : r ≡ getD answer′ 0 0
   pub table-zero : (r ≡ 0 → ⊥) → table′ ≡ replicate 20 0
 
@@ -236,6 +239,7 @@ RowsRefuse = (c : Conventions) (text table′ answer′ : List ℕ) (r : ℕ) �
 -- THEOREM. golavimes_read: 1, 2, 3.
 pub record ReadRefusals (c : Conventions) (text cards entries cards′ entries′ answer′ : List ℕ) (r : ℕ) : Type 0 where
   pub refused : FirstThatHolds (ofEdition 0 c text cards entries) answer′
+  pub one-edition : getD answer′ 1 0 ≡ 0
   pub returned : r ≡ getD answer′ 0 0
   pub cards-zero : (r ≡ 0 → ⊥) → cards′ ≡ zeros cards
   pub entries-zero : (r ≡ 0 → ⊥) → entries′ ≡ zeros entries
