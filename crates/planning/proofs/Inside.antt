@@ -25,7 +25,7 @@ use Rattle.planning.specs.Plans.{Boxes, oldReading, newReading, bothAfte
 use Rattle.planning.specs.Demands.{Among, here, WithDeal, Tabled, None, InFront, InStretch, InBack, AllSolved, ListedInside}
 use Rattle.planning.proofs.BothLaws.{both-are-taken, taken-short}
 use Rattle.planning.proofs.FoundLaws.{numbered, among-right}
-use Rattle.planning.proofs.DealWords.{SameDeal, SameWhole}
+use Rattle.planning.proofs.CardLaws.{SameDeal, SameWhole}
 use Rattle.planning.proofs.Listed.{told, listed-exactly-once}
 
 -- ---- cards and their boards

@@ -2,7 +2,7 @@ pub mod AnswerLaws
 pub mod BoardLaws
 pub mod BothLaws
 pub mod BoxLaws
-pub mod DealWords
+pub mod CardLaws
 pub mod FoundLaws
 pub mod Inside
 pub mod LineLaws

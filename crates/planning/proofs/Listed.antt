@@ -31,7 +31,7 @@ use Rattle.planning.specs.Plans.{Boxes, oldReading, newReading, bothAfte
 use Rattle.planning.specs.Demands.{Among, WithDeal, First, slipHere, Holds, Unsolved, OfSolve, ListedOnce, ListedExactlyOnce, ListedWhenTaken, NothingListed, TotalsTold}
 use Rattle.planning.proofs.AnswerLaws.{solve-sum}
 use Rattle.planning.proofs.FoundLaws.{Tells, zero-none, found-is-first, card-among, take-card}
-use Rattle.planning.proofs.DealWords.{Handed, CardsHanded}
+use Rattle.planning.proofs.CardLaws.{Handed, CardsHanded}
 use Rattle.planning.proofs.MeaningLaws.{SaysAt, here-says, state-here, tells-deal}
 use Rattle.planning.proofs.StatesMean.{states-mean, board-at, first-solves}
 use Rattle.planning.proofs.SlipLaws.{SlipOfBoard, slip-board, board-slip, place-is, in-order, fives-length, fives-here, slips-five, slips-count}

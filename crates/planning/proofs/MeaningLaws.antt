@@ -21,7 +21,7 @@ use Rattle.planning.specs.Slips.{cardFrom}
 use Rattle.planning.specs.Demands.{WithDeal, Tabled, StateIs}
 use Rattle.planning.proofs.BoardLaws.{judged-count, past-none}
 use Rattle.planning.proofs.FoundLaws.{Tells, zero-none, none-zero, found-is-first, first-is-found, among-take, card-among}
-use Rattle.planning.proofs.DealWords.{OfHands, Handed, hands-words}
+use Rattle.planning.proofs.CardLaws.{OfHands, Handed, hands-words}
 
 -- ---- the tests say what their names say
 
@@ -32,18 +32,18 @@ deal-has x y e =
     let h = both (isWhole y) (same (dealOf x) (dealOf y)) e in
     record { whole = h .0; hands = ap handsOfWords (sym (same-is (dealOf x) (dealOf y) (h .1))) }
 
-has-deal : (x y : List ℕ) → OfHands (dealOf x) → OfHands (dealOf y) → WithDeal (handsOf x) y → hasDeal (dealOf x) y ≡ true
+has-deal : (x y : List ℕ) → OfHands x → OfHands y → WithDeal (handsOf x) y → hasDeal (dealOf x) y ≡ true
 unfolding hasDeal
 has-deal x y g h d = rw (d .whole, hands-words x y g h (sym (d .hands)), same-self (dealOf y))
 
-pub tells-deal : (x : List ℕ) (xs : List (List ℕ)) → OfHands (dealOf x) → Handed xs → Tells (fits false (dealOf x)) (WithDeal (handsOf x)) xs
+pub tells-deal : (x : List ℕ) (xs : List (List ℕ)) → OfHands x → Handed xs → Tells (fits false (dealOf x)) (WithDeal (handsOf x)) xs
 unfolding fits
 tells-deal x xs g s y a = (
   λ e. deal-has x y (both (hasDeal (dealOf x) y) true e .0),
   λ d. rw (has-deal x y g (s y a) d),
 )
 
-tells-table : (x : List ℕ) (xs : List (List ℕ)) → OfHands (dealOf x) → Handed xs → Tells (fits true (dealOf x)) (Tabled (handsOf x)) xs
+tells-table : (x : List ℕ) (xs : List (List ℕ)) → OfHands x → Handed xs → Tells (fits true (dealOf x)) (Tabled (handsOf x)) xs
 unfolding fits
 tells-table x xs g s y a = (
   λ e. let h = both (hasDeal (dealOf x) y) (hasTable y) e in record { deal = deal-has x y (h .0); table = h .1 },
@@ -55,7 +55,7 @@ tells-table x xs g s y a = (
 suc-not : (k : ℕ) → eqb (suc k) 0 ≡ false
 suc-not k = ne-eqb (suc k) 0 (λ e. omega arith)
 
-module _ (olds news earlier : List (List ℕ)) (x : List ℕ) (g : OfHands (dealOf x)) (so : Handed olds) (sn : Handed news) (se : Handed earlier) where
+module _ (olds news earlier : List (List ℕ)) (x : List ℕ) (g : OfHands x) (so : Handed olds) (sn : Handed news) (se : Handed earlier) where
   old-tells : Tells (fits true (dealOf x)) (Tabled (handsOf x)) olds
   old-tells = tells-table x olds g so
 

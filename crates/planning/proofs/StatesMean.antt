@@ -16,7 +16,7 @@ use Rattle.planning.specs.States.{firstWith, judged, stateAt, stateNumbe
 use Rattle.planning.specs.Slips.{cardFrom}
 use Rattle.planning.specs.Demands.{WithDeal, Tabled, None, FirstMeans, StatesMean, BlankOutside, TwinsOfSolve, NearOfOwn}
 use Rattle.planning.proofs.FoundLaws.{Tells, zero-none, none-zero, found-is-first, first-is-found, numbered, card-among, take-card}
-use Rattle.planning.proofs.DealWords.{Handed, CardsHanded}
+use Rattle.planning.proofs.CardLaws.{Handed, CardsHanded}
 use Rattle.planning.proofs.MeaningLaws.{SaysAt, here-says, state-none}
 
 pub states-mean : StatesMean

@@ -1,21 +1,22 @@
 -- The bounds of a board's numbers, and the lengths of its lists, after any tag.
 use Prim.Native.Nat.{ℕ, _+_, _-_, _*_, _≤_}
-use mathlib.Core.Path.{_≡_, refl, _∙_}
-use mathlib.Core.List.{List, [], _∷_}
+use mathlib.Core.Path.{_≡_, refl, sym, _∙_}
+use mathlib.Core.List.{List, [], _∷_, map}
 use mathlib.Core.Bool.{Bool, true, false, cond, _&&_, not}
 use mathlib.Core.Option.{Option, none, some}
 use native.Mathlib.Omega.{arith}
-use borrow.Author.Tests.{ltb-true, ltb-false, eqb-true}
-use lib.Dec.{eqb, ltb}
+use borrow.Author.Tests.{ltb-true, ltb-false, eqb-true, le-leb}
+use lib.Dec.{eqb, ltb, leb}
 use lib.ListN.{length, take, length-map, length-take}
 use Rattle.tables.specs.declared.letters.Conventions.{Conventions}
 use Rattle.tables.specs.declared.numbers.Number.{Number}
 use Rattle.tables.specs.declared.numbers.Number.the-variants.{Value, Bad}
 use Rattle.tables.specs.Text.{trimmed, firstCharacter, characters, front, differs}
 use Rattle.tables.specs.Numbers.{digitsFrom, within, someDigits, numberOf, raised, lowered, signedOf}
-use Rattle.tables.specs.Letters.{seatOf, strainOf, capital}
+use Rattle.tables.specs.Letters.{every, seatOf, strainOf, capital}
 use Rattle.tables.specs.Tables.{Reading, holds, refuses, digitOf, firstBad, digitsChecked, digitsReading, tableOfDigits}
 use Rattle.tables.specs.declared.refusal.Refusal.the-variants.{Length}
+use Rattle.tables.proofs.Laws.{by-cases}
 use Rattle.tables.proofs.TextLaws.{front-few}
 use Rattle.reader.specs.declared.deal.DealRead.{DealRead}
 use Rattle.reader.specs.declared.deal.DealRead.the-variants.{Dealt, NoDeal}
@@ -26,6 +27,8 @@ use Rattle.reader.specs.declared.board.Board.{Board}
 use Rattle.reader.specs.Words.{levelOf, isDoubling, trumpSuit, contractTrump, isNoSide, sameWord, isBothSides, vulnerabilityOf}
 use Rattle.reader.specs.Deals.{dealOf, handWords}
 use Rattle.reader.specs.Boards.{withNumber, withDealer, withVulnerability, withDeclarer, withResult, identityBy, dealRead, dealBy, digitsTable, tableBy, isKeptContract, contractBy, applied, noBoard}
+use Rattle.reader.specs.Kept.{TableKept}
+use Rattle.reader.proofs.Tags.{never}
 
 -- ---- numbers
 
@@ -191,37 +194,47 @@ deal-sized c k value d s = go (eqb k 4)
     go true = deal-read-sized (dealOf c value) value d s
     go false = s
 
--- A table that was read has twenty cells.
-abbrev pub Twenty : Reading → Type 0
-Twenty (holds cells) = length cells ≡ 20
-Twenty (refuses f) = Unit {0}
+-- A table that was read has twenty cells of 0 to 13.
+abbrev isTricks : ℕ → Bool
+isTricks t = leb t 13
 
-checked-twenty : (xs : List ℕ) (bad : Option ℕ) → length xs ≡ 20 → Twenty (digitsChecked xs bad)
-checked-twenty xs none e = length-map xs digitOf ∙ e
-checked-twenty xs (some i) e = tt
+record Twenty (cells : List ℕ) : Type 0 where
+  twenty : length cells ≡ 20
+  low : every isTricks cells ≡ true
 
-pub digits-twenty : (value : List ℕ) → Twenty (tableOfDigits value)
+abbrev TwentyIn : Reading → Type 0
+TwentyIn (holds cells) = Twenty cells
+TwentyIn (refuses f) = Unit {0}
+
+digits-low : (xs : List ℕ) (i : ℕ) → firstBad xs i ≡ none → every isTricks (map digitOf xs) ≡ true
+digits-low [] i e = refl
+digits-low (x ∷ xs) i e =
+    by-cases (ltb 13 (digitOf x))
+    (λ t. never (sym (rw t at e)))
+    (λ t. rw (le-leb (digitOf x) 13 (ltb-false 13 (digitOf x) t), digits-low xs (i + 1) (rw t at e)))
+
+digits-twenty : (value : List ℕ) → TwentyIn (tableOfDigits value)
 unfolding tableOfDigits digitsReading
 digits-twenty value = go (characters (trimmed value)) (eqb (length (characters (trimmed value))) 20) refl
   where
-    go : (xs : List ℕ) (t : Bool) → eqb (length xs) 20 ≡ t → Twenty (cond t (digitsChecked xs (firstBad xs 0)) (refuses (Length (length xs))))
-    go xs true e = checked-twenty xs (firstBad xs 0) (eqb-true (length xs) 20 e)
+    checked : (xs : List ℕ) (bad : Option ℕ) → firstBad xs 0 ≡ bad → length xs ≡ 20 → TwentyIn (digitsChecked xs bad)
+    checked xs none b e = record { twenty = length-map xs digitOf ∙ e; low = digits-low xs 0 b }
+    checked xs (some i) b e = tt
+
+    go : (xs : List ℕ) (t : Bool) → eqb (length xs) 20 ≡ t → TwentyIn (cond t (digitsChecked xs (firstBad xs 0)) (refuses (Length (length xs))))
+    go xs true e = checked xs (firstBad xs 0) refl (eqb-true (length xs) 20 e)
     go xs false e = tt
 
-pub record TableSized (t : TableCard) : Type 0 where
-  pub table-kind-low : t .kind ≤ 2
-  pub cells-twenty : length (t .cells) ≡ 20
+digits-kept : (r : Reading) → TwentyIn r → TableKept (digitsTable r)
+digits-kept (holds cells) e = record { kind-low = omega arith; twenty = e .twenty; cells-low = e .low; none-zero = λ k. absurd (omega arith) }
+digits-kept (refuses f) e = record { kind-low = omega arith; twenty = refl; cells-low = refl; none-zero = λ k. refl }
 
-digits-sized : (r : Reading) → Twenty r → TableSized (digitsTable r)
-digits-sized (holds cells) e = record { table-kind-low = omega arith; cells-twenty = e }
-digits-sized (refuses f) e = record { table-kind-low = omega arith; cells-twenty = refl }
-
-table-sized : (k : ℕ) (value : List ℕ) (t : TableCard) → TableSized t → TableSized (tableBy k value t)
+table-kept : (k : ℕ) (value : List ℕ) (t : TableCard) → TableKept t → TableKept (tableBy k value t)
 unfolding tableBy
-table-sized k value t s = go (eqb k 18 && not (eqb (t .kind) 2))
+table-kept k value t s = go (eqb k 18 && not (eqb (t .kind) 2))
   where
-    go : (p : Bool) → TableSized (cond p (digitsTable (tableOfDigits value)) t)
-    go true = digits-sized (tableOfDigits value) (digits-twenty value)
+    go : (p : Bool) → TableKept (cond p (digitsTable (tableOfDigits value)) t)
+    go true = digits-kept (tableOfDigits value) (digits-twenty value)
     go false = s
 
 contract-low : (c : Conventions) (k : ℕ) (value : List ℕ) (trump : ℕ) → trump ≤ 4 → contractBy c k value trump ≤ 4
@@ -237,7 +250,7 @@ contract-low c k value trump h = go (eqb k 9 && isKeptContract value)
 pub record Bounded (b : Board) : Type 0 where
   pub id-low : IdentityLow (b .id)
   pub deal-in : DealSized (b .deal)
-  pub table-in : TableSized (b .table)
+  pub table-in : TableKept (b .table)
   pub contract-in : b .contract ≤ 4
 
 pub no-board-bounded : Bounded noBoard
@@ -245,7 +258,7 @@ no-board-bounded =
     record {
       id-low = record { number-met-low = omega arith; number-low = omega arith; dealer-low = omega arith; vulnerable-low = omega arith; declarer-low = omega arith; result-met-low = omega arith; result-low = omega arith };
       deal-in = record { deal-kind-low = omega arith; words-eight = refl };
-      table-in = record { table-kind-low = omega arith; cells-twenty = refl };
+      table-in = record { kind-low = omega arith; twenty = refl; cells-low = refl; none-zero = λ k. refl };
       contract-in = omega arith;
     }
 
@@ -255,6 +268,6 @@ applied-bounded c k value place b h =
     record {
       id-low = identity-low c k value (b .id) (h .id-low);
       deal-in = deal-sized c k value (b .deal) (h .deal-in);
-      table-in = table-sized k value (b .table) (h .table-in);
+      table-in = table-kept k value (b .table) (h .table-in);
       contract-in = contract-low c k value (b .contract) (h .contract-in);
     }

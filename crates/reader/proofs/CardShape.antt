@@ -12,7 +12,7 @@ use Rattle.reader.specs.declared.board.Board.{Board}
 use Rattle.reader.specs.Store.{word}
 use Rattle.reader.specs.Boards.{recordOut}
 use Rattle.reader.specs.Editions.{headWords, valueWords, sectionWords, tailWords, backWords, cardWords, cardOf}
-use Rattle.reader.proofs.CardLength.{RecordBounded}
+use Rattle.reader.proofs.PlainBounds.{RecordBounded}
 
 -- An element of a list that stands behind another.
 get-behind : (xs ys : List ℕ) (n i : ℕ) → length xs ≡ n → getD (xs ++ ys) (n + i) 0 ≡ getD ys i 0
@@ -31,7 +31,7 @@ first-length c n r =
     let h = RecordBounded c r in
     let w = headWords n (length (recordOut c r .entries)) b in
     let g : length (w ++ b .deal .words) ≡ 18 = length-append w (b .deal .words) ∙ omega (arith, h .deal-in .words-eight) in
-    length-append (w ++ b .deal .words) (b .table .cells) ∙ omega (arith, h .table-in .cells-twenty)
+    length-append (w ++ b .deal .words) (b .table .cells) ∙ omega (arith, h .table-in .twenty)
 
 module _ (c : Conventions) (a n : ℕ) (r : List ℕ) where
   -- Words 0 and 1.

@@ -4,6 +4,7 @@ pub mod ApplyLaws
 pub mod ApplyPins
 pub mod AuctionLaws
 pub mod BoardLaws
+pub mod CardKept
 pub mod CardLength
 pub mod CardPlaced
 pub mod CardSets
@@ -27,7 +28,9 @@ pub mod Placed
 pub mod PlainAnchors
 pub mod PlainAnnotations
 pub mod PlainBounds
+pub mod PlainByTags
 pub mod PlainCalls
+pub mod PlainDeal
 pub mod PlainLaws
 pub mod PlainPins
 pub mod PlainRemarks

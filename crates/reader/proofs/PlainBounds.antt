@@ -1,9 +1,8 @@
 -- What is read of a board is in range: number, seats and result, eight hand words, and twenty cells of 0 to 13.
 use Prim.Native.Nat.{ℕ, zero, suc, _+_}
-use mathlib.Core.Path.{_≡_, refl, sym, ap, _∙_}
-use mathlib.Core.Bool.{Bool, true, false, cond, _&&_, _||_, not}
-use mathlib.Core.List.{List, [], _∷_, map}
-use mathlib.Core.Option.{Option, none as nothing, some}
+use mathlib.Core.Path.{_≡_, refl, _∙_}
+use mathlib.Core.Bool.{Bool, true, false, cond, _||_}
+use mathlib.Core.List.{List, [], _∷_}
 use native.Mathlib.Omega.{arith}
 use lib.Dec.{leb, ltb, eqb}
 use lib.ListN.{length, set, length-set}
@@ -13,11 +12,11 @@ use Rattle.tables.specs.declared.numbers.Number.{Number}
 use Rattle.tables.specs.declared.numbers.Number.the-variants.{Value, Bad}
 use Rattle.tables.specs.declared.dd.Row.{Row}
 use Rattle.tables.specs.declared.dd.Row.the-variants.{Blank as BlankRow, Cell, Fault}
-use Rattle.tables.specs.declared.refusal.Refusal.the-variants.{Length, Declarer, Denomination, Over}
-use Rattle.tables.specs.Text.{trimmed, characters, fields, firstCharacter}
+use Rattle.tables.specs.declared.refusal.Refusal.the-variants.{Declarer, Denomination, Over}
+use Rattle.tables.specs.Text.{fields, firstCharacter}
 use Rattle.tables.specs.Numbers.{numberOf}
 use Rattle.tables.specs.Letters.{every, seatOf, strainOf}
-use Rattle.tables.specs.Tables.{Reading, holds, refuses, digitOf, firstBad, digitsChecked, digitsReading, tableOfDigits, cellOf, resultRow, strainRow, fieldsRow, rowWith, rowOf, missing, gathered}
+use Rattle.tables.specs.Tables.{cellOf, resultRow, strainRow, fieldsRow, rowWith, rowOf, missing, gathered}
 use Rattle.tables.proofs.Laws.{by-cases, both}
 use Rattle.reader.specs.declared.tag.Span.{Span}
 use Rattle.reader.specs.declared.tag.Tag.{Tag as TagPlaces}
@@ -26,58 +25,20 @@ use Rattle.reader.specs.declared.line.TagReading.the-variants.{Plain, Wi
 use Rattle.reader.specs.declared.section.Open.{Open}
 use Rattle.reader.specs.declared.section.Rows.{Rows}
 use Rattle.reader.specs.declared.section.Walk.{Walk}
-use Rattle.reader.specs.declared.board.TableCard.{TableCard}
 use Rattle.reader.specs.declared.board.Board.{Board}
 use Rattle.reader.specs.declared.board.State.{State}
 use Rattle.reader.specs.Tag.{cut}
 use Rattle.reader.specs.Names.{tagNumber}
 use Rattle.reader.specs.Pieces.{Piece, Out, outAll}
-use Rattle.reader.specs.Play.{playedPiece, lastTrick}
+use Rattle.reader.specs.Play.{playedPiece}
 use Rattle.reader.specs.Auction.{calledPiece}
 use Rattle.reader.specs.Sections.{rowStored, rowedPiece, sectionData, walked, noWalk, walkedAll}
-use Rattle.reader.specs.Boards.{digitsTable, tableBy, applied, withSections, auctionClosed, playClosed, rowsClosed, tableClosed, closedBy, closed, noSpan, at, tagged, readBy, blocked, noState, recordOut}
+use Rattle.reader.specs.Boards.{rowsClosed, closedBy, closed, noSpan, at, tagged, readBy, blocked, noState, recordOut}
 use Rattle.reader.specs.Plain.{PlainBoard, plainBy, plainOf}
-use Rattle.reader.proofs.ApplyBounds.{IdentityLow, DealSized, TableSized, Bounded, no-board-bounded, applied-bounded}
-use Rattle.reader.proofs.Tags.{never}
+use Rattle.reader.specs.Kept.{TableKept}
+use Rattle.reader.proofs.ApplyBounds.{IdentityLow, DealSized, Bounded, no-board-bounded, applied-bounded}
 use Rattle.reader.proofs.Counts.{chosen}
-use Rattle.reader.proofs.PlainSteps.{RecordSteps}
-
--- ---- digits
-
-abbrev Small : List ℕ → Type 0
-Small cells = every (λ t. leb t 13) cells ≡ true
-
-digits-small : (xs : List ℕ) (i : ℕ) → firstBad xs i ≡ nothing → Small (map digitOf xs)
-digits-small [] i e = refl
-digits-small (x ∷ xs) i e =
-    by-cases (ltb 13 (digitOf x))
-    (λ t. never (sym (rw t at e)))
-    (λ t. rw (le-leb (digitOf x) 13 (ltb-false 13 (digitOf x) t), digits-small xs (i + 1) (rw t at e)))
-
-abbrev SmallIn : Reading → Type 0
-SmallIn (holds cells) = Small cells
-SmallIn (refuses f) = Unit {0}
-
-table-small : (value : List ℕ) → SmallIn (tableOfDigits value)
-unfolding tableOfDigits digitsReading
-table-small value =
-    let xs = characters (trimmed value) in
-    chosen SmallIn (eqb (length xs) 20) (digitsChecked xs (firstBad xs 0)) (refuses (Length (length xs))) (λ e. checked xs (firstBad xs 0) refl) (λ e. tt)
-  where
-    checked : (xs : List ℕ) (b : Option ℕ) → firstBad xs 0 ≡ b → SmallIn (digitsChecked xs b)
-    checked xs nothing e = digits-small xs 0 e
-    checked xs (some i) e = tt
-
-digits-cells : (r : Reading) → SmallIn r → Small (digitsTable r .cells)
-digits-cells (holds cells) h = h
-digits-cells (refuses f) h = refl
-
-by-small : (k : ℕ) (value : List ℕ) (t : TableCard) → Small (t .cells) → Small (tableBy k value t .cells)
-unfolding tableBy
-by-small k value t h =
-    chosen (λ (x : TableCard). Small (x .cells)) (eqb k 18 && not (eqb (t .kind) 2)) (digitsTable (tableOfDigits value)) t
-    (λ e. digits-cells (tableOfDigits value) (table-small value))
-    (λ e. h)
+use Rattle.reader.proofs.PlainSteps.{board-cases, closed-leaves, RecordSteps}
 
 -- ---- rows
 
@@ -156,7 +117,7 @@ section-in : (c : Conventions) (r : List ℕ) (o : Open) (trump : ℕ) → RowsI
 unfolding walkedAll noWalk
 section-in c r o trump = pieces-in c o trump noWalk (sectionData r o) (record { twenty = refl; cells-in = refl })
 
-none-missing : (l : List ℕ) → every isCell l ≡ true → missing l ≡ 0 → Small l
+none-missing : (l : List ℕ) → every isCell l ≡ true → missing l ≡ 0 → every (λ t. leb t 13) l ≡ true
 none-missing [] e m = refl
 none-missing (x ∷ xs) e m =
     let z = both (isCell x) (every isCell xs) e in
@@ -164,83 +125,64 @@ none-missing (x ∷ xs) e m =
     (λ t. let y : suc (missing xs) ≡ 0 = rw t at m in absurd (omega arith))
     (λ t. let y : leb x 13 ≡ true = rw t at (z .0) in rw (y, none-missing xs (z .1) (rw t at m)))
 
--- ---- a board
+-- ---- a section that closes
 
-pub record Bounds (b : Board) : Type 0 where
-  pub bounded : Bounded b
-  pub cells-small : every (λ t. leb t 13) (b .table .cells) ≡ true
-
-rows-bounds : (b : Board) (w : Rows) → RowsIn w → Bounds b → Bounds (rowsClosed b (gathered (w .cells .tricks)))
+rows-kept : (b : Board) (w : Rows) → RowsIn w → TableKept (b .table) → TableKept (rowsClosed b (gathered (w .cells .tricks)) .table)
 unfolding gathered
-rows-bounds b w i h =
+rows-kept b w i h =
     let l = w .cells .tricks in
     by-cases (eqb (missing l) 0)
-    (λ e.
-    rw e
-    (record {
-      bounded = record { id-low = h .bounded .id-low; deal-in = h .bounded .deal-in; table-in = record { table-kind-low = omega arith; cells-twenty = i .twenty }; contract-in = h .bounded .contract-in };
-      cells-small = none-missing l (i .cells-in) (eqb-true (missing l) 0 e);
-    }))
+    (λ e. rw e (record { kind-low = omega arith; twenty = i .twenty; cells-low = none-missing l (i .cells-in) (eqb-true (missing l) 0 e); none-zero = λ k. absurd (omega arith) }))
     (λ e. rw e h)
 
-same-bounds : (b d : Board) → d .id ≡ b .id → d .deal ≡ b .deal → d .table ≡ b .table → d .contract ≡ b .contract → Bounds b → Bounds d
-same-bounds b d i e t k h =
+closed-kept : (c : Conventions) (r : List ℕ) (s : State) → TableKept (s .board .table) → TableKept (closed c r s .state .board .table)
+unfolding closed
+closed-kept c r s h =
+    let w = walkedAll c r (s .section) (s .board .contract) in
+    chosen (λ (o : Out State). TableKept (o .state .board .table)) (eqb (s .section .kind) 0) (record { state = s; entries = [] }) (closedBy s w)
+    (λ e. h)
+    (λ e.
+    board-cases (λ b. TableKept (b .table)) (s .board) (s .section) (s .n) (w .state) h (λ a. h) (λ a. h)
+    (rows-kept (s .board) (w .state .rows) (section-in c r (s .section) (s .board .contract)) h))
+
+closed-bounded : (c : Conventions) (r : List ℕ) (s : State) → Bounded (s .board) → Bounded (closed c r s .state .board)
+closed-bounded c r s h =
+    let l = closed-leaves c r s in
     record {
-      bounded = record { id-low = rw i (h .bounded .id-low); deal-in = rw e (h .bounded .deal-in); table-in = rw t (h .bounded .table-in); contract-in = rw k (h .bounded .contract-in) };
-      cells-small = ap (λ (x : TableCard). every (λ c. leb c 13) (x .cells)) t ∙ h .cells-small;
+      id-low = rw (l .id-left) (h .id-low);
+      deal-in = rw (l .deal-left) (h .deal-in);
+      table-in = closed-kept c r s (h .table-in);
+      contract-in = rw (l .contract-left) (h .contract-in);
     }
 
-closed-bounds : (c : Conventions) (r : List ℕ) (s : State) → Bounds (s .board) → Bounds (closed c r s .state .board)
-unfolding closed
-closed-bounds c r s h =
-    let b = s .board in
-    let o = s .section in
-    let w = walkedAll c r o (b .contract) in
-    let v = w .state in
-    let a = withSections b (b .table) (record { first = s .n + 1; count = v .bidding .count; seat = o .seat; end = v .bidding .end }) (b .play) (b .trump) in
-    let p = withSections b (b .table) (b .auction) (record { first = s .n + 1; count = lastTrick (v .tricks) .state .count; seat = o .seat; end = v .tricks .end }) (b .contract) in
-    chosen (λ (x : Out State). Bounds (x .state .board)) (eqb (o .kind) 0) (record { state = s; entries = [] }) (closedBy s w) (λ e. h)
-    (λ e.
-    chosen Bounds (eqb (o .kind) 1) (auctionClosed b o (s .n) v) (cond (eqb (o .kind) 2) (playClosed b o (s .n) v) (tableClosed b v))
-    (λ f. chosen Bounds (v .bidding .any) a b (λ g. same-bounds b a refl refl refl refl h) (λ g. h))
-    (λ f.
-    chosen Bounds (eqb (o .kind) 2) (playClosed b o (s .n) v) (tableClosed b v)
-    (λ g. chosen Bounds (v .tricks .any) p b (λ k. same-bounds b p refl refl refl refl h) (λ k. h))
-    (λ g. chosen Bounds (v .rows .fault) b (rowsClosed b (gathered (v .rows .cells .tricks))) (λ k. h) (λ k. rows-bounds b (v .rows) (section-in c r o (b .contract)) h))))
+-- ---- a line
 
-applied-small : (c : Conventions) (k : ℕ) (value : List ℕ) (place : ℕ) (b : Board) → Small (b .table .cells) → Small (applied c k value place b .table .cells)
-unfolding applied
-applied-small c k value place b h = by-small k value (b .table) h
-
-tagged-bounds : (c : Conventions) (s : State) (p : ℕ) (l : List ℕ) (q : ℕ) (t : TagPlaces) (split : Span) → Bounds (s .board) → Bounds (tagged c s p l q t split .state .board)
+tagged-bounded : (c : Conventions) (s : State) (p : ℕ) (l : List ℕ) (q : ℕ) (t : TagPlaces) (split : Span) → Bounded (s .board) → Bounded (tagged c s p l q t split .state .board)
 unfolding tagged
-tagged-bounds c s p l q t split h =
-    let k = tagNumber (cut (t .name) l) in
-    let v = cut (t .value) l in
-    record { bounded = applied-bounded c k v (s .n + 2) (s .board) (h .bounded); cells-small = applied-small c k v (s .n + 2) (s .board) (h .cells-small) }
+tagged-bounded c s p l q t split h = applied-bounded c (tagNumber (cut (t .name) l)) (cut (t .value) l) (s .n + 2) (s .board) h
 
-reading-bounds : (c : Conventions) (s : State) (p : ℕ) (l : List ℕ) (q : ℕ) (t : TagReading) → Bounds (s .board) → Bounds (readBy c s p l q t .state .board)
-reading-bounds c s p l q (Plain t) h = tagged-bounds c s p l q t noSpan h
-reading-bounds c s p l q (WithComment t d) h = tagged-bounds c s p l q t noSpan h
-reading-bounds c s p l q (WithData t d) h = tagged-bounds c s p l q t (at p d) h
+reading-bounded : (c : Conventions) (s : State) (p : ℕ) (l : List ℕ) (q : ℕ) (t : TagReading) → Bounded (s .board) → Bounded (readBy c s p l q t .state .board)
+reading-bounded c s p l q (Plain t) h = tagged-bounded c s p l q t noSpan h
+reading-bounded c s p l q (WithComment t d) h = tagged-bounded c s p l q t noSpan h
+reading-bounded c s p l q (WithData t d) h = tagged-bounded c s p l q t (at p d) h
 
-blocked-board : (r : List ℕ) (s : State) (i j : ℕ) → Bounds (s .board) → Bounds (blocked r s i j .state .board)
+blocked-board : (r : List ℕ) (s : State) (i j : ℕ) → Bounded (s .board) → Bounded (blocked r s i j .state .board)
 unfolding blocked
 blocked-board r s i j h = h
 
 record Keeps (s : State) (o : Out State) : Type 0 where
-  keeps : Bounds (s .board) → Bounds (o .state .board)
+  keeps : Bounded (s .board) → Bounded (o .state .board)
 
--- THEOREM. What is read of a board is in range.
-pub BoardBounds : (c : Conventions) (r : List ℕ) → Bounds (recordOut c r .state .board)
-BoardBounds c r = steps .keeps (record { bounded = no-board-bounded; cells-small = refl })
+-- THEOREM. The board of every record has its numbers in range, eight words of hands and twenty cells of 0 to 13.
+pub RecordBounded : (c : Conventions) (r : List ℕ) → Bounded (recordOut c r .state .board)
+RecordBounded c r = steps .keeps no-board-bounded
   where
     steps : Keeps noState (recordOut c r)
     steps =
         RecordSteps c r (λ p s q o. Keeps s o)
         record {
           together = λ p q z s o k a b. record { keeps = λ h. b .keeps (a .keeps h) };
-          closing = λ p s. record { keeps = closed-bounds c r s };
+          closing = λ p s. record { keeps = closed-bounded c r s };
           idle = λ p s l i n. record { keeps = λ h. h };
           quiet = λ p s l i n b. record { keeps = λ h. h };
           opening = λ p s l i n k b. record { keeps = λ h. h };
@@ -248,18 +190,17 @@ BoardBounds c r = steps .keeps (record { bounded = no-board-bounded; cells-small
           noting = λ p s l i n b. record { keeps = blocked-board r s _ _ };
           directing = λ p s l d i n k. record { keeps = λ h. h };
           dating = λ p s l d i n k. record { keeps = λ h. h };
-          tagging = λ p s l t i k. record { keeps = reading-bounds c s p l (p + length l) t };
+          tagging = λ p s l t i k. record { keeps = reading-bounded c s p l (p + length l) t };
         }
 
 -- THEOREM. So it is on a plain board.
 pub record PlainBounded (p : PlainBoard) : Type 0 where
   pub id-in : IdentityLow (p .id)
   pub deal-in : DealSized (p .deal)
-  pub table-in : TableSized (p .table)
-  pub cells-in : every (λ t. leb t 13) (p .table .cells) ≡ true
+  pub table-in : TableKept (p .table)
 
 pub PlainBounds : (c : Conventions) (r : List ℕ) → PlainBounded (plainOf c r)
 unfolding plainOf plainBy
 PlainBounds c r =
-    let h = BoardBounds c r in
-    record { id-in = h .bounded .id-low; deal-in = h .bounded .deal-in; table-in = h .bounded .table-in; cells-in = h .cells-small }
+    let h = RecordBounded c r in
+    record { id-in = h .id-low; deal-in = h .deal-in; table-in = h .table-in }

@@ -1,8 +1,8 @@
 -- Worked examples of plain boards, by the built-in letters.
-use Prim.Native.Nat.{ℕ}
+use Prim.Native.Nat.{ℕ, _^_}
 use Prim.Native.String.{String}
 use mathlib.Core.Path.{_≡_, refl}
-use mathlib.Core.List.{[], _∷_}
+use mathlib.Core.List.{List, [], _∷_}
 use mathlib.Core.Option.{none, some}
 use Rattle.tables.specs.Text.{ascii, isWhite, isInside, trimmed}
 use Rattle.tables.specs.Letters.{builtIn, capital, seatOf, suitOf, honourOf, rankOf}
@@ -18,6 +18,7 @@ use Rattle.reader.specs.Sections.{noteAfter, stopsAt, pieceOf, sectionDa
 use Rattle.reader.specs.Boards.{identityBy, dealBy, tableBy, contractBy, isKeptValue, isKept, valuesBy, applied, openBy, closed, tagged, readTag, blocked, braced, inNote, lineOut, recordOut}
 use Rattle.reader.specs.Records.{scanned, closesRecord, recordsOf}
 use Rattle.reader.specs.Plain.{TagPair, Remark, PlainCall, PlainBoard, itemOf, withoutReturns, plainBy, plainOf, plainBoards}
+use Rattle.reader.specs.Kept.{lastKept, lastHands}
 
 -- The plain board of a record.
 unfoldable plain : String → PlainBoard
@@ -105,3 +106,17 @@ pin-play = refl
 pin-boards : plainBoards builtIn (ascii "[A \"b\"]\n\n[A \"c\"]\n") ≡ plainOf builtIn (ascii "[A \"b\"]\n\n") ∷ plainOf builtIn (ascii "[A \"c\"]\n") ∷ []
 unfolding isWhite trimmed trimSpan trimPart bracketOf endsQuoted nameOf isQuoted valueOf isComment commentOf tagLine dataBracket dataAfter splitOf isBlank hasBrace splitLine bracketLine lineKind noteAfter scanned closesRecord recordsOf plainBoards
 pin-boards = refl
+
+-- ---- what tags leave
+
+-- An unparsed deal is kept though one that parses follows it; the hands are those of the last that parses.
+abbrev deals : List TagPair
+deals = pair "Deal" "N:2... - - -" ∷ pair "Deal" "N:x" ∷ pair "Deal" "E:..3. - - -" ∷ pair "Deal" " " ∷ []
+
+pin-kept : lastKept builtIn 4 deals ≡ some (ascii "N:x")
+unfolding isWhite trimmed builtIn capital seatOf honourOf rankOf tagNames tagNumber cardsNamed handsAfter dealOf isKept
+pin-kept = refl
+
+pin-hands : lastHands builtIn deals ≡ some (record { north = 0; east = 2 ^ 14; south = 0; west = 0 })
+unfolding isWhite trimmed builtIn capital seatOf honourOf rankOf tagNames tagNumber cardsNamed handsAfter dealOf
+pin-hands = refl

@@ -1,7 +1,7 @@
 -- What a section that closes adds; and: what holds of every line of a record, and of two steps together, holds of the record.
 use Prim.Native.Nat.{ℕ, _+_, _≤_}
 use mathlib.Core.Path.{_≡_, refl, sym, _∙_}
-use mathlib.Core.Bool.{Bool, true, false}
+use mathlib.Core.Bool.{Bool, true, false, cond}
 use mathlib.Core.List.{List, [], _∷_, head-eq-of-cons-eq}
 use native.Mathlib.Omega.{arith}
 use lib.Dec.{eqb}
@@ -10,6 +10,7 @@ use borrow.Author.Tests.{eqb-true}
 use Rattle.tables.specs.declared.letters.Conventions.{Conventions}
 use Rattle.tables.specs.Text.{lead, before}
 use Rattle.tables.proofs.Laws.{by-cases, either}
+use Rattle.tables.specs.Tables.{Reading, holds, refuses, gathered}
 use Rattle.reader.specs.declared.store.Entry.{Entry}
 use Rattle.reader.specs.declared.tag.Span.{Span}
 use Rattle.reader.specs.declared.line.Line.{Line}
@@ -17,11 +18,15 @@ use Rattle.reader.specs.declared.line.Line.the-variants.{Blank, Brace, D
 use Rattle.reader.specs.declared.line.TagReading.{TagReading}
 use Rattle.reader.specs.declared.section.Open.{Open}
 use Rattle.reader.specs.declared.section.Walk.{Walk}
+use Rattle.reader.specs.declared.board.TableCard.{TableCard}
+use Rattle.reader.specs.declared.board.Section.{Section}
+use Rattle.reader.specs.declared.board.Board.{Board}
 use Rattle.reader.specs.declared.board.State.{State}
+use Rattle.reader.specs.Play.{lastTrick}
 use Rattle.reader.specs.Lines.{hasBrace, lastBrace, lineKind}
 use Rattle.reader.specs.Pieces.{Piece, Out, andThen, glue, rawLines}
 use Rattle.reader.specs.Sections.{sectionData, walked, noWalk, walkedAll}
-use Rattle.reader.specs.Boards.{lastEntries, closedBy, closed, directed, dated, readBy, readTag, noted, blocked, braced, inNote, lineBy, lineOut, linesOut, noState, recordOut}
+use Rattle.reader.specs.Boards.{withSections, rowsClosed, boardClosed, lastEntries, closedBy, closed, directed, dated, readBy, readTag, noted, blocked, braced, inNote, lineBy, lineOut, linesOut, noState, recordOut}
 use Rattle.reader.proofs.EntryLaws.{All, none, all-append, all-map, Inside, Trick, out-all}
 use Rattle.reader.proofs.AuctionLaws.{CallsInside}
 use Rattle.reader.proofs.PlayLaws.{TricksOnly, LastTrickOnly}
@@ -79,6 +84,62 @@ closed-keeps c r s =
     chosen (λ (o : Out State). Keeping s (o .state)) (eqb (s .section .kind) 0) (record { state = s; entries = [] }) (closedBy s (walkedAll c r (s .section) (s .board .contract)))
     (λ e. record { tags-kept = refl; noting-kept = refl; block-kept = refl })
     (λ e. record { tags-kept = refl; noting-kept = refl; block-kept = refl })
+
+-- It leaves what tags alone change.
+pub record Leaves (b d : Board) : Type 0 where
+  pub id-left : d .id ≡ b .id
+  pub deal-left : d .deal ≡ b .deal
+  pub values-left : d .values ≡ b .values
+  pub contract-left : d .contract ≡ b .contract
+
+pub leaves-all : (b : Board) → Leaves b b
+leaves-all b = record { id-left = refl; deal-left = refl; values-left = refl; contract-left = refl }
+
+sections-leave : (b : Board) (table : TableCard) (auction play : Section) (trump : ℕ) → Leaves b (withSections b table auction play trump)
+sections-leave b table auction play trump = record { id-left = refl; deal-left = refl; values-left = refl; contract-left = refl }
+
+rows-leave : (b : Board) (x : Reading) → Leaves b (rowsClosed b x)
+rows-leave b (holds cells) = sections-leave b (record { kind = 2; cells = cells }) (b .auction) (b .play) (b .trump)
+rows-leave b (refuses f) = leaves-all b
+
+-- What a closed section makes of a board: nothing, an auction, a play, or what its rows give.
+pub board-cases : (P : Board → Type 0) (b : Board) (o : Open) (n : ℕ) (w : Walk) → P b
+    → ((a : Section) → P (withSections b (b .table) a (b .play) (b .trump)))
+    → ((a : Section) → P (withSections b (b .table) (b .auction) a (b .contract)))
+    → P (rowsClosed b (gathered (w .rows .cells .tricks)))
+    → P (boardClosed b o n w)
+board-cases P b o n w same auction play rows = go (eqb (o .kind) 1) (eqb (o .kind) 2) (w .bidding .any) (w .tricks .any) (w .rows .fault)
+  where
+    called : Section
+    called = record { first = n + 1; count = w .bidding .count; seat = o .seat; end = w .bidding .end }
+
+    played : Section
+    played = record { first = n + 1; count = lastTrick (w .tricks) .state .count; seat = o .seat; end = w .tricks .end }
+
+    go : (x y calls cards fault : Bool)
+        → P
+        (cond x (cond calls (withSections b (b .table) called (b .play) (b .trump)) b)
+        (cond y (cond cards (withSections b (b .table) (b .auction) played (b .contract)) b)
+        (cond fault b (rowsClosed b (gathered (w .rows .cells .tricks))))))
+    go true y true cards fault = auction called
+    go true y false cards fault = same
+    go false true calls true fault = play played
+    go false true calls false fault = same
+    go false false calls cards true = same
+    go false false calls cards false = rows
+
+pub closed-leaves : (c : Conventions) (r : List ℕ) (s : State) → Leaves (s .board) (closed c r s .state .board)
+unfolding closed
+closed-leaves c r s =
+    let w = walkedAll c r (s .section) (s .board .contract) in
+    chosen (λ (o : Out State). Leaves (s .board) (o .state .board)) (eqb (s .section .kind) 0) (record { state = s; entries = [] }) (closedBy s w)
+    (λ e. leaves-all (s .board))
+    (λ e.
+    let b = s .board in
+    board-cases (Leaves b) b (s .section) (s .n) (w .state) (leaves-all b)
+    (λ a. sections-leave b (b .table) a (b .play) (b .trump))
+    (λ a. sections-leave b (b .table) (b .auction) a (b .contract))
+    (rows-leave b (gathered (w .state .rows .cells .tricks))))
 
 -- ---- steps
 

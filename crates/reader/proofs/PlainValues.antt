@@ -1,179 +1,40 @@
--- The values of a plain board can be written: each is the value of a tag.
+-- The values of a plain board: each is that of the last tag of its name whose value is kept, so it can be written, and is kept again.
 use Prim.Native.Nat.{ℕ, suc, _+_, _-_}
 use mathlib.Core.Path.{_≡_, refl, sym, ap, _∙_}
-use mathlib.Core.Bool.{Bool, true, false, cond}
+use mathlib.Core.Bool.{Bool, true, false, cond, _&&_}
 use mathlib.Core.List.{List, [], _∷_, _++_, map, append-assoc}
-use mathlib.Core.Option.{Option, some}
-use native.Mathlib.Nat.{add-zero}
+use mathlib.Core.Option.{Option, none as nothing, some}
 use native.Mathlib.Omega.{arith}
 use lib.Dec.{eqb}
-use lib.ListN.{length, length-append}
-use borrow.Author.Tests.{ne-eqb}
+use lib.ListN.{length, getD, length-append}
+use borrow.Author.Tests.{eqb-true, ne-eqb}
 use Rattle.tables.specs.declared.letters.Conventions.{Conventions}
-use Rattle.tables.specs.Text.{lead}
-use Rattle.tables.specs.Tables.{Reading, holds, refuses, gathered}
+use Rattle.tables.proofs.Laws.{by-cases, both}
 use Rattle.reader.specs.declared.store.Entry.{Entry}
-use Rattle.reader.specs.declared.tag.Span.{Span}
-use Rattle.reader.specs.declared.tag.Tag.{Tag as TagPlaces}
-use Rattle.reader.specs.declared.line.Line.the-variants.{Tag as TagOn}
-use Rattle.reader.specs.declared.line.TagReading.{TagReading}
-use Rattle.reader.specs.declared.line.TagReading.the-variants.{Plain, WithComment, WithData}
 use Rattle.reader.specs.declared.board.Values.{Values}
 use Rattle.reader.specs.declared.board.Board.{Board}
-use Rattle.reader.specs.declared.board.State.{State}
-use Rattle.reader.specs.Tag.{cut, TagInside}
 use Rattle.reader.specs.TagBytes.{goodValue}
 use Rattle.reader.specs.Names.{tagNumber}
-use Rattle.reader.specs.Lines.{lastBrace, lineKind, tagOf, linePlaced, readingPlaced}
-use Rattle.reader.specs.Pieces.{Out, andThen, entry}
-use Rattle.reader.specs.Play.{lastTrick}
-use Rattle.reader.specs.Sections.{walkedAll}
-use Rattle.reader.specs.Boards.{valuePut, isKept, valuesBy, applied, withSections, auctionClosed, playClosed, rowsClosed, tableClosed, closedBy, closed, noSpan, at, tagged, directed, dated, readBy, blocked, noState, recordOut}
-use Rattle.reader.specs.Plain.{bytesOf, itemOf, itemsOf, valueAt, valueList, plainList, plainBy, plainOf}
+use Rattle.reader.specs.Boards.{valuePut, isKept, valuesBy, applied, noBoard, recordOut}
+use Rattle.reader.specs.Plain.{bytesOf, itemOf, itemsOf, TagPair, valueAt, plainList, plainBy, plainOf}
+use Rattle.reader.specs.Kept.{after, keptBy, lastKept, valueNumbers, ValuesKept}
 use Rattle.reader.proofs.EntryLaws.{All, none, one, all-map}
 use Rattle.reader.proofs.Tags.{never, some-inj}
-use Rattle.reader.proofs.TagsBack.{Good}
-use Rattle.reader.proofs.Inside.{LineInside}
-use Rattle.reader.proofs.SectionLaws.{LineAt}
-use Rattle.reader.proofs.BoardLaws.{Counts, closed-counts}
 use Rattle.reader.proofs.Counts.{chosen}
-use Rattle.reader.proofs.PlainLaws.{PartPlaced}
-use Rattle.reader.proofs.PlainTags.{line-feed, LineGood}
+use Rattle.reader.proofs.PlainTags.{Writable, PlainWritable}
 use Rattle.reader.proofs.PlainWords.{value-none}
-use Rattle.reader.proofs.PlainSteps.{RecordSteps}
+use Rattle.reader.proofs.PlainByTags.{FollowsTags}
 
--- k is 0, or the k-th of the entries es of the record r, from 1, is a value that can be written.
-data Names (r : List ℕ) (es : List Entry) (k : ℕ) : Type 0 where
-  nowhere : k ≡ 0 → Names r es k
-  there : (xs : List Entry) (e : Entry) (ys : List Entry) → es ≡ xs ++ e ∷ ys → k ≡ length xs + 1 → goodValue (bytesOf r e) ≡ true → Names r es k
+-- ---- a value and its entry
 
-names-more : {r : List ℕ} {es : List Entry} {k : ℕ} (fs : List Entry) → Names r es k → Names r (es ++ fs) k
-names-more fs (nowhere e) = nowhere e
+-- k is 0 and there is no value v, or v is the bytes of the k-th of the entries es of the record r, from 1.
+data Names (r : List ℕ) (es : List Entry) (k : ℕ) (v : Option (List ℕ)) : Type 0 where
+  nowhere : k ≡ 0 → v ≡ nothing → Names r es k v
+  there : (xs : List Entry) (e : Entry) (ys : List Entry) → es ≡ xs ++ e ∷ ys → k ≡ length xs + 1 → v ≡ some (bytesOf r e) → Names r es k v
+
+names-more : {r : List ℕ} {es : List Entry} {k : ℕ} {v : Option (List ℕ)} (fs : List Entry) → Names r es k v → Names r (es ++ fs) k v
+names-more fs (nowhere e n) = nowhere e n
 names-more fs (there xs e ys h n g) = there xs e (ys ++ fs) (rw h (append-assoc xs (e ∷ ys) fs)) n g
-
-all-more : {r : List ℕ} {es : List Entry} {ks : List ℕ} (fs : List Entry) → All (Names r es) ks → All (Names r (es ++ fs)) ks
-all-more fs a = all-map (λ k i. names-more fs i) a
-
--- ---- a section that closes leaves the values
-
-closed-values : (c : Conventions) (r : List ℕ) (s : State) → closed c r s .state .board .values ≡ s .board .values
-unfolding closed
-closed-values c r s =
-    let b = s .board in
-    let w = walkedAll c r (s .section) (b .contract) in
-    let v = w .state in
-    let o = s .section in
-    let P : Board → Type 0 = λ x. x .values ≡ b .values in
-    chosen (λ (o : Out State). o .state .board .values ≡ b .values) (eqb (o .kind) 0) (record { state = s; entries = [] }) (closedBy s w) (λ e. refl)
-    (λ e.
-    chosen P (eqb (o .kind) 1) (auctionClosed b o (s .n) v) (cond (eqb (o .kind) 2) (playClosed b o (s .n) v) (tableClosed b v))
-    (λ f.
-    chosen P (v .bidding .any)
-    (withSections b (b .table) (record { first = s .n + 1; count = v .bidding .count; seat = o .seat; end = v .bidding .end }) (b .play) (b .trump)) b (λ g. refl) (λ g. refl))
-    (λ f.
-    chosen P (eqb (o .kind) 2) (playClosed b o (s .n) v) (tableClosed b v)
-    (λ g.
-    chosen P (v .tricks .any)
-    (withSections b (b .table) (b .auction) (record { first = s .n + 1; count = lastTrick (v .tricks) .state .count; seat = o .seat; end = v .tricks .end }) (b .contract)) b (λ h. refl) (λ h. refl))
-    (λ g. chosen P (v .rows .fault) b (rowsClosed b (gathered (v .rows .cells .tricks))) (λ h. refl) (λ h. rows-values b (gathered (v .rows .cells .tricks))))))
-  where
-    rows-values : (b : Board) (g : Reading) → rowsClosed b g .values ≡ b .values
-    rows-values b (holds cells) = refl
-    rows-values b (refuses f) = refl
-
--- ---- a step
-
--- es stand before the step, and the state's values name some of them.
-record Holding (r : List ℕ) (s : State) (o : Out State) : Type 0 where
-  counts : Counts s o
-  holds-on : (es : List Entry) → length es ≡ s .n → All (Names r es) (valueList (s .board .values)) → All (Names r (es ++ o .entries)) (valueList (o .state .board .values))
-
-same-values : (r : List ℕ) (s : State) (o : Out State) → Counts s o → o .state .board .values ≡ s .board .values → Holding r s o
-same-values r s o n e = record { counts = n; holds-on = λ es h a. kept (o .state .board .values) e (all-more (o .entries) a) }
-  where
-    kept : {xs : List Entry} (v : Values) → v ≡ s .board .values → All (Names r xs) (valueList (s .board .values)) → All (Names r xs) (valueList v)
-    kept v e a = rw e a
-
-put-names : (r : List ℕ) (es : List Entry) (k place : ℕ) (v : Values) → Names r es place → All (Names r es) (valueList v) → All (Names r es) (valueList (valuePut k place v))
-put-names r es k place v p (one a (one b (one c (one d (one e (one f (one g (one h (one i (one j (one l (one m none)))))))))))) =
-    let low : (t : Bool) (x : ℕ) → Names r es x → Names r es (cond t place x) = λ t x z. chosen (λ y. Names r es y) t place x (λ u. p) (λ u. z) in
-    one (low (eqb k 1) (v .id) a)
-    (one (low (eqb k 5) (v .event) b)
-    (one (low (eqb k 6) (v .site) c)
-    (one (low (eqb k 7) (v .date) d)
-    (one (low (eqb k 9) (v .contract) e)
-    (one (low (eqb k 11) (v .north) f)
-    (one (low (eqb k 12) (v .east) g)
-    (one (low (eqb k 13) (v .south) h) (one (low (eqb k 14) (v .west) i) (one (low (eqb k 4) (v .deal) j) (one (low (eqb k 20) (v .score) l) (one (low (eqb k 21) (v .par) m) none)))))))))))
-
-module _ (c : Conventions) (r : List ℕ) (p : ℕ) (s : State) (l : List ℕ) (i : LineAt r p l) where
-  tagged-holds : (q : ℕ) (t : TagPlaces) (split : Span) → TagInside t (length l) → Good (cut (t .name) l) (cut (t .value) l) → Holding r s (tagged c s p l q t split)
-  unfolding tagged applied valuesBy
-  tagged-holds q t split j g =
-      let k = tagNumber (cut (t .name) l) in
-      let value = cut (t .value) l in
-      let x = entry 1 (p + t .name .start) (t .name .len) 0 in
-      let y = entry 2 (p + t .value .start) (t .value .len) 0 in
-      let good : goodValue (bytesOf r y) ≡ true = ap goodValue (PartPlaced r l p (t .value .start) (t .value .len) (i .bytes) (j .value-inside)) ∙ g .1 in
-      record {
-        counts = refl;
-        holds-on = λ es h a.
-            let old = all-more (x ∷ y ∷ []) a in
-            let n : s .n + 2 ≡ length (es ++ x ∷ []) + 1 = rw length-append (omega arith) in
-            let new : Names r (es ++ x ∷ y ∷ []) (s .n + 2) = there (es ++ x ∷ []) y [] (sym (append-assoc es (x ∷ []) (y ∷ []))) n good in
-            chosen (λ (v : Values). All (Names r (es ++ x ∷ y ∷ [])) (valueList v)) (isKept c k value) (valuePut k (s .n + 2) (s .board .values)) (s .board .values)
-            (λ e. put-names r (es ++ x ∷ y ∷ []) k (s .n + 2) (s .board .values) new old)
-            (λ e. old);
-      }
-
-together-holds : (r : List ℕ) (s : State) (o k : Out State) → Holding r s o → Holding r (o .state) k → Holding r s (andThen o k)
-together-holds r s o k a b =
-    record {
-      counts = b .counts ∙ rw length-append (omega (arith, a .counts));
-      holds-on = λ es h z.
-          let n : length (es ++ o .entries) ≡ o .state .n = rw length-append (omega (arith, a .counts)) in
-          moved (append-assoc es (o .entries) (k .entries)) (b .holds-on (es ++ o .entries) n (a .holds-on es h z));
-    }
-  where
-    moved : {xs ys : List Entry} {ks : List ℕ} → xs ≡ ys → All (Names r xs) ks → All (Names r ys) ks
-    moved e z = rw e at z
-
-module _ (c : Conventions) (r : List ℕ) (p : ℕ) (s : State) (l : List ℕ) (i : LineAt r p l) where
-  reading-holds : (q : ℕ) (t : TagReading) → readingPlaced t (length l) → Good (cut (tagOf t .name) l) (cut (tagOf t .value) l) → Holding r s (readBy c s p l q t)
-  reading-holds q (Plain t) j g = tagged-holds c r p s l i q t noSpan j g
-  reading-holds q (WithComment t d) j g =
-      let o = tagged c s p l q t noSpan in
-      together-holds r s o (directed (o .state) p d) (tagged-holds c r p s l i q t noSpan (j .0) g) (same-values r (o .state) (directed (o .state) p d) refl refl)
-  reading-holds q (WithData t d) j g =
-      let o = tagged c s p l q t (at p d) in
-      together-holds r s o (dated (o .state) p d) (tagged-holds c r p s l i q t (at p d) (j .0) g) (same-values r (o .state) (dated (o .state) p d) refl refl)
-
-  line-holds : (t : TagReading) → lineKind l ≡ TagOn t → Holding r s (readBy c s p l (p + length l) t)
-  line-holds t k =
-      let z : linePlaced (TagOn t) (length l) = rw k at (LineInside l) in
-      reading-holds (p + length l) t z (LineGood l t (line-feed r p l i) k)
-
-blocked-holds : (r : List ℕ) (s : State) (i j : ℕ) → Holding r s (blocked r s i j)
-unfolding blocked
-blocked-holds r s i j = same-values r s (blocked r s i j) refl refl
-
-record-holds : (c : Conventions) (r : List ℕ) → Holding r noState (recordOut c r)
-record-holds c r =
-    RecordSteps c r (λ p s q o. Holding r s o)
-    record {
-      together = λ p q z s o k a b. together-holds r s o k a b;
-      closing = λ p s. same-values r s (closed c r s) (closed-counts c r s) (closed-values c r s);
-      idle = λ p s l i n. same-values r s (record { state = s; entries = [] }) (sym (add-zero (s .n))) refl;
-      quiet = λ p s l i n b. same-values r s (record { state = s; entries = [] }) (sym (add-zero (s .n))) refl;
-      opening = λ p s l i n k b. same-values r s (record { state = _; entries = [] }) (sym (add-zero (s .n))) refl;
-      bracing = λ p s l i n k b. blocked-holds r s (p + length (lead l) + 1) (p + lastBrace l);
-      noting = λ p s l i n b. blocked-holds r s (s .block) (p + lastBrace l);
-      directing = λ p s l d i n k. same-values r s (directed s p d) refl refl;
-      dating = λ p s l d i n k. same-values r s (dated s p d) refl refl;
-      tagging = λ p s l t i k. line-holds c r p s l i t k;
-    }
-
--- ---- the plain board
 
 value-there : (r : List ℕ) (xs : List Entry) (e : Entry) (ys : List Entry) → valueAt (length xs + 1) (itemsOf r (xs ++ e ∷ ys)) ≡ some (bytesOf r e)
 unfolding itemOf
@@ -183,30 +44,108 @@ value-there r (x ∷ xs) e ys =
     let m : suc (length xs) + 1 - 1 ≡ length xs + 1 = omega arith in
     rw (n, m) (value-there r xs e ys)
 
+names-value : (r : List ℕ) (es : List Entry) (k : ℕ) (v : Option (List ℕ)) → Names r es k v → valueAt k (itemsOf r es) ≡ v
+names-value r es k v (nowhere e n) = ap (λ (j : ℕ). valueAt j (itemsOf r es)) e ∙ value-none (itemsOf r es) ∙ sym n
+names-value r es k v (there xs e ys h n g) =
+    ap (λ (j : ℕ). valueAt j (itemsOf r es)) n ∙ ap (λ (l : List Entry). valueAt (length xs + 1) (itemsOf r l)) h ∙ value-there r xs e ys ∙ sym g
+
+-- ---- a value and its tags
+
+-- One of the values, by its word w and the number k of its tag.
+module _ (c : Conventions) (r : List ℕ) (k : ℕ) (w : Values → ℕ) (puts : (j place : ℕ) (v : Values) → w (valuePut j place v) ≡ cond (eqb j k) place (w v)) where
+  word-tag : (es : List Entry) (b : Board) (v : Option (List ℕ)) (x y : Entry) (name value : List ℕ) → bytesOf r y ≡ value → Names r es (w (b .values)) v
+      → Names r (es ++ x ∷ y ∷ []) (w (applied c (tagNumber name) value (length es + 2) b .values)) (keptBy c k v (record { name = name; value = value }))
+  unfolding applied valuesBy
+  word-tag es b v x y name value e i =
+      let j = tagNumber name in
+      let old = names-more (x ∷ y ∷ []) i in
+      let n : length es + 2 ≡ length (es ++ x ∷ []) + 1 = rw length-append (omega arith) in
+      let new : Names r (es ++ x ∷ y ∷ []) (length es + 2) (some value) = there (es ++ x ∷ []) y [] (sym (append-assoc es (x ∷ []) (y ∷ []))) n (ap some (sym e)) in
+      by-cases (eqb j k)
+      (λ t.
+      let z : j ≡ k = eqb-true j k t in
+      let m : eqb k k ≡ true = rw z at t in
+      by-cases (isKept c k value)
+      (λ u. rw (z, u, puts k (length es + 2) (b .values), m) new)
+      (λ u. rw (z, u, m) old))
+      (λ t. rw t (kept (length es + 2) (isKept c j value) (puts j (length es + 2) (b .values) ∙ rw t) old))
+    where
+      kept : {xs : List Entry} {o : Option (List ℕ)} (p : ℕ) (u : Bool) → w (valuePut (tagNumber name) p (b .values)) ≡ w (b .values) → Names r xs (w (b .values)) o → Names r xs (w (cond u (valuePut (tagNumber name) p (b .values)) (b .values))) o
+      kept p true q a = rw q a
+      kept p false q a = a
+
+  -- The value is that of the last tag of its number whose value is kept.
+  value-last : w (noBoard .values) ≡ 0 → valueAt (w (recordOut c r .state .board .values)) (itemsOf r (recordOut c r .entries)) ≡ lastKept c k (plainOf c r .tags)
+  value-last z =
+      names-value r (recordOut c r .entries) (w (recordOut c r .state .board .values)) (lastKept c k (plainOf c r .tags))
+      (FollowsTags c r (λ es b v. Names r es (w (b .values)) v) (keptBy c k)
+      (record {
+        longer = λ es fs b v i. names-more fs i;
+        left = λ es b d v l i. moved (ap w (l .values-left)) i;
+        by-tag = word-tag;
+      })
+      nothing (nowhere z refl))
+    where
+      moved : {es : List Entry} {v : Option (List ℕ)} {i j : ℕ} → j ≡ i → Names r es i v → Names r es j v
+      moved e a = rw e a
+
+-- THEOREM. Each value of a plain board is that of the last tag of its name whose value is kept.
+pub PlainValuesKept : (c : Conventions) (r : List ℕ) → ValuesKept c (plainOf c r)
+unfolding plainOf plainBy
+PlainValuesKept c r =
+    record {
+      values-are =
+          first (value-last c r 1 (λ v. v .id) (λ j p v. refl) refl)
+          (first (value-last c r 5 (λ v. v .event) (λ j p v. refl) refl)
+          (first (value-last c r 6 (λ v. v .site) (λ j p v. refl) refl)
+          (first (value-last c r 7 (λ v. v .date) (λ j p v. refl) refl)
+          (first (value-last c r 9 (λ v. v .contract) (λ j p v. refl) refl)
+          (first (value-last c r 11 (λ v. v .north) (λ j p v. refl) refl)
+          (first (value-last c r 12 (λ v. v .east) (λ j p v. refl) refl)
+          (first (value-last c r 13 (λ v. v .south) (λ j p v. refl) refl)
+          (first (value-last c r 14 (λ v. v .west) (λ j p v. refl) refl)
+          (first (value-last c r 4 (λ v. v .deal) (λ j p v. refl) refl)
+          (first (value-last c r 20 (λ v. v .score) (λ j p v. refl) refl)
+          (first (value-last c r 21 (λ v. v .par) (λ j p v. refl) refl) refl)))))))))));
+    }
+  where
+    first : {A : Type 0} {x y : A} {xs ys : List A} → x ≡ y → xs ≡ ys → x ∷ xs ≡ y ∷ ys
+    first e f = cc
+
+-- The Deal value that is kept unparsed.
+pub DealValue : (c : Conventions) (r : List ℕ) → plainOf c r .values .deal ≡ lastKept c 4 (plainOf c r .tags)
+DealValue c r = ap (λ (l : List (Option (List ℕ))). getD l 9 nothing) (PlainValuesKept c r .values-are)
+
+-- ---- what holds of the kept values of tags
+
+-- What holds of no value, and of the value of each tag where it is kept, holds of the last.
+pub kept-all : (c : Conventions) (k : ℕ) (Q : Option (List ℕ) → Type 0) {ts : List TagPair} → All (λ t. isKept c k (t .value) ≡ true → Q (some (t .value))) ts → (v : Option (List ℕ)) → Q v → Q (after (keptBy c k) v ts)
+kept-all c k Q none v q = q
+kept-all c k Q (one {x = t} h a) v q =
+    kept-all c k Q a (keptBy c k v t)
+    (chosen Q (eqb (tagNumber (t .name)) k && isKept c k (t .value)) (some (t .value)) v (λ e. h (both (eqb (tagNumber (t .name)) k) (isKept c k (t .value)) e .1)) (λ e. q))
+
 -- A value that is absent or can be written.
 pub record ValueGood (v : Option (List ℕ)) : Type 0 where
   pub value-good : (b : List ℕ) → v ≡ some b → goodValue b ≡ true
 
-named-good : (r : List ℕ) (es : List Entry) (k : ℕ) → Names r es k → ValueGood (valueAt k (itemsOf r es))
-named-good r es k (nowhere e) = record { value-good = λ b h. never (sym (value-none (itemsOf r es)) ∙ ap (λ (j : ℕ). valueAt j (itemsOf r es)) (sym e) ∙ h) }
-named-good r es k (there xs e ys h n g) =
-    record {
-      value-good = λ b q.
-          let z : valueAt k (itemsOf r es) ≡ some (bytesOf r e) = ap (λ (j : ℕ). valueAt j (itemsOf r es)) n ∙ ap (λ (l : List Entry). valueAt (length xs + 1) (itemsOf r l)) h ∙ value-there r xs e ys in
-          let w : bytesOf r e ≡ b = some-inj (sym z ∙ q) in
-          ap goodValue (sym w) ∙ g;
-    }
-
-all-named : (r : List ℕ) (es : List Entry) {ks : List ℕ} → All (Names r es) ks → All ValueGood (map (λ k. valueAt k (itemsOf r es)) ks)
-all-named r es none = none
-all-named r es (one {x = k} n a) = one (named-good r es k n) (all-named r es a)
-
-absent : {r : List ℕ} {ks : List ℕ} → All (Names r []) ks → All (Names r []) (0 ∷ ks)
-absent a = one (nowhere refl) a
-
 -- THEOREM. Every value of a plain board can be written.
 pub PlainValuesGood : (c : Conventions) (r : List ℕ) → All ValueGood (plainList (plainOf c r .values))
-unfolding plainOf plainBy
-PlainValuesGood c r =
-    let first : All (Names r []) (valueList (noState .board .values)) = absent (absent (absent (absent (absent (absent (absent (absent (absent (absent (absent (absent none))))))))))) in
-    all-named r (recordOut c r .entries) (record-holds c r .holds-on [] refl first)
+PlainValuesGood c r = rw (PlainValuesKept c r .values-are) (each valueNumbers)
+  where
+    good : (k : ℕ) → ValueGood (lastKept c k (plainOf c r .tags))
+    good k =
+        kept-all c k ValueGood (all-map (λ t i u. record { value-good = λ b e. ap goodValue (sym (some-inj e)) ∙ i .writable .1 }) (PlainWritable c r)) nothing
+        (record { value-good = λ b e. never e })
+
+    each : (ks : List ℕ) → All ValueGood (map (λ k. lastKept c k (plainOf c r .tags)) ks)
+    each [] = none
+    each (k ∷ ks) = one (good k) (each ks)
+
+-- A value that was kept is kept again.
+pub kept-again : (c : Conventions) (k : ℕ) (ts : List TagPair) (v : List ℕ) → lastKept c k ts ≡ some v → isKept c k v ≡ true
+kept-again c k ts v e = kept-all c k (λ o. (b : List ℕ) → o ≡ some b → isKept c k b ≡ true) (each ts) nothing (λ b u. never u) v e
+  where
+    each : (us : List TagPair) → All (λ t. isKept c k (t .value) ≡ true → (b : List ℕ) → some (t .value) ≡ some b → isKept c k b ≡ true) us
+    each [] = none
+    each (t ∷ us) = one {x = t} (λ u b q. ap (isKept c k) (sym (some-inj q)) ∙ u) (each us)

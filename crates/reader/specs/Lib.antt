@@ -14,3 +14,4 @@ pub mod TagBytes
 pub mod Editions
 pub mod Fellows
 pub mod Plain
+pub mod Kept
