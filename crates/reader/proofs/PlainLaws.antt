@@ -1,4 +1,4 @@
--- The plain board: each place is where its bytes stand; read alike gives the same plain board.
+-- The plain board: each place is where its bytes stand; the same board and entries, with the same bytes, are the same plain board.
 use Prim.Native.Nat.{ℕ, _+_, _≤_}
 use mathlib.Core.Path.{_≡_, refl, sym, ap, _∙_}
 use mathlib.Core.List.{List, [], _∷_, _++_, map, append-assoc, map-append, head-eq-of-cons-eq, tail-eq-of-cons-eq}
@@ -107,18 +107,20 @@ RecordHolds c text pre r post h e = go text (flat pre) (flat post ++ leftOver fr
     go : (t p q : List ℕ) → t ≡ p ++ (r ++ q) → length t ≤ 16777215 → map (bytesAt t) (map (entryWords (length p)) (recordOut c r .entries)) ≡ map (bytesOf r) (recordOut c r .entries)
     go t p q z k = rw z (entries-hold p r q (recordOut c r .entries) (rw z at k) (EntriesPlaced c r))
 
--- ---- read alike
+-- ---- the same plain board
 
--- THEOREM. Two records that are read alike and hold the same bytes in every entry have the same plain board.
+-- Entries that hold the same bytes in two records.
 items-alike : (r r′ : List ℕ) (es : List Entry) → map (bytesOf r) es ≡ map (bytesOf r′) es → itemsOf r es ≡ itemsOf r′ es
 unfolding itemOf
 items-alike r r′ [] h = refl
 items-alike r r′ (e ∷ es) h = rw (head-eq-of-cons-eq h, items-alike r r′ es (tail-eq-of-cons-eq h))
 
-pub ReadAlike : (c : Conventions) (r r′ : List ℕ) → recordOut c r .state .board ≡ recordOut c r′ .state .board → recordOut c r .entries ≡ recordOut c r′ .entries
+-- THEOREM. Two records that come to the same board and the same entries, with places from their starts, and hold the same bytes in every
+-- entry have the same plain board. The board is the reader's own, with what no card has; document 01's "read alike" is about cards.
+pub SamePlain : (c : Conventions) (r r′ : List ℕ) → recordOut c r .state .board ≡ recordOut c r′ .state .board → recordOut c r .entries ≡ recordOut c r′ .entries
     → map (bytesOf r) (recordOut c r .entries) ≡ map (bytesOf r′) (recordOut c r .entries) → plainOf c r ≡ plainOf c r′
 unfolding plainOf
-ReadAlike c r r′ b e h =
+SamePlain c r r′ b e h =
     rw (items-alike r r′ (recordOut c r .entries) h, e, b)
 
 plain-parts : (c : Conventions) (text f m b : List ℕ) → recordsOf text ≡ recordsOf f ++ (recordsOf m ++ recordsOf b)
