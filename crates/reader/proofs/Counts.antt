@@ -11,7 +11,7 @@ use borrow.Author.Tests.{ltb-true, ltb-false}
 use Rattle.tables.specs.declared.letters.Conventions.{Conventions}
 use Rattle.tables.specs.Text.{lead, trimStart, before, firstCharacter}
 use Rattle.tables.specs.Letters.{seatOf}
-use Rattle.tables.proofs.Laws.{by-cases, stop}
+use Rattle.tables.proofs.Laws.{by-cases, clash, stop}
 use Rattle.reader.specs.declared.tag.Span.{Span}
 use Rattle.reader.specs.declared.tag.Tag.{Tag as TagPlaces}
 use Rattle.reader.specs.declared.tag.TagLine.{TagLine}
@@ -29,9 +29,9 @@ use Rattle.reader.specs.declared.store.Entry.{Entry}
 use Rattle.reader.specs.Store.{flat}
 use Rattle.reader.specs.Tag.{cut, trimPart, withPair, withData, dataAfter, splitAt, splitOf, dataBracket, pairOf, tagLine}
 use Rattle.reader.specs.Names.{tagNumber}
-use Rattle.reader.specs.Lines.{isBlank, hasBrace, lastBrace, splitAs, splitLine, bracketAs, bracketLine, kindBy, lineKind, linePlaced, readingPlaced}
+use Rattle.reader.specs.Lines.{isBlank, hasBrace, lastBrace, splitAs, splitLine, bracketAs, bracketLine, kindBy, lineKind, opensBoard, linePlaced, readingPlaced}
 use Rattle.reader.specs.Pieces.{Piece, Out, entry, rawLines}
-use Rattle.reader.specs.Sections.{noteAfter, stopsAt, dataPiece, pieceOf, dataIn, splitPiece, sectionData, walked, noWalk, walkedAll}
+use Rattle.reader.specs.Sections.{noteAfter, closesSection, stopsAt, dataPiece, pieceOf, dataIn, splitPiece, sectionData, walked, noWalk, walkedAll}
 use Rattle.reader.specs.Boards.{lastEntries, closed, noSpan, at, seatOpen, openBy, tagged, dated, readTag, blocked, braced, inNote, lineBy, lineOut, linesOut, noState, recordOut, isAllWhite}
 use Rattle.reader.specs.Records.{recordsOf}
 use Rattle.reader.specs.Editions.{cardsFrom, entriesFrom, cardsOf, entriesOf}
@@ -138,14 +138,14 @@ open-most c r k value q split =
     (λ f. rw (e, f) (seat-most r 2 (seatOf c (firstCharacter value)) q split))
     (λ f. by-cases (eqb k 19) (λ g. rw (e, f, g) (kind-most r 3 4 q split)) (λ g. rw (e, f, g) (omega arith))))
 
--- ---- data split off a tag's line stands behind a byte at least
+-- ---- data split off a tag's line is not empty, and stands behind a byte at least
 
-abbrev readingLate : TagReading → Type 0
+abbrev pub readingLate : TagReading → Type 0
 readingLate (Plain t) = Unit {0}
 readingLate (WithComment t d) = Unit {0}
-readingLate (WithData t d) = 0 < d .start
+readingLate (WithData t d) = (0 < d .start) × (eqb (d .len) 0 ≡ false)
 
-abbrev lineLate : Line → Type 0
+abbrev pub lineLate : Line → Type 0
 lineLate Blank = Unit {0}
 lineLate Brace = Unit {0}
 lineLate (Directive d) = Unit {0}
@@ -155,7 +155,7 @@ lineLate (Data d) = Unit {0}
 
 late-data : (g : TagPlaces) (e : ℕ) (line : List ℕ) → lineLate (splitAs (withData g (trimPart (e + 1) (length line) line)))
 unfolding trimPart
-late-data g e line = by-cases (eqb (trimPart (e + 1) (length line) line .len) 0) (λ t. rw t tt) (λ t. rw t (omega arith))
+late-data g e line = by-cases (eqb (trimPart (e + 1) (length line) line .len) 0) (λ t. rw t tt) (λ t. rw t (omega arith, t))
 
 late-pair : (t : TagLine) (e : ℕ) (line : List ℕ) → lineLate (splitAs (withPair (pairOf t) (e + 1) line))
 late-pair NoTag e line = tt
@@ -183,7 +183,7 @@ late-by b line =
     (λ f. rw (e, f) tt)
     (λ f. by-cases (eqb b 91) (λ g. rw (e, f, g) (late-bracket (tagLine line) line)) (λ g. rw (e, f, g) tt)))
 
-line-late : (line : List ℕ) → lineLate (lineKind line)
+pub line-late : (line : List ℕ) → lineLate (lineKind line)
 unfolding lineKind
 line-late line = by-cases (isBlank line) (λ e. rw e tt) (λ e. rw e (late-by (getD (trimStart line) 0 0) line))
 
@@ -208,10 +208,10 @@ record Bounded (r : List ℕ) (n q : ℕ) (ls : List (List ℕ)) (d : ℕ) (o : 
   few : length (o .entries) + past ≤ 4 * n + d
 
 -- A line that leaves the section as it is.
-record Keeps (s : State) (l : List ℕ) (o : Out State) : Type 0 where
-  section-kept : o .state .section ≡ s .section
-  noting-is : o .state .noting ≡ noteAfter (s .noting) l
-  few : length (o .entries) ≤ 1
+pub record Keeps (s : State) (l : List ℕ) (o : Out State) : Type 0 where
+  pub section-kept : o .state .section ≡ s .section
+  pub noting-is : o .state .noting ≡ noteAfter (s .noting) l
+  pub few : length (o .entries) ≤ 1
 
 keeps-bounded : (r : List ℕ) (s : State) (p : ℕ) (l : List ℕ) (ls : List (List ℕ)) (d : ℕ) {o : Out State}
     → closingMost r (s .section) ≤ d + 2 * bytesIn (dataIn (s .noting) p (l ∷ ls)) → 0 < length l → Keeps s l o → Bounded r (length l) (p + length l) ls d o
@@ -236,7 +236,32 @@ brace-keeps r s p l e k =
     (λ b. rw b (record { section-kept = refl; noting-is = rw (e, k, b); few = few-if (isAllWhite r (p + length (lead l) + 1) (p + lastBrace l)) _ }))
     (λ b. rw b (record { section-kept = refl; noting-is = rw (e, k, b); few = omega arith }))
 
-closes-tag : (l : List ℕ) (t : TagReading) → lineKind l ≡ TagOn t → stopsAt false l ≡ true
+-- So do all lines but tags.
+kind-keeps : (c : Conventions) (r : List ℕ) (s : State) (p : ℕ) (l : List ℕ) (k : Line) → lineKind l ≡ k → s .noting ≡ false → opensBoard k ≡ false → Keeps s l (lineBy c r s p l k)
+unfolding noteAfter
+kind-keeps c r s p l Blank e z n = record { section-kept = refl; noting-is = rw (z, e); few = omega arith }
+kind-keeps c r s p l Brace e z n = brace-keeps r s p l z e
+kind-keeps c r s p l (Directive g) e z n = record { section-kept = refl; noting-is = rw (z, e); few = omega arith }
+kind-keeps c r s p l (TagOn t) e z n = clash (sym n)
+kind-keeps c r s p l Bracket e z n = record { section-kept = refl; noting-is = rw (z, e); few = omega arith }
+kind-keeps c r s p l (Data g) e z n = record { section-kept = refl; noting-is = rw (z, e); few = dated-few s p g }
+
+pub line-keeps : (c : Conventions) (r : List ℕ) (s : State) (p : ℕ) (l : List ℕ) → stopsAt (s .noting) l ≡ false → Keeps s l (lineOut c r s p l)
+unfolding lineOut stopsAt
+line-keeps c r s p l h =
+    chosen (λ (o : Out State). Keeps s l o) (s .noting) (inNote r s p l) (lineBy c r s p l (lineKind l))
+    (λ e. note-keeps r s p l e)
+    (λ e. kind-keeps c r s p l (lineKind l) refl e (no-tag (lineKind l) (rw e at h)))
+  where
+    no-tag : (k : Line) → closesSection k ≡ false → opensBoard k ≡ false
+    no-tag Blank q = refl
+    no-tag Brace q = refl
+    no-tag (Directive g) q = refl
+    no-tag (TagOn t) q = q
+    no-tag Bracket q = refl
+    no-tag (Data g) q = refl
+
+pub closes-tag : (l : List ℕ) (t : TagReading) → lineKind l ≡ TagOn t → stopsAt false l ≡ true
 unfolding stopsAt
 closes-tag l t k = rw k
 
@@ -261,20 +286,19 @@ module _ (c : Conventions) (r : List ℕ) (s : State) (p : ℕ) (l : List ℕ) (
         closing = rw (← n) (omega (arith, open-most c r (tagNumber (cut (t .name) l)) (cut (t .value) l) (p + length l) (at p g)));
         few =
             rw length-append
-            (omega (arith, ClosedFew c r s, i .1, dated-few (tagged c (closed c r s .state) p l (p + length l) t (at p g) .state) p g));
+            (omega (arith, ClosedFew c r s, i .1, j .0, dated-few (tagged c (closed c r s .state) p l (p + length l) t (at p g) .state) p g));
       }
 
   kind-bounded : (k : Line) → lineKind l ≡ k → s .noting ≡ false → closingMost r (s .section) ≤ d + 2 * bytesIn (dataIn (s .noting) p (l ∷ ls))
       → linePlaced k (length l) → lineLate k → Bounded r (length l) (p + length l) ls d (lineBy c r s p l k)
-  unfolding noteAfter
-  kind-bounded Blank e z h i j = keeps-bounded r s p l ls d h f (record { section-kept = refl; noting-is = rw (z, e); few = omega arith })
-  kind-bounded Brace e z h i j = keeps-bounded r s p l ls d h f (brace-keeps r s p l z e)
-  kind-bounded (Directive g) e z h i j = keeps-bounded r s p l ls d h f (record { section-kept = refl; noting-is = rw (z, e); few = omega arith })
   kind-bounded (TagOn t) e z h i j =
       let g : dataIn (s .noting) p (l ∷ ls) ≡ [] = rw (z, closes-tag l t e) in
       tag-bounded t (omega (arith, rw g at h)) i j
-  kind-bounded Bracket e z h i j = keeps-bounded r s p l ls d h f (record { section-kept = refl; noting-is = rw (z, e); few = omega arith })
-  kind-bounded (Data g) e z h i j = keeps-bounded r s p l ls d h f (record { section-kept = refl; noting-is = rw (z, e); few = dated-few s p g })
+  kind-bounded Blank e z h i j = keeps-bounded r s p l ls d h f (kind-keeps c r s p l Blank e z refl)
+  kind-bounded Brace e z h i j = keeps-bounded r s p l ls d h f (kind-keeps c r s p l Brace e z refl)
+  kind-bounded (Directive g) e z h i j = keeps-bounded r s p l ls d h f (kind-keeps c r s p l (Directive g) e z refl)
+  kind-bounded Bracket e z h i j = keeps-bounded r s p l ls d h f (kind-keeps c r s p l Bracket e z refl)
+  kind-bounded (Data g) e z h i j = keeps-bounded r s p l ls d h f (kind-keeps c r s p l (Data g) e z refl)
 
   line-bounded : closingMost r (s .section) ≤ d + 2 * bytesIn (dataIn (s .noting) p (l ∷ ls)) → Bounded r (length l) (p + length l) ls d (lineOut c r s p l)
   unfolding lineOut

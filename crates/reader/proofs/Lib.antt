@@ -47,6 +47,7 @@ pub mod RecordPins
 pub mod Relocated
 pub mod Seams
 pub mod SectionLaws
+pub mod SectionLines
 pub mod SectionPins
 pub mod StandLaws
 pub mod StoreLaws

@@ -18,7 +18,9 @@ use Rattle.reader.specs.Sections.{noteAfter, stopsAt, pieceOf, sectionDa
 use Rattle.reader.specs.Boards.{identityBy, dealBy, tableBy, contractBy, isKeptValue, isKept, valuesBy, applied, openBy, closed, tagged, readTag, blocked, braced, inNote, lineOut, recordOut}
 use Rattle.reader.specs.Records.{scanned, closesRecord, recordsOf}
 use Rattle.reader.specs.Plain.{TagPair, Remark, PlainCall, PlainBoard, itemOf, withoutReturns, plainBy, plainOf, plainBoards}
+use Rattle.reader.specs.Pieces.{Piece, piece}
 use Rattle.reader.specs.Kept.{lastKept, lastHands}
+use Rattle.reader.proofs.SectionLines.{dataPieces}
 
 -- The plain board of a record.
 unfoldable plain : String → PlainBoard
@@ -120,3 +122,14 @@ pin-kept = refl
 pin-hands : lastHands builtIn deals ≡ some (record { north = 0; east = 2 ^ 14; south = 0; west = 0 })
 unfolding isWhite trimmed builtIn capital seatOf honourOf rankOf tagNames tagNumber cardsNamed handsAfter dealOf
 pin-hands = refl
+
+-- ---- data lines
+
+unfoldable dataLines : String → List Piece
+unfolding isWhite isInside trimmed builtIn capital seatOf suitOf honourOf rankOf digitOf digitsReading tableOfDigits trimSpan trimPart bracketOf endsQuoted nameOf isQuoted valueOf isComment commentOf tagLine dataBracket dataAfter splitOf isBlank hasBrace splitLine bracketLine lineKind levelOf bidCode isPass underscoreCode signCode callOf isMark sectionEnd isAllPass cardNumber cardOf isDoubling contractTrump isNoSide isBothSides vulnerabilityOf tagNames tagNumber cardsNamed handsAfter dealOf handWords callTokenOf called calledPiece weight bestSlot opened isDash played playedBytes playedPiece lastTrick noteAfter stopsAt pieceOf sectionData walked noWalk walkedAll identityBy dealBy tableBy contractBy isKeptValue isKept valuesBy applied openBy closed tagged readTag blocked braced inNote lineOut recordOut
+dataLines s = dataPieces (ascii s) (recordOut builtIn (ascii s) .entries)
+
+-- The entries of kind 5 name the pieces that the play of RecordPins is walked over; behind a tag that opens no section there are none.
+pin-data-lines : dataLines "[Play \"W\"]SJ\nS2 S3\n;x\n{y\n}\n[Z]\nS4\n[B \"c\"]\nS5" ≡ piece 10 (ascii "SJ") ∷ piece 13 (ascii "S2 S3") ∷ piece 31 (ascii "S4") ∷ []
+unfolding dataLines
+pin-data-lines = refl
