@@ -17,7 +17,7 @@ use Rattle.reader.specs.declared.board.DealCard.{DealCard}
 use Rattle.reader.specs.Names.{tagNumber}
 use Rattle.reader.specs.Deals.{dealOf, handWords, handsOfWords, Proper, cardCount, ones}
 use Rattle.reader.specs.Boards.{dealRead, dealBy, isUnparsed, isKept, applied, noBoard, recordOut}
-use Rattle.reader.specs.Plain.{TagPair, plainOf}
+use Rattle.reader.specs.Plain.{TagPair, PlainBoard, plainOf}
 use Rattle.reader.specs.Kept.{after, keptBy, lastKept, handsRead, handsBy, lastHands, dealKind, wordsKept, DealKept}
 use Rattle.reader.proofs.CardSets.{bit-zero}
 use Rattle.reader.proofs.DealLaws.{DealProper, HandsBack}
@@ -142,3 +142,17 @@ PlainDealKept c r =
       read-again = λ v k. no-deal c v (again v k);
       kept-again = again;
     }
+
+-- THEOREM. Word 9 is 0 where no Deal tag parsed and none is kept, 1 where one parsed and none is kept, 2 where one is kept unparsed; there is
+-- no other board.
+pub DealCases : {P : Type 0} (c : Conventions) (p : PlainBoard) → DealKept c p
+    → (p .deal .kind ≡ 0 → lastHands c (p .tags) ≡ nothing → p .values .deal ≡ nothing → P)
+    → ((h : Hands) → p .deal .kind ≡ 1 → lastHands c (p .tags) ≡ some h → p .values .deal ≡ nothing → P)
+    → ((v : List ℕ) → p .deal .kind ≡ 2 → p .values .deal ≡ some v → P)
+    → P
+DealCases {P} c p k zero one two = go (lastHands c (p .tags)) (p .values .deal) refl refl (k .kind-is)
+  where
+    go : (o : Option Hands) (v : Option (List ℕ)) → lastHands c (p .tags) ≡ o → p .values .deal ≡ v → p .deal .kind ≡ dealKind o v → P
+    go nothing nothing e f q = zero q e f
+    go (some h) nothing e f q = one h q e f
+    go o (some v) e f q = two v (q ∙ unparsed-kind o v) f
