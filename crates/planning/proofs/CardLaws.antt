@@ -1,7 +1,7 @@
 -- What planning reads of a card does not depend on where the board's record stands, and boards with the same hands have the same words.
 use Prim.Native.Nat.{ℕ, _+_}
 use mathlib.Core.Path.{_≡_, sym, _∙_, ap}
-use mathlib.Core.List.{List, [], _∷_}
+use mathlib.Core.List.{List, _∷_}
 use lib.ListN.{length}
 use Rattle.tables.specs.declared.letters.Conventions.{Conventions}
 use Rattle.reader.specs.Boards.{recordOut}

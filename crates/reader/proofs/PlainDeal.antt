@@ -1,7 +1,7 @@
 -- The deal that a board keeps: word 9, the hands, the value that is kept unparsed.
 use Prim.Native.Nat.{ℕ}
 use mathlib.Core.Path.{_≡_, refl, sym, ap, _∙_}
-use mathlib.Core.Bool.{Bool, true, false, cond, _&&_, not}
+use mathlib.Core.Bool.{true, cond}
 use mathlib.Core.List.{List, [], _∷_}
 use mathlib.Core.Option.{Option, none as nothing, some}
 use native.Mathlib.Omega.{arith}
@@ -18,7 +18,7 @@ use Rattle.reader.specs.Names.{tagNumber}
 use Rattle.reader.specs.Deals.{dealOf, handWords, handsOfWords, Proper, cardCount, ones}
 use Rattle.reader.specs.Boards.{dealRead, dealBy, isUnparsed, isKept, applied, noBoard, recordOut}
 use Rattle.reader.specs.Plain.{TagPair, PlainBoard, plainOf}
-use Rattle.reader.specs.Kept.{after, keptBy, lastKept, handsRead, handsBy, lastHands, dealKind, wordsKept, DealKept}
+use Rattle.reader.specs.Kept.{after, keptBy, handsRead, handsBy, lastHands, dealKind, wordsKept, DealKept}
 use Rattle.reader.proofs.CardSets.{bit-zero}
 use Rattle.reader.proofs.DealLaws.{DealProper, HandsBack}
 use Rattle.reader.proofs.PlainLaws.{plain-keeps}

@@ -21,7 +21,7 @@ use Rattle.reader.specs.Kept.{after, keptBy, lastKept, valueNumbers, Val
 use Rattle.reader.proofs.EntryLaws.{All, none, one, all-map}
 use Rattle.reader.proofs.Tags.{never, some-inj}
 use Rattle.reader.proofs.Counts.{chosen}
-use Rattle.reader.proofs.PlainTags.{Writable, PlainWritable}
+use Rattle.reader.proofs.PlainTags.{PlainWritable}
 use Rattle.reader.proofs.PlainWords.{value-none}
 use Rattle.reader.proofs.PlainByTags.{FollowsTags}
 

@@ -1,8 +1,8 @@
 -- A section that closes is walked over the very data lines that have entries: those of kind 5 from its tag's line on, up to the tag, the
 -- blank line or the end of the record that closes it.
-use Prim.Native.Nat.{ℕ, _+_, _≤_}
+use Prim.Native.Nat.{ℕ, _+_}
 use mathlib.Core.Path.{_≡_, refl, sym, ap, _∙_}
-use mathlib.Core.Bool.{Bool, true, false, cond}
+use mathlib.Core.Bool.{Bool, false, cond}
 use mathlib.Core.List.{List, [], _∷_, _++_}
 use native.Mathlib.Omega.{arith}
 use lib.Dec.{ltb, eqb}
@@ -23,14 +23,14 @@ use Rattle.reader.specs.declared.board.State.{State}
 use Rattle.reader.specs.Tag.{cut}
 use Rattle.reader.specs.Names.{tagNumber}
 use Rattle.reader.specs.Lines.{lineKind, hasBrace, lastBrace, linePlaced}
-use Rattle.reader.specs.Pieces.{Piece, Out, andThen, entry, rawLines}
+use Rattle.reader.specs.Pieces.{Piece, Out, andThen, rawLines}
 use Rattle.reader.specs.Sections.{noteAfter, stopsAt, dataPiece, pieceOf, dataIn, splitPiece, sectionData}
-use Rattle.reader.specs.Boards.{noOpen, seatOpen, openBy, closed, noSpan, at, tagged, dated, readBy, readTag, isAllWhite, blocked, braced, inNote, unchanged, lineBy, lineOut}
+use Rattle.reader.specs.Boards.{noOpen, seatOpen, openBy, closed, noSpan, at, tagged, readBy, readTag, isAllWhite, blocked, braced, inNote, unchanged, lineBy, lineOut}
 use Rattle.reader.specs.Plain.{bytesOf}
 use Rattle.reader.proofs.EntryLaws.{All, none, one}
 use Rattle.reader.proofs.Inside.{LineInside}
 use Rattle.reader.proofs.SectionLaws.{LineAt}
-use Rattle.reader.proofs.Counts.{chosen, readingLate, lineLate, line-late, line-keeps, closes-tag, next-line}
+use Rattle.reader.proofs.Counts.{chosen, readingLate, line-late, line-keeps, closes-tag, next-line}
 use Rattle.reader.proofs.PlainLaws.{PartPlaced}
 use Rattle.reader.proofs.PlainSteps.{Late, closed-late, first-line}
 

@@ -1,7 +1,8 @@
--- What a board keeps of its record: the deal, the values and the table, as its tags leave them.
+-- What a board keeps of its record: the deal, the values and the table, as its tags leave them. Proved of every record in proofs:
+-- PlainValues, PlainDeal, PlainBounds; of its card in CardKept.
 use Prim.Native.Nat.{ℕ, _≤_}
 use mathlib.Core.Path.{_≡_}
-use mathlib.Core.Bool.{Bool, true, false, cond, _&&_}
+use mathlib.Core.Bool.{true, cond, _&&_}
 use mathlib.Core.List.{List, [], _∷_, map}
 use mathlib.Core.Option.{Option, none, some}
 use lib.Dec.{eqb, leb}
