@@ -1,7 +1,16 @@
 pub mod Cases
+pub mod Inside
+pub mod Listed
 pub mod Listing
+pub mod MeaningLaws
+pub mod Numbered
+pub mod Pins
 pub mod ReadAlike
+pub mod RecordsBehind
 pub mod Refusing
+pub mod StatesMean
 pub mod TableRefusing
+pub mod TextPins
+pub mod TotalsAdd
 pub mod Worked
 pub mod WorkedCards

@@ -15,8 +15,8 @@ use Rattle.planning.specs.declared.plan.Planned.the-variants.{Listed}
 use Rattle.planning.specs.declared.plan.Planned.the-variants as planned
 use Rattle.reader.specs.Editions.{readNumber}
 use Rattle.planning.specs.Plans.{Boxes, plannedOf, IsPlanned}
-use Rattle.planning.proofs.Listed.{listed-exactly-once}
-use Rattle.planning.proofs.Inside.{listed-inside}
+use Rattle.demands.proofs.Listed.{listed-exactly-once}
+use Rattle.demands.proofs.Inside.{listed-inside}
 use Rattle.golavimes.specs.Answers.{planNumbers, PlanOut}
 use Rattle.demands.specs.Demand1.{Refusal}
 use Rattle.demands.specs.Demand3.{PlannedWhenTaken, ListedExactly, OneSlip, RestZero, InsideAlone}

@@ -35,8 +35,8 @@ use Rattle.planning.specs.Slips.{cardFrom}
 use Rattle.planning.specs.Plans.{Boxes, oldReading, newReading, editionsOf, areBoth}
 use Rattle.planning.proofs.BoxLaws.{cards-back, card-nth, taken-fits}
 use Rattle.planning.proofs.BothLaws.{both-are-taken, taken-short}
-use Rattle.planning.proofs.Inside.{stands-card, starts-at, ends-at}
-use Rattle.planning.proofs.Listed.{told, totals-told}
+use Rattle.demands.proofs.Inside.{stands-card, starts-at, ends-at}
+use Rattle.demands.proofs.Listed.{told, totals-told}
 use Rattle.golavimes.specs.Answers.{readingNumbers}
 use Rattle.demands.specs.Demand1.{boardsIn}
 use Rattle.demands.specs.Boards.{HandedBack, by-read, by-plan-old, by-plan-new, Board, recordStart, entriesFrom, boardHere, isEntryPlace, isTextPlace, countedWord, countedEntry, ReadAlike}

@@ -1,5 +1,5 @@
--- What planning promises beyond its contracts, as statements; the file of proofs/ that proves each is named beside it. A card is one that
--- the definitions read from its edition's text.
+-- What planning promises beyond its contracts, as statements; the file that proves each is named beside it, in crates/demands, where no edit
+-- of planning pays for it. A card is one that the definitions read from its edition's text.
 use Prim.Native.Nat.{ℕ, suc, _+_, _-_, _*_, _/_, _≤_, _<_}
 use mathlib.Core.Path.{_≡_}
 use mathlib.Core.Logic.{_↔_}
@@ -95,7 +95,7 @@ pub record SlipFor (p : ℕ) (card : List ℕ) (solve : ℕ) (slips : List ℕ) 
   pub below : slip < solve
   pub is : slipHere slip slips ≡ slipOf p card
 
--- THEOREM (proofs/Listed.antt). Both editions taken and slips enough: a deal is listed exactly when it is unsolved, and once; every slip is
+-- THEOREM (demands/proofs/Listed.antt). Both editions taken and slips enough: a deal is listed exactly when it is unsolved, and once; every slip is
 -- that of a solve board, in board order, and every solve board has one; the rest of the lent numbers is zero, and holds no hands of 13
 -- cards.
 pub record ListedOnce (js : List Judged) (olds news : List (List ℕ)) (solve : ℕ) (slips : List ℕ) : Type 0 where
@@ -113,7 +113,7 @@ ListedExactlyOnce =
     → IsPlanned c old new boxes slips boxes′ slips′ (Listed t)
     → ListedOnce (boardsOf c old new) (cardsOf c old) (cardsOf c new) (t .solve) slips′
 
--- THEOREM (proofs/Listed.antt). It is listed whenever both editions are taken and slips are enough, whatever else is lent.
+-- THEOREM (demands/proofs/Listed.antt). It is listed whenever both editions are taken and slips are enough, whatever else is lent.
 abbrev pub ListedWhenTaken : Type 0
 ListedWhenTaken =
     (c : Conventions) (old new : List ℕ) (boxes : Boxes) (slips : List ℕ) (boxes′ : Boxes) (slips′ : List ℕ) (r : Planned)
@@ -123,7 +123,7 @@ ListedWhenTaken =
     → totalsOf (boardsOf c old new) .solve ≤ length slips / 5
     → r ≡ Listed (totalsOf (boardsOf c old new))
 
--- THEOREM (proofs/Listed.antt). Where every whole board of the new edition has a table, nothing is listed: every lent number is zero.
+-- THEOREM (demands/proofs/Listed.antt). Where every whole board of the new edition has a table, nothing is listed: every lent number is zero.
 abbrev pub NothingListed : Type 0
 NothingListed =
     (c : Conventions) (old new : List ℕ) (boxes : Boxes) (slips : List ℕ) (boxes′ : Boxes) (slips′ : List ℕ) (t : Totals)
@@ -153,7 +153,7 @@ pub record OnlyInside (front middle : List ℕ) (h : Hands) (cards : List (List 
 abbrev pub AllSolved : List (List ℕ) → Type 0
 AllSolved cards = (x : List ℕ) → Among x cards → isWhole x ≡ true → Some (Tabled (handsOf x)) cards
 
--- THEOREM (proofs/Inside.antt). Two editions alike but for a stretch, the old one solved: each listed deal is that of a new board inside
+-- THEOREM (demands/proofs/Inside.antt). Two editions alike but for a stretch, the old one solved: each listed deal is that of a new board inside
 -- the stretch and of none outside.
 abbrev pub ListedInside : Type 0
 ListedInside =
@@ -183,29 +183,29 @@ StateIs olds news earlier card (Twin k) =
 StateIs olds news earlier card Solve =
     Bare card × None (Tabled (handsOf card)) olds × None (Tabled (handsOf card)) news × None (WithDeal (handsOf card)) earlier
 
--- THEOREM (proofs/StatesMean.antt). The state at a position of the new edition is s exactly when the board there is as s says.
+-- THEOREM (demands/proofs/StatesMean.antt). The state at a position of the new edition is s exactly when the board there is as s says.
 abbrev pub StatesMean : Type 0
 StatesMean =
     (c : Conventions) (old new : List ℕ) (p : ℕ) → 1 ≤ p → p ≤ length (cardsOf c new) → (s : BoardState)
     → (stateAt (boardsOf c old new) p ≡ s) ↔ StateIs (cardsOf c old) (cardsOf c new) (take (p - 1) (cardsOf c new)) (cardAt (cardsOf c new) p) s
 
--- THEOREM (proofs/StatesMean.antt). Outside the positions 1 to boards the state is blank.
+-- THEOREM (demands/proofs/StatesMean.antt). Outside the positions 1 to boards the state is blank.
 abbrev pub BlankOutside : Type 0
 BlankOutside =
     (c : Conventions) (old new : List ℕ)
     → (stateAt (boardsOf c old new) 0 ≡ Blank) × ((p : ℕ) → length (cardsOf c new) < p → stateAt (boardsOf c old new) p ≡ Blank)
 
--- THEOREM (proofs/StatesMean.antt). A twin's source stands before it and is a solve board.
+-- THEOREM (demands/proofs/StatesMean.antt). A twin's source stands before it and is a solve board.
 abbrev pub TwinsOfSolve : Type 0
 TwinsOfSolve =
     (c : Conventions) (old new : List ℕ) (p k : ℕ) → stateAt (boardsOf c old new) p ≡ Twin k
     → (1 ≤ k) × (k < p) × (stateAt (boardsOf c old new) k ≡ Solve)
 
--- THEOREM (proofs/StatesMean.antt). The source of near is an own board.
+-- THEOREM (demands/proofs/StatesMean.antt). The source of near is an own board.
 abbrev pub NearOfOwn : Type 0
 NearOfOwn = (c : Conventions) (old new : List ℕ) (p k : ℕ) → stateAt (boardsOf c old new) p ≡ Near k → stateAt (boardsOf c old new) k ≡ Own
 
--- THEOREM (proofs/StatesMean.antt). What a state's search gives: 0 exactly when no card fits, and a number from 1 exactly when the card
+-- THEOREM (demands/proofs/StatesMean.antt). What a state's search gives: 0 exactly when no card fits, and a number from 1 exactly when the card
 -- of that number is the first that fits.
 abbrev pub FirstMeans : Type 0
 FirstMeans =
@@ -233,14 +233,14 @@ pub record IsBehind (old new : List ℕ) (p : ℕ) (s : BoardState) (part : List
   pub is : part ≡ recordBehind old new p s
   pub filled : 0 < length part
 
--- THEOREM (proofs/RecordsBehind.antt). The places behind a board are those of the record behind it, neither text having more than 16,777,215
+-- THEOREM (demands/proofs/RecordsBehind.antt). The places behind a board are those of the record behind it, neither text having more than 16,777,215
 -- bytes.
 abbrev pub PlacesBehind : Type 0
 PlacesBehind =
     (c : Conventions) (old new : List ℕ) (p : ℕ) → length old ≤ 16777215 → length new ≤ 16777215 → 1 ≤ p → p ≤ length (cardsOf c new)
     → IsBehind old new p (stateAt (boardsOf c old new) p) (partOf old new (behindAt (cardsOf c old) (cardsOf c new) (boardsOf c old new) p))
 
--- THEOREM (proofs/RecordsBehind.antt). Both editions taken: what is handed back for a board of the new edition is the record behind it.
+-- THEOREM (demands/proofs/RecordsBehind.antt). Both editions taken: what is handed back for a board of the new edition is the record behind it.
 abbrev pub RecordsBehind : Type 0
 RecordsBehind =
     (c : Conventions) (old new : List ℕ) (boxes boxes′ : Boxes) (p : ℕ) (part : List ℕ)
@@ -252,7 +252,7 @@ RecordsBehind =
 
 -- ---- totals
 
--- THEOREM (proofs/TotalsAdd.antt). Totals add up, whatever the boards; there are as many slips as solve boards.
+-- THEOREM (demands/proofs/TotalsAdd.antt). Totals add up, whatever the boards; there are as many slips as solve boards.
 pub record AddUp (js : List Judged) (t : Totals) : Type 0 where
   pub sum : t .boards ≡ t .blank + t .own + t .old + t .near + t .twin + t .solve
   pub slips : length (slipsOf js) ≡ t .solve
@@ -260,7 +260,7 @@ pub record AddUp (js : List Judged) (t : Totals) : Type 0 where
 abbrev pub TotalsAddUp : Type 0
 TotalsAddUp = (js : List Judged) → AddUp js (totalsOf js)
 
--- THEOREM (proofs/Listed.antt). Those that are handed back do, and are of as many boards as the new edition has.
+-- THEOREM (demands/proofs/Listed.antt). Those that are handed back do, and are of as many boards as the new edition has.
 abbrev pub TotalsTold : Type 0
 TotalsTold =
     (c : Conventions) (old new : List ℕ) (boxes : Boxes) (slips : List ℕ) (boxes′ : Boxes) (slips′ : List ℕ) (t : Totals)
@@ -281,7 +281,7 @@ pub record Numbered (olds news : List (List ℕ)) (js : List Judged) (lent : ℕ
   pub rest-zero : length news ≤ lent / 5 → drop (5 * length news) numbers ≡ replicate (length numbers - 5 * length news) 0
   pub tail-zero : lent / 5 ≤ length news → drop (5 * (lent / 5)) numbers ≡ replicate (length numbers - 5 * (lent / 5)) 0
 
--- THEOREM (proofs/Numbered.antt). Both editions taken: the numbers of the boards are handed back, as many as fit.
+-- THEOREM (demands/proofs/Numbered.antt). Both editions taken: the numbers of the boards are handed back, as many as fit.
 abbrev pub NumbersTold : Type 0
 NumbersTold =
     (c : Conventions) (old new : List ℕ) (boxes : Boxes) (numbers : List ℕ) (boxes′ : Boxes) (numbers′ : List ℕ) (m n : ℕ)

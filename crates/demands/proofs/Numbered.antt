@@ -11,15 +11,15 @@ use Rattle.tables.proofs.Laws.{by-cases}
 use Rattle.reader.specs.Store.{put, putAll, flat, padded}
 use Rattle.reader.specs.Editions.{cardsOf}
 use Rattle.reader.proofs.StoreLaws.{Blocks, none, one, blocks-map, length-flat, put-zeros, putAll-append}
 use Rattle.planning.specs.declared.behind.Behind.{Behind}
 use Rattle.planning.specs.declared.behind.Behind.the-variants.{InOld, InNew, Nothing}
 use Rattle.planning.specs.States.{Judged, stateNumber, fromOf}
 use Rattle.planning.specs.Slips.{behindOf, behindNumbers, boardNumbers, numbersFrom}
 use Rattle.planning.specs.Plans.{boardsOf}
 use Rattle.planning.specs.Demands.{fiveAt, Numbered, NumbersTold}
 use Rattle.planning.proofs.SlipLaws.{fives-length, fives-here}
-use Rattle.planning.proofs.Listed.{behind-zero}
-use Rattle.planning.proofs.TotalsAdd.{boards-all}
+use Rattle.demands.proofs.Listed.{behind-zero}
+use Rattle.demands.proofs.TotalsAdd.{boards-all}
 
 -- ---- blocks of five, as many as fit
 

@@ -15,17 +15,17 @@ use Rattle.reader.specs.Records.{recordsOf}
 use Rattle.reader.specs.Editions.{isTaken, cardOf, cardsOf}
 use Rattle.reader.specs.Fellows.{Stands}
 use Rattle.reader.proofs.Fellows.{EveryBoard, RecordFilled, RecordEnds}
 use Rattle.planning.specs.declared.state.BoardState.{BoardState}
 use Rattle.planning.specs.declared.state.BoardState.the-variants.{Blank, Own, Old, Near, Twin, Solve}
 use Rattle.planning.specs.States.{judgedFrom, judged, boardFrom, stateIn, stateAt}
 use Rattle.planning.specs.Slips.{cardFrom, behindState, behindIn, behindAt, partOf}
 use Rattle.planning.specs.Plans.{oldReading, newReading, bothAfter, editionsOf, behindBy, boardsOf}
 use Rattle.planning.specs.Demands.{recordAt, IsBehind, PlacesBehind, RecordsBehind}
 use Rattle.planning.proofs.BothLaws.{taken-short}
 use Rattle.planning.proofs.StateLaws.{reach, state-reach}
-use Rattle.planning.proofs.MeaningLaws.{state-here}
-use Rattle.planning.proofs.StatesMean.{take-few}
-use Rattle.planning.proofs.Inside.{stands-card, starts-at, ends-at}
+use Rattle.demands.proofs.MeaningLaws.{state-here}
+use Rattle.demands.proofs.StatesMean.{take-few}
+use Rattle.demands.proofs.Inside.{stands-card, starts-at, ends-at}
 
 -- ---- a record and its places
 

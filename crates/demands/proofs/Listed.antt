@@ -18,24 +18,24 @@ use Rattle.reader.specs.Store.{flat, padded}
 use Rattle.reader.specs.Deals.{ones, cardCount, wholeHands}
 use Rattle.reader.proofs.DealLaws.{WholeHands}
 use Rattle.reader.specs.Editions.{isTaken, cardsOf}
 use Rattle.planning.specs.declared.state.BoardState.the-variants.{Solve}
 use Rattle.planning.specs.declared.editions.Editions.{Editions}
 use Rattle.planning.specs.declared.editions.Editions.the-variants.{Both}
 use Rattle.planning.specs.declared.editions.Editions.the-variants as editions
 use Rattle.planning.specs.declared.plan.Totals.{Totals}
 use Rattle.planning.specs.declared.plan.Planned.the-variants.{Listed}
 use Rattle.planning.specs.Cards.{dealOf, handsOf, isWhole, hasTable, fits}
 use Rattle.planning.specs.States.{Judged, firstFrom, judgedFrom, judged, stateAt, stateNumber}
 use Rattle.planning.specs.Slips.{slipOf, slipsOf, totalsOf, countOf, cardFrom, cardAt}
 use Rattle.planning.specs.Plans.{Boxes, oldReading, newReading, bothAfter, editionsOf, areBoth, plannedBy, plannedOf, boardsOf, IsPlanned}
 use Rattle.planning.specs.Demands.{Among, WithDeal, First, slipHere, Holds, Unsolved, OfSolve, ListedOnce, ListedExactlyOnce, ListedWhenTaken, NothingListed, TotalsTold}
 use Rattle.planning.proofs.AnswerLaws.{solve-sum}
 use Rattle.planning.proofs.FoundLaws.{Tells, zero-none, found-is-first, card-among, take-card}
 use Rattle.planning.proofs.CardLaws.{Handed, CardsHanded}
-use Rattle.planning.proofs.MeaningLaws.{SaysAt, here-says, state-here, tells-deal}
-use Rattle.planning.proofs.StatesMean.{states-mean, board-at, first-solves}
+use Rattle.demands.proofs.MeaningLaws.{SaysAt, here-says, state-here, tells-deal}
+use Rattle.demands.proofs.StatesMean.{states-mean, board-at, first-solves}
 use Rattle.planning.proofs.SlipLaws.{SlipOfBoard, slip-board, board-slip, place-is, in-order, fives-length, fives-here, slips-five, slips-count}
-use Rattle.planning.proofs.TotalsAdd.{totals-add-up, boards-all}
+use Rattle.demands.proofs.TotalsAdd.{totals-add-up, boards-all}
 
 -- ---- a slip and its hands
 

@@ -10,14 +10,14 @@ use borrow.Author.Tests.{ltb-true, ltb-false}
 use Rattle.tables.proofs.Laws.{by-cases}
 use Rattle.reader.specs.declared.deal.Hands.{Hands}
 use Rattle.reader.specs.Editions.{cardsOf}
 use Rattle.planning.specs.declared.state.BoardState.the-variants.{Own, Near, Twin, Solve}
 use Rattle.planning.specs.Cards.{handsOf, hasTable, fits}
 use Rattle.planning.specs.States.{firstWith, judged, stateAt, stateNumber}
 use Rattle.planning.specs.Slips.{cardFrom}
 use Rattle.planning.specs.Demands.{WithDeal, Tabled, None, FirstMeans, StatesMean, BlankOutside, TwinsOfSolve, NearOfOwn}
 use Rattle.planning.proofs.FoundLaws.{Tells, zero-none, none-zero, found-is-first, first-is-found, numbered, card-among, take-card}
 use Rattle.planning.proofs.CardLaws.{Handed, CardsHanded}
-use Rattle.planning.proofs.MeaningLaws.{SaysAt, here-says, state-none}
+use Rattle.demands.proofs.MeaningLaws.{SaysAt, here-says, state-none}
 
 pub states-mean : StatesMean
 states-mean c old new zero o l s = absurd (omega arith)

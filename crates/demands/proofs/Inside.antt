@@ -19,14 +19,14 @@ use Rattle.reader.specs.Editions.{isTaken, cardOf, cardsOf}
 use Rattle.reader.specs.Fellows.{Stands, Fellow}
 use Rattle.reader.proofs.CardShape.{word-back}
 use Rattle.reader.proofs.Fellows.{EveryBoard, RecordEnds, InsideOnly, AlikeOther, InsideOrFellow}
 use Rattle.planning.specs.Cards.{handsOf}
 use Rattle.planning.specs.Slips.{cardFrom}
 use Rattle.planning.specs.Plans.{Boxes, oldReading, newReading, bothAfter, editionsOf, areBoth}
 use Rattle.planning.specs.Demands.{Among, here, WithDeal, Tabled, None, InFront, InStretch, InBack, AllSolved, ListedInside}
 use Rattle.planning.proofs.BothLaws.{both-are-taken, taken-short}
 use Rattle.planning.proofs.FoundLaws.{numbered, among-right}
 use Rattle.planning.proofs.CardLaws.{SameDeal, SameWhole}
-use Rattle.planning.proofs.Listed.{told, listed-exactly-once}
+use Rattle.demands.proofs.Listed.{told, listed-exactly-once}
 
 -- ---- cards and their boards
 
