@@ -1,0 +1,4 @@
+pub mod Sections
+pub mod Tags
+pub mod Remarks
+pub mod Pages
