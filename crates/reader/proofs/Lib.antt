@@ -19,6 +19,7 @@ pub mod Fellows
 pub mod Inside
 pub mod LineLaws
 pub mod LinePins
+pub mod LineTags
 pub mod LinesLaws
 pub mod NameLaws
 pub mod NamePins
