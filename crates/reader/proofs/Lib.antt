@@ -16,6 +16,7 @@ pub mod DealPins
 pub mod EditionLaws
 pub mod EntryLaws
 pub mod Fellows
+pub mod Folds
 pub mod Inside
 pub mod LineLaws
 pub mod LinePins
