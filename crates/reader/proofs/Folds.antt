@@ -5,7 +5,7 @@ use mathlib.Core.Bool.{Bool, true, false, cond}
 use mathlib.Core.List.{List, [], _∷_, _++_}
 use native.Mathlib.Omega.{arith}
 use lib.Dec.{ltb, eqb}
-use lib.ListN.{length, drop}
+use lib.ListN.{length}
 use borrow.Author.Tests.{eqb-false, ne-eqb}
 use Rattle.tables.specs.declared.letters.Conventions.{Conventions}
 use Rattle.tables.specs.Text.{lead, firstCharacter}
@@ -31,8 +31,7 @@ use Rattle.reader.specs.Sections.{noteAfter, walkedAll}
 use Rattle.reader.specs.Boards.{identityBy, dealBy, tableBy, applied, openBy, seatOpen, noOpen, withSections, auctionClosed, playClosed, rowsClosed, tableClosed, closedBy, closed, tagged, splitIn, readBy, readTag, noted, blocked, braced, inNote, lineBy, lineOut, linesOut, noBoard, noState, recordOut}
 use Rattle.reader.specs.Plain.{TagPair, plainOf}
 use Rattle.reader.proofs.EntryLaws.{All, none, one}
-use Rattle.reader.proofs.Counts.{chosen, next-line}
-use Rattle.reader.proofs.PlainSteps.{first-line}
+use Rattle.reader.proofs.Counts.{chosen}
 use Rattle.reader.proofs.LineTags.{pairOn, tagsOn, lineTags, tagsOfLines, line-noting, TagsOfLines}
 
 -- ---- folds over tags
@@ -42,7 +41,7 @@ abbrev pub foldTags : {A : Type 0} → (ℕ → List ℕ → A → A) → A → 
 foldTags f a [] = a
 foldTags f a (t ∷ ts) = foldTags f (f (tagNumber (t .name)) (t .value) a) ts
 
-fold-append : {A : Type 0} (f : ℕ → List ℕ → A → A) (a : A) (ts us : List TagPair) → foldTags f a (ts ++ us) ≡ foldTags f (foldTags f a ts) us
+pub fold-append : {A : Type 0} (f : ℕ → List ℕ → A → A) (a : A) (ts us : List TagPair) → foldTags f a (ts ++ us) ≡ foldTags f (foldTags f a ts) us
 fold-append f a [] us = refl
 fold-append f a (t ∷ ts) us = fold-append f (f (tagNumber (t .name)) (t .value) a) ts us
 
@@ -155,16 +154,16 @@ module _ {A : Type 0} (c : Conventions) (r : List ℕ) (g : Board → A) (f : �
           (λ e. record { folded = refl; still = k })
       by-noting false a = kind-step p l s (lineKind l) k a
 
-  lines-fold : (p : ℕ) (s : State) (ls : List (List ℕ)) → rawLines (drop p r) ≡ ls → Kept (s .section) → All (Numbered Fine) (tagsOfLines (s .noting) ls)
+  lines-fold : (p : ℕ) (s : State) (ls : List (List ℕ)) → Kept (s .section) → All (Numbered Fine) (tagsOfLines (s .noting) ls)
       → g (linesOut c r s p ls .state .board) ≡ foldTags f (g (s .board)) (tagsOfLines (s .noting) ls)
-  lines-fold p s [] e k a = h .kept s k
-  lines-fold p s (l ∷ ls) e k a =
+  lines-fold p s [] k a = h .kept s k
+  lines-fold p s (l ∷ ls) k a =
       let o = lineOut c r s p l .state in
-      let n = line-noting c r p l (first-line r p l ls e) s in
+      let n = line-noting c r p l s in
       let parts = all-parts (lineTags (s .noting) l) (tagsOfLines (noteAfter (s .noting) l) ls) a in
       let x = line-step p l s k (parts .0) in
       let y : g (linesOut c r o (p + length l) ls .state .board) ≡ foldTags f (g (o .board)) (tagsOfLines (noteAfter (s .noting) l) ls)
-      = on (g (o .board)) n (parts .1) (lines-fold (p + length l) o ls (next-line r p l ls e .rest) (x .still)) in
+      = on (g (o .board)) n (parts .1) (lines-fold (p + length l) o ls (x .still)) in
       y ∙ rw (x .folded) (sym (fold-append f (g (s .board)) (lineTags (s .noting) l) (tagsOfLines (noteAfter (s .noting) l) ls)))
     where
       on : {x : A} (b : A) {m n : Bool} → m ≡ n → All (Numbered Fine) (tagsOfLines n ls) → (All (Numbered Fine) (tagsOfLines m ls) → x ≡ foldTags f b (tagsOfLines m ls)) → x ≡ foldTags f b (tagsOfLines n ls)
@@ -173,7 +172,7 @@ module _ {A : Type 0} (c : Conventions) (r : List ℕ) (g : Board → A) (f : �
   -- THEOREM. The board's part that follows the tags is the fold over the record's tags, in their order, from that of an empty board.
   pub RecordFolds : All (Numbered Fine) (plainOf c r .tags) → g (recordOut c r .state .board) ≡ foldTags f (g noBoard) (plainOf c r .tags)
   unfolding recordOut
-  RecordFolds a = rw (TagsOfLines c r) (lines-fold 0 noState (rawLines r) refl (h .none-open) (rw (TagsOfLines c r) at a))
+  RecordFolds a = rw (TagsOfLines c r) (lines-fold 0 noState (rawLines r) (h .none-open) (rw (TagsOfLines c r) at a))
 
 -- ---- deal, table, identity
 

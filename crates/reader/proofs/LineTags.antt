@@ -1,15 +1,19 @@
--- What a record reads as, line by line and without places: its tags and its directives.
-use Prim.Native.Nat.{ℕ, _+_, _-_}
+-- What a record reads as, line by line and without places: its tags, its directives and its commentary.
+use Prim.Native.Nat.{ℕ, _+_, _-_, _≤_, _<_}
 use mathlib.Core.Path.{_≡_, refl, sym, ap, _∙_}
-use mathlib.Core.Bool.{Bool, true, false, cond, not}
-use mathlib.Core.List.{List, [], _∷_, _++_, append-nil, append-assoc, map-append}
+use mathlib.Core.Bool.{Bool, true, false, cond, _&&_, not}
+use mathlib.Core.List.{List, [], _∷_, _++_, map, append-nil, append-assoc, map-append}
 use native.Mathlib.Nat.{add-zero}
 use native.Mathlib.Omega.{arith}
 use lib.Dec.{eqb}
-use lib.ListN.{length, drop, length-append}
-use borrow.Author.Tests.{ne-eqb}
+use lib.ListN.{length, take, drop, length-append, length-drop, take-append-drop}
+use lib.Seq.{take-append-add, take-append-le, drop-append-le, drop-drop}
+use borrow.Author.Tests.{ne-eqb, eqb-false}
 use Rattle.tables.specs.declared.letters.Conventions.{Conventions}
-use Rattle.tables.specs.Text.{lead}
+use Rattle.tables.specs.Text.{isWhite, lead}
+use Rattle.tables.specs.Letters.{among, every}
+use Rattle.tables.proofs.Laws.{by-cases, clash}
+use Rattle.tables.proofs.TextLaws.{front-few}
 use Rattle.reader.specs.declared.store.Entry.{Entry}
 use Rattle.reader.specs.declared.tag.Span.{Span}
 use Rattle.reader.specs.declared.tag.Tag.{Tag as TagPlaces}
@@ -19,15 +23,16 @@ use Rattle.reader.specs.declared.line.TagReading.{TagReading}
 use Rattle.reader.specs.declared.line.TagReading.the-variants.{Plain, WithComment, WithData}
 use Rattle.reader.specs.declared.board.State.{State}
 use Rattle.reader.specs.Tag.{cut, TagInside, spanInside}
-use Rattle.reader.specs.Lines.{hasBrace, lastBrace, lineKind, tagOf, linePlaced, readingPlaced}
+use Rattle.reader.specs.Lines.{isBlank, hasBrace, lastBrace, lineKind, tagOf, linePlaced, readingPlaced}
 use Rattle.reader.specs.Pieces.{Out, andThen, entry, rawLines}
 use Rattle.reader.specs.Sections.{opensNote, noteAfter}
 use Rattle.reader.specs.Boards.{closed, noSpan, at, tagged, adding, directed, dated, readBy, readTag, noted, isAllWhite, blocked, braced, inNote, lineBy, lineOut, linesOut, noState, recordOut}
-use Rattle.reader.specs.Plain.{Item, itemOf, itemsOf, TagPair, Remark, tagsIn, remarksIn, plainBy, plainOf}
+use Rattle.reader.specs.Plain.{Item, itemOf, itemsOf, TagPair, Remark, tagsIn, remarksIn, blockValue, plainBy, plainOf}
 use Rattle.reader.proofs.EntryLaws.{All, none, one}
+use Rattle.reader.proofs.LineLaws.{blank-is}
 use Rattle.reader.proofs.Inside.{LineInside}
 use Rattle.reader.proofs.SectionLaws.{LineAt}
-use Rattle.reader.proofs.Counts.{next-line}
+use Rattle.reader.proofs.Counts.{chosen, next-line}
 use Rattle.reader.proofs.PlainLaws.{PartPlaced}
 use Rattle.reader.proofs.PlainSteps.{Late, closed-late, closed-keeps, first-line}
 
@@ -76,163 +81,318 @@ abbrev pub directivesOfLines : Bool → ℕ → List (List ℕ) → List Remark
 directivesOfLines noting n [] = []
 directivesOfLines noting n (l ∷ ls) = lineDirectives noting l n ++ directivesOfLines (noteAfter noting l) (n + length (lineTags noting l)) ls
 
+-- ---- commentary of lines
+
+-- A block with n tags before it, where it is not white space alone.
+abbrev pub blockOn : List ℕ → ℕ → List Remark
+blockOn bytes n = cond (every isWhite bytes) [] (record { bytes = bytes; before = n } ∷ [])
+
+-- The block of a line that opens commentary and closes it: from behind the `{` up to the last `}`.
+abbrev pub innerBlock : List ℕ → List ℕ
+innerBlock l = cut (record { start = length (lead l) + 1; len = lastBrace l - (length (lead l) + 1) }) l
+
+abbrev pub blocksOn : Line → List ℕ → ℕ → List Remark
+blocksOn Blank l n = []
+blocksOn Brace l n = cond (hasBrace l) (blockOn (innerBlock l) n) []
+blocksOn (Directive d) l n = []
+blocksOn (TagOn t) l n = []
+blocksOn Bracket l n = []
+blocksOn (Data d) l n = []
+
+-- Where commentary is open, g is its text up to the line.
+unfoldable pub lineBlocks : Bool → List ℕ → List ℕ → ℕ → List Remark
+lineBlocks noting g l n = cond noting (cond (hasBrace l) (blockOn (g ++ take (lastBrace l) l) n) []) (blocksOn (lineKind l) l n)
+
+-- The text of commentary up to the end of a line that leaves it open.
+unfoldable pub blockAfter : Bool → List ℕ → List ℕ → List ℕ
+blockAfter noting g l = cond noting (g ++ l) (drop (length (lead l) + 1) l)
+
+-- The blocks of lines, with their CRs.
+abbrev pub blocksOfLines : Bool → List ℕ → ℕ → List (List ℕ) → List Remark
+blocksOfLines noting g n [] = []
+blocksOfLines noting g n (l ∷ ls) = lineBlocks noting g l n ++ blocksOfLines (noteAfter noting l) (blockAfter noting g l) (n + length (lineTags noting l)) ls
+
+-- ---- whether commentary is open
+
+-- After a line of a kind, and after any line.
+module _ (c : Conventions) (r : List ℕ) (p : ℕ) (l : List ℕ) where
+  kind-noting : (s : State) (k : Line) → s .noting ≡ false → lineBy c r s p l k .state .noting ≡ opensNote k l
+  unfolding braced blocked readTag tagged
+  kind-noting s Blank n = n
+  kind-noting s Brace n = by-brace (hasBrace l)
+    where
+      by-brace : (b : Bool) → cond b (blocked r s (p + length (lead l) + 1) (p + lastBrace l)) (record { state = noted s true (p + length (lead l) + 1); entries = [] }) .state .noting ≡ not b
+      by-brace true = refl
+      by-brace false = refl
+  kind-noting s (Directive d) n = n
+  kind-noting s (TagOn (Plain t)) n = refl
+  kind-noting s (TagOn (WithComment t d)) n = refl
+  kind-noting s (TagOn (WithData t d)) n = refl
+  kind-noting s Bracket n = n
+  kind-noting s (Data d) n = n
+
+  pub line-noting : (s : State) → lineOut c r s p l .state .noting ≡ noteAfter (s .noting) l
+  unfolding lineOut noteAfter inNote blocked
+  line-noting s = by-noting (s .noting) refl
+    where
+      by-brace : (b : Bool) → s .noting ≡ true → cond b (blocked r s (s .block) (p + lastBrace l)) (record { state = s; entries = [] }) .state .noting ≡ not b
+      by-brace true n = refl
+      by-brace false n = n
+
+      by-noting : (b : Bool) → s .noting ≡ b → cond b (inNote r s p l) (lineBy c r s p l (lineKind l)) .state .noting ≡ cond b (not (hasBrace l)) (opensNote (lineKind l) l)
+      by-noting true n = by-brace (hasBrace l) n
+      by-noting false n = kind-noting s (lineKind l) n
+
+-- ---- the text of open commentary
+
+-- Where commentary is open at the place p, g stands from its block's start up to p.
+record Gathered (r : List ℕ) (p : ℕ) (s : State) (g : List ℕ) : Type 0 where
+  placed : s .noting ≡ true → s .block + length g ≡ p
+  held : s .noting ≡ true → drop (s .block) r ≡ g ++ drop p r
+
+not-open : {r : List ℕ} {p : ℕ} {s : State} {g : List ℕ} → s .noting ≡ false → Gathered r p s g
+not-open n = record { placed = λ e. clash (sym n ∙ e); held = λ e. clash (sym n ∙ e) }
+
+-- A line that opens commentary has a byte behind its white space.
+brace-room : (l : List ℕ) → lineKind l ≡ Brace → length (lead l) + 1 ≤ length l
+unfolding lineKind
+brace-room l e =
+    by-cases (isBlank l)
+    (λ t. let z : Blank ≡ Brace = rw t at e in let x : _≡_ {A = ℕ} 0 1 = cc in absurd (omega arith))
+    (λ t. omega (arith, eqb-false (length (lead l)) (length l) (blank-is l ∙ t), front-few isWhite l))
+
+brace-few : (l : List ℕ) → lastBrace l ≤ length l
+brace-few [] = omega arith
+brace-few (b ∷ bs) = by-cases (eqb b 125 && not (among 125 bs)) (λ e. rw e (omega arith)) (λ e. rw e (omega (arith, brace-few bs)))
+
+module _ (c : Conventions) (r : List ℕ) (p : ℕ) (l : List ℕ) (i : LineAt r p l) where
+  line-rest : drop p r ≡ l ++ drop (p + length l) r
+  line-rest = sym (take-append-drop (length l) (drop p r)) ∙ rw (drop-drop (length l) p r, ← i .bytes)
+
+  -- The text up to the byte k of the line.
+  gathered-more : (s : State) (g : List ℕ) (k : ℕ) → k ≤ length l → s .noting ≡ true → Gathered r p s g → take (p + k - s .block) (drop (s .block) r) ≡ g ++ take k l
+  gathered-more s g k h n a =
+      let z = a .placed n in
+      let m : p + k - s .block ≡ length g + k = omega arith in
+      rw (m, a .held n, take-append-add g (drop p r) k, line-rest, take-append-le k l (drop (p + length l) r) h)
+
+  note-gathered : (s : State) (g : List ℕ) → s .noting ≡ true → Gathered r p s g → Gathered r (p + length l) (inNote r s p l .state) (g ++ l)
+  unfolding inNote blocked
+  note-gathered s g n a =
+      chosen (λ (o : Out State). Gathered r (p + length l) (o .state) (g ++ l)) (hasBrace l) (blocked r s (s .block) (p + lastBrace l)) (record { state = s; entries = [] })
+      (λ e. not-open refl)
+      (λ e.
+      record {
+        placed = λ m. simp length-append (omega (arith, a .placed n));
+        held = λ m. a .held n ∙ ap (λ (x : List ℕ). g ++ x) line-rest ∙ sym (append-assoc g l (drop (p + length l) r));
+      })
+
+  brace-gathered : (s : State) → lineKind l ≡ Brace → Gathered r (p + length l) (braced r s p l .state) (drop (length (lead l) + 1) l)
+  unfolding braced blocked
+  brace-gathered s k =
+      let n = length (lead l) + 1 in
+      let h = brace-room l k in
+      let b : p + length (lead l) + 1 ≡ p + n = omega arith in
+      chosen (λ (o : Out State). Gathered r (p + length l) (o .state) (drop n l)) (hasBrace l) (blocked r s (p + length (lead l) + 1) (p + lastBrace l))
+      (record { state = noted s true (p + length (lead l) + 1); entries = [] })
+      (λ e. not-open refl)
+      (λ e.
+      record {
+        placed = λ m. rw length-drop (omega arith);
+        held = λ m. rw (b, ← drop-drop n p r, line-rest) (drop-append-le n l (drop (p + length l) r) h);
+      })
+
+  kind-gathered : (s : State) (k : Line) → s .noting ≡ false → lineKind l ≡ k → Gathered r (p + length l) (lineBy c r s p l k .state) (drop (length (lead l) + 1) l)
+  kind-gathered s Blank n e = not-open (kind-noting c r p l s Blank n)
+  kind-gathered s Brace n e = brace-gathered s e
+  kind-gathered s (Directive d) n e = not-open (kind-noting c r p l s (Directive d) n)
+  kind-gathered s (TagOn t) n e = not-open (kind-noting c r p l s (TagOn t) n)
+  kind-gathered s Bracket n e = not-open (kind-noting c r p l s Bracket n)
+  kind-gathered s (Data d) n e = not-open (kind-noting c r p l s (Data d) n)
+
+  line-gathered : (s : State) (g : List ℕ) → Gathered r p s g → Gathered r (p + length l) (lineOut c r s p l .state) (blockAfter (s .noting) g l)
+  unfolding lineOut blockAfter
+  line-gathered s g a = by-noting (s .noting) refl
+    where
+      by-noting : (b : Bool) → s .noting ≡ b → Gathered r (p + length l) (cond b (inNote r s p l) (lineBy c r s p l (lineKind l)) .state) (cond b (g ++ l) (drop (length (lead l) + 1) l))
+      by-noting true n = note-gathered s g n a
+      by-noting false n = kind-gathered s (lineKind l) n refl
+
 -- ---- steps
 
--- A step of the record r from the state s adds these tags and directives in front of those of any entries that follow, and commentary
--- is then open or not.
-record Adds (r : List ℕ) (s : State) (ts : List TagPair) (ds : List Remark) (noting : Bool) (o : Out State) : Type 0 where
-  tags-added : (is : List Item) → tagsIn (itemsOf r (o .entries) ++ is) ≡ ts ++ tagsIn is
-  directives-added : (is : List Item) → remarksIn 3 (itemsOf r (o .entries) ++ is) ≡ ds ++ remarksIn 3 is
-  noting-then : o .state .noting ≡ noting
-  tags-then : o .state .tags ≡ s .tags + length ts
+-- From these entries, whatever follows them, f reads xs.
+abbrev Reads : {A : Type 0} → (List Item → List A) → List Item → List A → Type 0
+Reads f is xs = (js : List Item) → f (is ++ js) ≡ xs ++ f js
 
-then-adds : (r : List ℕ) (s : State) (ts ts′ : List TagPair) (ds ds′ : List Remark) (n n′ : Bool) (o k : Out State) → Adds r s ts ds n o → Adds r (o .state) ts′ ds′ n′ k
-    → Adds r s (ts ++ ts′) (ds ++ ds′) n′ (andThen o k)
-then-adds r s ts ts′ ds ds′ n n′ o k a b =
-    let xs = itemsOf r (o .entries) in
-    let ys = itemsOf r (k .entries) in
-    let m : itemsOf r (o .entries ++ k .entries) ≡ xs ++ ys = map-append (itemOf r) (o .entries) (k .entries) in
+reads-both : {A : Type 0} (f : List Item → List A) (r : List ℕ) (es fs : List Entry) (xs ys : List A) → Reads f (itemsOf r es) xs → Reads f (itemsOf r fs) ys → Reads f (itemsOf r (es ++ fs)) (xs ++ ys)
+reads-both {A = A} f r es fs xs ys a b js =
+    let is = itemsOf r fs ++ js in
+    let m = ap (λ (l : List Item). l ++ js) (map-append (itemOf r) es fs) ∙ append-assoc (itemsOf r es) (itemsOf r fs) js in
+    ap f m ∙ a is ∙ ap (λ (l : List A). xs ++ l) (b js) ∙ sym (append-assoc xs ys (f js))
+
+reads-alone : {A : Type 0} (f : List Item → List A) (is : List Item) (xs : List A) → f [] ≡ [] → Reads f is xs → f is ≡ xs
+reads-alone f is xs z e = ap f (sym (append-nil is)) ∙ e [] ∙ rw z (append-nil xs)
+
+-- A step of the record r from the state s adds these tags, directives and blocks.
+record Adds (r : List ℕ) (s : State) (ts : List TagPair) (ds bs : List Remark) (o : Out State) : Type 0 where
+  tags-added : Reads tagsIn (itemsOf r (o .entries)) ts
+  directives-added : Reads (remarksIn 3) (itemsOf r (o .entries)) ds
+  blocks-added : Reads (remarksIn 4) (itemsOf r (o .entries)) bs
+  counted : o .state .tags ≡ s .tags + length ts
+
+then-adds : (r : List ℕ) (s : State) (ts ts′ : List TagPair) (ds ds′ bs bs′ : List Remark) (o k : Out State) → Adds r s ts ds bs o → Adds r (o .state) ts′ ds′ bs′ k
+    → Adds r s (ts ++ ts′) (ds ++ ds′) (bs ++ bs′) (andThen o k)
+then-adds r s ts ts′ ds ds′ bs bs′ o k a b =
     record {
-      tags-added = λ is.
-          rw (m, append-assoc xs ys is) (a .tags-added (ys ++ is) ∙ ap (λ (l : List TagPair). ts ++ l) (b .tags-added is) ∙ sym (append-assoc ts ts′ (tagsIn is)));
-      directives-added = λ is.
-          rw (m, append-assoc xs ys is) (a .directives-added (ys ++ is) ∙ ap (λ (l : List Remark). ds ++ l) (b .directives-added is) ∙ sym (append-assoc ds ds′ (remarksIn 3 is)));
-      noting-then = b .noting-then;
-      tags-then = rw length-append (omega (arith, a .tags-then, b .tags-then));
+      tags-added = reads-both tagsIn r (o .entries) (k .entries) ts ts′ (a .tags-added) (b .tags-added);
+      directives-added = reads-both (remarksIn 3) r (o .entries) (k .entries) ds ds′ (a .directives-added) (b .directives-added);
+      blocks-added = reads-both (remarksIn 4) r (o .entries) (k .entries) bs bs′ (a .blocks-added) (b .blocks-added);
+      counted = rw length-append (omega (arith, a .counted, b .counted));
     }
 
--- The same of an equal answer about commentary.
-noted-adds : {r : List ℕ} {s : State} {ts : List TagPair} {ds : List Remark} {n m : Bool} {o : Out State} → n ≡ m → Adds r s ts ds n o → Adds r s ts ds m o
-noted-adds e a = record { tags-added = a .tags-added; directives-added = a .directives-added; noting-then = a .noting-then ∙ e; tags-then = a .tags-then }
-
--- A section that closes adds neither.
-late-adds : (r : List ℕ) (s s′ : State) {es : List Entry} → s′ .tags ≡ s .tags → s′ .noting ≡ s .noting → All Late es → Adds r s [] [] (s .noting) (record { state = s′; entries = es })
+-- A section that closes adds none.
+closed-adds : (c : Conventions) (r : List ℕ) (s : State) → Adds r s [] [] [] (closed c r s)
 unfolding itemOf
-late-adds r s s′ e f a = record { tags-added = tags a; directives-added = directives a; noting-then = f; tags-then = e ∙ sym (add-zero (s .tags)) }
+closed-adds c r s =
+    let a = closed-late c r s in
+    record { tags-added = tags a; directives-added = remarks 3 (omega arith) a; blocks-added = remarks 4 (omega arith) a; counted = closed-keeps c r s .tags-kept ∙ sym (add-zero (s .tags)) }
   where
-    tags : {es : List Entry} → All Late es → (is : List Item) → tagsIn (itemsOf r es ++ is) ≡ tagsIn is
+    tags : {es : List Entry} → All Late es → Reads tagsIn (itemsOf r es) []
     tags none is = refl
     tags (one {x = x} l a) is = rw (ne-eqb (x .kind) 1 (λ u. omega (arith, l .late, u))) (tags a is)
 
-    directives : {es : List Entry} → All Late es → (is : List Item) → remarksIn 3 (itemsOf r es ++ is) ≡ remarksIn 3 is
-    directives none is = refl
-    directives (one {x = x} l a) is = rw (ne-eqb (x .kind) 3 (λ u. omega (arith, l .late, u))) (directives a is)
+    remarks : (k : ℕ) → k < 6 → {es : List Entry} → All Late es → Reads (remarksIn k) (itemsOf r es) []
+    remarks k h none is = refl
+    remarks k h (one {x = x} l a) is = rw (ne-eqb (x .kind) k (λ u. omega (arith, l .late, u))) (remarks k h a is)
 
-closed-adds : (c : Conventions) (r : List ℕ) (s : State) → Adds r s [] [] (s .noting) (closed c r s)
-closed-adds c r s = late-adds r s (closed c r s .state) (closed-keeps c r s .tags-kept) (closed-keeps c r s .noting-kept) (closed-late c r s)
+idle-adds : (r : List ℕ) (s s′ : State) → s′ .tags ≡ s .tags → Adds r s [] [] [] (record { state = s′; entries = [] })
+idle-adds r s s′ e = record { tags-added = λ is. refl; directives-added = λ is. refl; blocks-added = λ is. refl; counted = e ∙ sym (add-zero (s .tags)) }
 
-idle-adds : (r : List ℕ) (s s′ : State) → s′ .tags ≡ s .tags → Adds r s [] [] (s′ .noting) (record { state = s′; entries = [] })
-idle-adds r s s′ e = record { tags-added = λ is. refl; directives-added = λ is. refl; noting-then = refl; tags-then = e ∙ sym (add-zero (s .tags)) }
-
--- No entry, or one that is neither a tag's name nor a directive.
-other-adds : (r : List ℕ) (s s′ : State) (b : Bool) (e : Entry) → s′ .tags ≡ s .tags → eqb (e .kind) 1 ≡ false → eqb (e .kind) 3 ≡ false → Adds r s [] [] (s′ .noting) (adding s′ (cond b [] (e ∷ [])))
+dated-adds : (r : List ℕ) (s : State) (p : ℕ) (d : Span) → Adds r s [] [] [] (dated s p d)
 unfolding itemOf
-other-adds r s s′ true e h x y = record { tags-added = λ is. refl; directives-added = λ is. refl; noting-then = refl; tags-then = h ∙ sym (add-zero (s .tags)) }
-other-adds r s s′ false e h x y = record { tags-added = λ is. rw x; directives-added = λ is. rw y; noting-then = refl; tags-then = h ∙ sym (add-zero (s .tags)) }
+dated-adds r s p d = maybe (eqb (s .section .kind) 0)
+  where
+    maybe : (b : Bool) → Adds r s [] [] [] (adding s (cond b [] (entry 5 (p + d .start) (d .len) (s .section .kind) ∷ [])))
+    maybe true = idle-adds r s (adding s [] .state) refl
+    maybe false = record { tags-added = λ is. refl; directives-added = λ is. refl; blocks-added = λ is. refl; counted = sym (add-zero (s .tags)) }
 
-dated-adds : (r : List ℕ) (s : State) (p : ℕ) (d : Span) → Adds r s [] [] (s .noting) (dated s p d)
-dated-adds r s p d = other-adds r s s (eqb (s .section .kind) 0) (entry 5 (p + d .start) (d .len) (s .section .kind)) refl refl refl
-
-blocked-adds : (r : List ℕ) (s : State) (i j : ℕ) → Adds r s [] [] false (blocked r s i j)
-unfolding blocked
-blocked-adds r s i j = other-adds r s (noted s false 0) (isAllWhite r i j) (entry 4 i (j - i) (s .tags)) refl refl refl
+-- A block whose text is g.
+blocked-adds : (r : List ℕ) (s : State) (i j : ℕ) (g : List ℕ) → take (j - i) (drop i r) ≡ g → Adds r s [] [] (blockOn g (s .tags)) (blocked r s i j)
+unfolding blocked itemOf
+blocked-adds r s i j g e = rw (← e) (maybe (isAllWhite r i j))
+  where
+    maybe : (b : Bool) → Adds r s [] [] (cond b [] (record { bytes = take (j - i) (drop i r); before = s .tags } ∷ [])) (adding (noted s false 0) (cond b [] (entry 4 i (j - i) (s .tags) ∷ [])))
+    maybe true = idle-adds r s (adding (noted s false 0) [] .state) refl
+    maybe false = record { tags-added = λ is. refl; directives-added = λ is. refl; blocks-added = λ is. refl; counted = sym (add-zero (s .tags)) }
 
 -- ---- one line
 
 module _ (c : Conventions) (r : List ℕ) (p : ℕ) (l : List ℕ) (i : LineAt r p l) where
-  directed-adds : (s : State) (d : Span) → spanInside d (length l) → Adds r s [] (record { bytes = cut d l; before = s .tags } ∷ []) (s .noting) (directed s p d)
+  directed-adds : (s : State) (d : Span) → spanInside d (length l) → Adds r s [] (record { bytes = cut d l; before = s .tags } ∷ []) [] (directed s p d)
   unfolding itemOf
   directed-adds s d j =
       let e = PartPlaced r l p (d .start) (d .len) (i .bytes) j in
-      record { tags-added = λ is. refl; directives-added = λ is. rw e; noting-then = refl; tags-then = sym (add-zero (s .tags)) }
+      record { tags-added = λ is. refl; directives-added = λ is. rw e; blocks-added = λ is. refl; counted = sym (add-zero (s .tags)) }
 
   tagged-adds : (s : State) (q : ℕ) (t : TagPlaces) (split : Span) → TagInside t (length l)
-      → Adds r s (record { name = cut (t .name) l; value = cut (t .value) l } ∷ []) [] false (tagged c s p l q t split)
+      → Adds r s (record { name = cut (t .name) l; value = cut (t .value) l } ∷ []) [] [] (tagged c s p l q t split)
   unfolding tagged itemOf
   tagged-adds s q t split j =
       let n = PartPlaced r l p (t .name .start) (t .name .len) (i .bytes) (j .name-inside) in
       let v = PartPlaced r l p (t .value .start) (t .value .len) (i .bytes) (j .value-inside) in
-      record { tags-added = λ is. rw (n, v); directives-added = λ is. refl; noting-then = refl; tags-then = refl }
+      record { tags-added = λ is. rw (n, v); directives-added = λ is. refl; blocks-added = λ is. refl; counted = refl }
 
-  reading-adds : (s : State) (q : ℕ) (t : TagReading) → readingPlaced t (length l) → Adds r s (pairOn t l ∷ []) (commentOn t l (s .tags)) false (readBy c s p l q t)
+  reading-adds : (s : State) (q : ℕ) (t : TagReading) → readingPlaced t (length l) → Adds r s (pairOn t l ∷ []) (commentOn t l (s .tags)) [] (readBy c s p l q t)
   unfolding tagged
   reading-adds s q (Plain t) j = tagged-adds s q t noSpan j
   reading-adds s q (WithComment t d) j =
       let o = tagged c s p l q t noSpan in
-      then-adds r s (pairOn (Plain t) l ∷ []) [] [] (commentOn (WithComment t d) l (s .tags)) false false o (directed (o .state) p d) (tagged-adds s q t noSpan (j .0)) (directed-adds (o .state) d (j .1))
+      then-adds r s (pairOn (Plain t) l ∷ []) [] [] (commentOn (WithComment t d) l (s .tags)) [] [] o (directed (o .state) p d) (tagged-adds s q t noSpan (j .0)) (directed-adds (o .state) d (j .1))
   reading-adds s q (WithData t d) j =
       let o = tagged c s p l q t (at p d) in
-      then-adds r s (pairOn (Plain t) l ∷ []) [] [] [] false false o (dated (o .state) p d) (tagged-adds s q t (at p d) (j .0)) (dated-adds r (o .state) p d)
+      then-adds r s (pairOn (Plain t) l ∷ []) [] [] [] [] [] o (dated (o .state) p d) (tagged-adds s q t (at p d) (j .0)) (dated-adds r (o .state) p d)
 
-  tag-adds : (s : State) (t : TagReading) → readingPlaced t (length l) → Adds r s (pairOn t l ∷ []) (commentOn t l (s .tags)) false (readTag c r s p l t)
+  tag-adds : (s : State) (t : TagReading) → readingPlaced t (length l) → Adds r s (pairOn t l ∷ []) (commentOn t l (s .tags)) [] (readTag c r s p l t)
   unfolding readTag
   tag-adds s t j =
       let o = closed c r s in
-      let k : Adds r (o .state) (pairOn t l ∷ []) (commentOn t l (s .tags)) false (readBy c (o .state) p l (p + length l) t)
+      let k : Adds r (o .state) (pairOn t l ∷ []) (commentOn t l (s .tags)) [] (readBy c (o .state) p l (p + length l) t)
       = rw (closed-keeps c r s .tags-kept) at (reading-adds (o .state) (p + length l) t j) in
-      then-adds r s [] (pairOn t l ∷ []) [] (commentOn t l (s .tags)) (s .noting) false o (readBy c (o .state) p l (p + length l) t) (closed-adds c r s) k
+      then-adds r s [] (pairOn t l ∷ []) [] (commentOn t l (s .tags)) [] [] o (readBy c (o .state) p l (p + length l) t) (closed-adds c r s) k
 
-  braced-adds : (s : State) → Adds r s [] [] (not (hasBrace l)) (braced r s p l)
+  braced-adds : (s : State) → lineKind l ≡ Brace → Adds r s [] [] (blocksOn Brace l (s .tags)) (braced r s p l)
   unfolding braced
-  braced-adds s = by-brace (hasBrace l)
+  braced-adds s k = by-brace (hasBrace l)
     where
-      by-brace : (b : Bool) → Adds r s [] [] (not b) (cond b (blocked r s (p + length (lead l) + 1) (p + lastBrace l)) (record { state = noted s true (p + length (lead l) + 1); entries = [] }))
-      by-brace true = blocked-adds r s (p + length (lead l) + 1) (p + lastBrace l)
+      inner : take (p + lastBrace l - (p + length (lead l) + 1)) (drop (p + length (lead l) + 1) r) ≡ innerBlock l
+      inner =
+          let n = length (lead l) + 1 in
+          let m : p + lastBrace l - (p + length (lead l) + 1) ≡ lastBrace l - n = omega arith in
+          let b : p + length (lead l) + 1 ≡ p + n = omega arith in
+          rw (m, b) (PartPlaced r l p n (lastBrace l - n) (i .bytes) (omega (arith, brace-room l k, brace-few l)))
+
+      by-brace : (b : Bool) → Adds r s [] [] (cond b (blockOn (innerBlock l) (s .tags)) []) (cond b (blocked r s (p + length (lead l) + 1) (p + lastBrace l)) (record { state = noted s true (p + length (lead l) + 1); entries = [] }))
+      by-brace true = blocked-adds r s (p + length (lead l) + 1) (p + lastBrace l) (innerBlock l) inner
       by-brace false = idle-adds r s (noted s true (p + length (lead l) + 1)) refl
 
-  note-adds : (s : State) → s .noting ≡ true → Adds r s [] [] (not (hasBrace l)) (inNote r s p l)
+  note-adds : (s : State) (g : List ℕ) → s .noting ≡ true → Gathered r p s g → Adds r s [] [] (cond (hasBrace l) (blockOn (g ++ take (lastBrace l) l) (s .tags)) []) (inNote r s p l)
   unfolding inNote
-  note-adds s n = by-brace (hasBrace l)
+  note-adds s g n a = by-brace (hasBrace l)
     where
-      by-brace : (b : Bool) → Adds r s [] [] (not b) (cond b (blocked r s (s .block) (p + lastBrace l)) (record { state = s; entries = [] }))
-      by-brace true = blocked-adds r s (s .block) (p + lastBrace l)
-      by-brace false = noted-adds n (idle-adds r s s refl)
+      by-brace : (b : Bool) → Adds r s [] [] (cond b (blockOn (g ++ take (lastBrace l) l) (s .tags)) []) (cond b (blocked r s (s .block) (p + lastBrace l)) (record { state = s; entries = [] }))
+      by-brace true = blocked-adds r s (s .block) (p + lastBrace l) (g ++ take (lastBrace l) l) (gathered-more c r p l i s g (lastBrace l) (brace-few l) n a)
+      by-brace false = idle-adds r s s refl
 
-  kind-adds : (s : State) (k : Line) → s .noting ≡ false → linePlaced k (length l) → Adds r s (tagsOn k l) (directivesOn k l (s .tags)) (opensNote k l) (lineBy c r s p l k)
-  kind-adds s Blank n j = noted-adds n (idle-adds r s s refl)
-  kind-adds s Brace n j = braced-adds s
-  kind-adds s (Directive d) n j = noted-adds n (directed-adds s d j)
-  kind-adds s (TagOn t) n j = tag-adds s t j
-  kind-adds s Bracket n j = noted-adds n (idle-adds r s s refl)
-  kind-adds s (Data d) n j = noted-adds n (dated-adds r s p d)
+  kind-adds : (s : State) (k : Line) → lineKind l ≡ k → linePlaced k (length l) → Adds r s (tagsOn k l) (directivesOn k l (s .tags)) (blocksOn k l (s .tags)) (lineBy c r s p l k)
+  kind-adds s Blank e j = idle-adds r s s refl
+  kind-adds s Brace e j = braced-adds s e
+  kind-adds s (Directive d) e j = directed-adds s d j
+  kind-adds s (TagOn t) e j = tag-adds s t j
+  kind-adds s Bracket e j = idle-adds r s s refl
+  kind-adds s (Data d) e j = dated-adds r s p d
 
-  line-adds : (s : State) → Adds r s (lineTags (s .noting) l) (lineDirectives (s .noting) l (s .tags)) (noteAfter (s .noting) l) (lineOut c r s p l)
-  unfolding lineOut lineTags lineDirectives noteAfter
-  line-adds s = by-noting (s .noting) refl
+  line-adds : (s : State) (g : List ℕ) → Gathered r p s g → Adds r s (lineTags (s .noting) l) (lineDirectives (s .noting) l (s .tags)) (lineBlocks (s .noting) g l (s .tags)) (lineOut c r s p l)
+  unfolding lineOut lineTags lineDirectives lineBlocks
+  line-adds s g a = by-noting (s .noting) refl
     where
       by-noting : (b : Bool) → s .noting ≡ b
-          → Adds r s (cond b [] (tagsOn (lineKind l) l)) (cond b [] (directivesOn (lineKind l) l (s .tags))) (cond b (not (hasBrace l)) (opensNote (lineKind l) l)) (cond b (inNote r s p l) (lineBy c r s p l (lineKind l)))
-      by-noting true n = note-adds s n
-      by-noting false n = kind-adds s (lineKind l) n (LineInside l)
-
--- Whether commentary is open after a line.
-pub line-noting : (c : Conventions) (r : List ℕ) (p : ℕ) (l : List ℕ) → LineAt r p l → (s : State) → lineOut c r s p l .state .noting ≡ noteAfter (s .noting) l
-line-noting c r p l i s = line-adds c r p l i s .noting-then
+          → Adds r s (cond b [] (tagsOn (lineKind l) l)) (cond b [] (directivesOn (lineKind l) l (s .tags)))
+          (cond b (cond (hasBrace l) (blockOn (g ++ take (lastBrace l) l) (s .tags)) []) (blocksOn (lineKind l) l (s .tags))) (cond b (inNote r s p l) (lineBy c r s p l (lineKind l)))
+      by-noting true n = note-adds s g n a
+      by-noting false n = kind-adds s (lineKind l) refl (LineInside l)
 
 -- ---- all lines
 
-lines-add : (c : Conventions) (r : List ℕ) (p : ℕ) (s : State) (ls : List (List ℕ)) → rawLines (drop p r) ≡ ls
-    → Adds r s (tagsOfLines (s .noting) ls) (directivesOfLines (s .noting) (s .tags) ls) (linesOut c r s p ls .state .noting) (linesOut c r s p ls)
-lines-add c r p s [] e = noted-adds (sym (closed-keeps c r s .noting-kept)) (closed-adds c r s)
-lines-add c r p s (l ∷ ls) e =
+lines-add : (c : Conventions) (r : List ℕ) (p : ℕ) (s : State) (g : List ℕ) (ls : List (List ℕ)) → rawLines (drop p r) ≡ ls → Gathered r p s g
+    → Adds r s (tagsOfLines (s .noting) ls) (directivesOfLines (s .noting) (s .tags) ls) (blocksOfLines (s .noting) g (s .tags) ls) (linesOut c r s p ls)
+lines-add c r p s g [] e a = closed-adds c r s
+lines-add c r p s g (l ∷ ls) e a =
     let o = lineOut c r s p l in
     let k = linesOut c r (o .state) (p + length l) ls in
-    let a = line-adds c r p l (first-line r p l ls e) s in
-    let b : Adds r (o .state) (tagsOfLines (noteAfter (s .noting) l) ls) (directivesOfLines (noteAfter (s .noting) l) (s .tags + length (lineTags (s .noting) l)) ls) (k .state .noting) k
-    = rw (a .noting-then, a .tags-then) at (lines-add c r (p + length l) (o .state) ls (next-line r p l ls e .rest)) in
-    then-adds r s (lineTags (s .noting) l) _ (lineDirectives (s .noting) l (s .tags)) _ (noteAfter (s .noting) l) (k .state .noting) o k a b
+    let i = first-line r p l ls e in
+    let n = noteAfter (s .noting) l in
+    let h = blockAfter (s .noting) g l in
+    let m = s .tags + length (lineTags (s .noting) l) in
+    let x = line-adds c r p l i s g a in
+    let y : Adds r (o .state) (tagsOfLines n ls) (directivesOfLines n m ls) (blocksOfLines n h m ls) k
+    = rw (line-noting c r p l s, x .counted) at (lines-add c r (p + length l) (o .state) h ls (next-line r p l ls e .rest) (line-gathered c r p l i s g a)) in
+    then-adds r s (lineTags (s .noting) l) _ (lineDirectives (s .noting) l (s .tags)) _ (lineBlocks (s .noting) g l (s .tags)) _ o k x y
 
-record-adds : (c : Conventions) (r : List ℕ) → Adds r noState (tagsOfLines false (rawLines r)) (directivesOfLines false 0 (rawLines r)) (recordOut c r .state .noting) (recordOut c r)
+record-adds : (c : Conventions) (r : List ℕ) → Adds r noState (tagsOfLines false (rawLines r)) (directivesOfLines false 0 (rawLines r)) (blocksOfLines false [] 0 (rawLines r)) (recordOut c r)
 unfolding recordOut
-record-adds c r = lines-add c r 0 noState (rawLines r) refl
+record-adds c r = lines-add c r 0 noState [] (rawLines r) refl (not-open refl)
 
 -- THEOREM. The tags of a plain board are those of the record's lines.
 pub TagsOfLines : (c : Conventions) (r : List ℕ) → plainOf c r .tags ≡ tagsOfLines false (rawLines r)
 unfolding plainOf plainBy
-TagsOfLines c r = ap tagsIn (sym (append-nil (itemsOf r (recordOut c r .entries)))) ∙ record-adds c r .tags-added [] ∙ append-nil (tagsOfLines false (rawLines r))
+TagsOfLines c r = reads-alone tagsIn (itemsOf r (recordOut c r .entries)) (tagsOfLines false (rawLines r)) refl (record-adds c r .tags-added)
 
 -- THEOREM. So are its directives.
 pub DirectivesOfLines : (c : Conventions) (r : List ℕ) → plainOf c r .directives ≡ directivesOfLines false 0 (rawLines r)
 unfolding plainOf plainBy
-DirectivesOfLines c r =
-    ap (remarksIn 3) (sym (append-nil (itemsOf r (recordOut c r .entries)))) ∙ record-adds c r .directives-added [] ∙ append-nil (directivesOfLines false 0 (rawLines r))
+DirectivesOfLines c r = reads-alone (remarksIn 3) (itemsOf r (recordOut c r .entries)) (directivesOfLines false 0 (rawLines r)) refl (record-adds c r .directives-added)
+
+-- THEOREM. So are its blocks, once a CR before each LF is dropped.
+pub BlocksOfLines : (c : Conventions) (r : List ℕ) → plainOf c r .blocks ≡ map blockValue (blocksOfLines false [] 0 (rawLines r))
+unfolding plainOf plainBy
+BlocksOfLines c r = ap (map blockValue) (reads-alone (remarksIn 4) (itemsOf r (recordOut c r .entries)) (blocksOfLines false [] 0 (rawLines r)) refl (record-adds c r .blocks-added))
