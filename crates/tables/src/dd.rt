@@ -54,7 +54,7 @@ fn refused(f: Refusal) -> TableRead
 }
 
 // One trick count as a base-14 digit.
-fn encode_tricks(tricks: u8) -> u8
+pub fn encode_tricks(tricks: u8) -> u8
     ensures { λ r. ⌜ r ≡ digitByte tricks ⌝ }
 {
     match tricks {
