@@ -192,7 +192,7 @@ module _ {c : Conventions} {text cards₀ entries₀ cards entries : List ℕ} {
 
 -- ---- the whole
 
-card-blocks : {xs : List (List ℕ)} → Whole xs → Blocks 64 xs
+pub card-blocks : {xs : List (List ℕ)} → Whole xs → Blocks 64 xs
 card-blocks none = store.none
 card-blocks (one e w) = store.one e (card-blocks w)
 
@@ -204,7 +204,7 @@ entry-blocks : (c : Conventions) (a : ℕ) (rs : List (List ℕ)) → Blocks 4 (
 entry-blocks c a [] = store.none
 entry-blocks c a (r ∷ rs) = blocks-append (blocks-map 4 (entryWords a) (entry-four a) (recordOut c r .entries)) (entry-blocks c (a + length r) rs)
 
-all-blocks : (c : Conventions) (text : List ℕ) → Blocks 4 (entriesOf c text)
+pub all-blocks : (c : Conventions) (text : List ℕ) → Blocks 4 (entriesOf c text)
 unfolding entriesOf
 all-blocks c text = entry-blocks c 0 (recordsOf text)
 

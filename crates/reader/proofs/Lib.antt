@@ -62,4 +62,5 @@ pub mod WalkLaws
 pub mod WordLaws
 pub mod WordPins
 pub mod WordTokens
+pub mod WordsFit
 pub mod WordsPlaced

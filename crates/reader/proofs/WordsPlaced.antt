@@ -43,7 +43,7 @@ pub record CardPlaced (text : List ℕ) (entries : List (List ℕ)) (card : List
 
 -- ---- from a record to its edition
 
-stands-within : {A : Type 0} {l xs ws : List A} {n j : ℕ} → Stands l n xs → Stands xs j ws → Stands l (n + j) ws
+pub stands-within : {A : Type 0} {l xs ws : List A} {n j : ℕ} → Stands l n xs → Stands xs j ws → Stands l (n + j) ws
 stands-within s t = rw (s .whole, ← (s .count)) (stands-right (s .before) (stands-left (s .after) t))
 
 -- Kinds are small.
