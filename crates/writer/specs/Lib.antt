@@ -2,3 +2,9 @@ pub mod Sections
 pub mod Tags
 pub mod Remarks
 pub mod Pages
+pub mod Held
+pub mod Puts
+pub mod Steps
+pub mod Items
+pub mod BoardTexts
+pub mod Writings

@@ -1,0 +1,228 @@
+-- What the functions of writing put, said of the entries of a board as they stand in a row.
+use Prim.Native.Nat.{ℕ, zero, suc, _+_, _-_, _/_, _%_}
+use mathlib.Core.Bool.{Bool, true, false, cond, _&&_, _||_, not}
+use mathlib.Core.List.{List, [], _∷_, _++_}
+use lib.Dec.{eqb, ltb, leb}
+use lib.ListN.{length, drop}
+use Rattle.tables.specs.declared.numbers.Number.{Number}
+use Rattle.tables.specs.declared.numbers.Number.the-variants.{Value, Bad}
+use Rattle.tables.specs.declared.letters.Conventions.{Conventions}
+use Rattle.reader.specs.declared.board.Identity.{Identity}
+use Rattle.reader.specs.Words.{same, callToken, cardToken}
+use Rattle.reader.specs.Names.{tagNumber}
+use Rattle.reader.specs.Plain.{Item, TagPair, withoutReturns}
+use Rattle.writer.specs.declared.present.Present.{Present}
+use Rattle.writer.specs.declared.remarks.Sought.{Sought}
+use Rattle.writer.specs.declared.remarks.Sought.the-variants.{Leading, Under, Lost}
+use Rattle.tables.specs.Text.{ascii, trimmed, before}
+use Rattle.tables.specs.Numbers.{numberOf, decimal}
+use Rattle.writer.specs.declared.notes.Note.{Note}
+use Rattle.writer.specs.Tags.{WrittenTag}
+use Rattle.writer.specs.Steps.{isWritten}
+use Rattle.writer.specs.Held.{entryWord, placeBytes, itemsAt}
+
+-- ---- names
+
+-- How many entries stand before the first tag of the name n; all of them where there is none.
+abbrev pub nameIndex : List ℕ → List Item → ℕ
+nameIndex n [] = 0
+nameIndex n (i ∷ is) = cond (eqb (i .kind) 1 && same n (i .bytes)) 0 (suc (nameIndex n is))
+
+-- ---- directives and blocks
+
+-- The names whose remarks are sought: none, those before every tag; the name n; those that are not written.
+abbrev pub soughtBy : Sought → List ℕ → List ℕ → Bool
+soughtBy Leading n m = false
+soughtBy Under n m = same n m
+soughtBy (Lost p) n m = not (isWritten p (tagNumber m))
+
+abbrev pub isFirst : Sought → Bool
+isFirst Leading = true
+isFirst Under = false
+isFirst (Lost p) = false
+
+-- A directive (3) on its line, a block (4) in braces.
+abbrev pub remarkText : ℕ → List ℕ → List ℕ
+remarkText k bs = cond (eqb k 4) (123 ∷ (withoutReturns bs ++ 125 ∷ 10 ∷ [])) (bs ++ 10 ∷ [])
+
+-- The remarks of the kind k whose last tag meets a test; under says it of those before the first tag.
+abbrev pub remarksText : (List ℕ → Bool) → Bool → ℕ → List Item → List ℕ
+remarksText p under k [] = []
+remarksText p under k (i ∷ is) =
+    cond (eqb (i .kind) 1) (remarksText p (p (i .bytes)) k is)
+    (cond (eqb (i .kind) k && under) (remarkText k (i .bytes) ++ remarksText p under k is) (remarksText p under k is))
+
+-- What follows a written tag of the name n: its directives and, after the first of that name, its blocks.
+unfoldable pub afterText : Bool → List ℕ → List Item → List ℕ
+afterText fresh n is = remarksText (soughtBy Under n) false 3 is ++ cond fresh (remarksText (soughtBy Under n) false 4 is) []
+
+-- ---- tags
+
+-- A tag on its line.
+unfoldable pub tagLineText : List ℕ → List ℕ → List ℕ
+tagLineText n v = ((91 ∷ []) ++ n ++ (32 ∷ 34 ∷ [])) ++ v ++ (34 ∷ 93 ∷ 10 ∷ [])
+
+-- A tag without data lines, and what follows it.
+unfoldable pub taggedText : List ℕ → List ℕ → List Item → List ℕ
+taggedText n v is = tagLineText n v ++ afterText true n is
+
+-- ---- supplemental tags
+
+-- The entry e names a supplemental tag other than Scoring, and no entry from first on names it before.
+unfoldable pub isExtraAt : List ℕ → List ℕ → ℕ → ℕ → Bool
+isExtraAt text entries first e =
+    ((eqb (entryWord entries e 0) 1 && eqb (tagNumber (placeBytes text entries e)) 0)
+    && not (same (ascii "Scoring") (placeBytes text entries e)))
+    && eqb (first + nameIndex (placeBytes text entries e) (itemsAt text entries first (e - first))) e
+
+-- The supplemental tags among the n entries from e on; is are the entries whose remarks follow them.
+abbrev pub extrasText : List ℕ → List ℕ → ℕ → List Item → ℕ → ℕ → List ℕ
+extrasText text entries first is e zero = []
+extrasText text entries first is e (suc n) =
+    cond (isExtraAt text entries first e)
+    (taggedText (placeBytes text entries e) (placeBytes text entries (e + 1)) is ++ extrasText text entries first is (e + 1) n)
+    (extrasText text entries first is (e + 1) n)
+
+-- ---- a result
+
+-- What says a result: whether there is one, and the result plus 128.
+abbrev pub resultIn : ℕ → ℕ → Identity
+resultIn met result = record { «number_met» = 0; number = 0; dealer = 4; vulnerability = 0; declarer = 4; «result_met» = met; result = result }
+
+-- ---- auctions
+
+-- What stands before the call number n, from 0: nothing, an LF where a line begins, else a blank.
+unfoldable pub beforeCall : ℕ → List ℕ
+beforeCall n = cond (eqb n 0) [] (cond (eqb (n % 4) 0) (10 ∷ []) (32 ∷ []))
+
+-- The calls of entries in a row, n calls before them; called says that an annotation would belong to the last call.
+abbrev pub callsText : Conventions → ℕ → Bool → List Item → List ℕ
+callsText c n called [] = cond (eqb n 0) [] (10 ∷ [])
+callsText c n called (i ∷ is) =
+    cond (eqb (i .kind) 6) (beforeCall n ++ callToken c (i .mark) ++ callsText c (n + 1) true is)
+    (cond (eqb (i .kind) 7 && called) (i .bytes ++ callsText c n true is) (callsText c n false is))
+
+-- The code of the last call, 47 where there is none; k is that of the call before them.
+abbrev pub lastCode : ℕ → List Item → ℕ
+lastCode k [] = k
+lastCode k (i ∷ is) = lastCode (cond (eqb (i .kind) 6) (i .mark) k) is
+
+-- The end's line, unless the last call is `+`.
+unfoldable pub endText : ℕ → List ℕ
+endText end = cond (eqb end 1) (43 ∷ 10 ∷ []) (cond (eqb end 2) (42 ∷ 10 ∷ []) [])
+
+unfoldable pub auctionText : Conventions → ℕ → List Item → List ℕ
+auctionText c end is = callsText c 0 false is ++ cond (eqb (lastCode 47 is) 38) [] (endText end)
+
+-- ---- plays
+
+-- A card behind n others of its trick.
+abbrev pub slotText : Conventions → ℕ → ℕ → List ℕ
+slotText c n k = cond (ltb k 52) (cond (eqb n 0) [] (32 ∷ []) ++ cardToken c k) []
+
+-- One more where a slot has a card.
+abbrev pub oneMore : ℕ → ℕ → ℕ
+oneMore n k = cond (ltb k 52) (n + 1) n
+
+-- A trick's line from its slots, n cards before them; the LF where there are any.
+abbrev pub slotsText : Conventions → ℕ → List ℕ → List ℕ
+slotsText c n [] = cond (eqb n 0) [] (10 ∷ [])
+slotsText c n (k ∷ ks) = slotText c n k ++ slotsText c (oneMore n k) ks
+
+-- The four slots of a trick's number, lowest first.
+abbrev pub fourSlots : ℕ → List ℕ
+fourSlots z = z % 256 ∷ z / 256 % 256 ∷ z / 65536 % 256 ∷ z / 16777216 % 256 ∷ []
+
+abbrev pub tricksText : Conventions → List Item → List ℕ
+tricksText c [] = []
+tricksText c (i ∷ is) = cond (eqb (i .kind) 8) (slotsText c 0 (fourSlots (i .mark)) ++ tricksText c is) (tricksText c is)
+
+unfoldable pub playText : Conventions → ℕ → List Item → List ℕ
+playText c end is = tricksText c is ++ endText end
+
+-- ---- tags in a row
+
+-- Data lines, each with its LF.
+abbrev pub rowsText : List (List ℕ) → List ℕ
+rowsText [] = []
+rowsText (d ∷ ds) = (d ++ 10 ∷ []) ++ rowsText ds
+
+-- A written tag that is the first of its name, with its data lines and what follows it.
+unfoldable pub fullText : WrittenTag → List Item → List ℕ
+fullText w is = tagLineText (w .name) (w .value) ++ rowsText (w .lines) ++ afterText true (w .name) is
+
+abbrev pub groupText : List WrittenTag → List Item → List ℕ
+groupText [] is = []
+groupText (w ∷ ws) is = fullText w is ++ groupText ws is
+
+-- Notes by their values, in a row: blocks follow the first alone.
+abbrev pub notesText : Bool → List (List ℕ) → List Item → List ℕ
+notesText fresh [] is = []
+notesText fresh (v ∷ vs) is = (tagLineText (ascii "Note") v ++ afterText fresh (ascii "Note") is) ++ notesText false vs is
+
+-- ---- tags by their entries
+
+-- The tags among the n entries from e on, each with the bytes at the entry behind its name.
+abbrev pub tagsAt : List ℕ → List ℕ → ℕ → ℕ → List TagPair
+tagsAt text entries e zero = []
+tagsAt text entries e (suc n) =
+    cond (eqb (entryWord entries e 0) 1)
+    (record { name = placeBytes text entries e; value = placeBytes text entries (e + 1) } ∷ tagsAt text entries (e + 1) n)
+    (tagsAt text entries (e + 1) n)
+
+-- The value of the first Scoring tag among count entries from first on, empty where there is none.
+unfoldable pub scoringAt : List ℕ → List ℕ → ℕ → ℕ → List ℕ
+scoringAt text entries first count =
+    cond (ltb (nameIndex (ascii "Scoring") (itemsAt text entries first count)) count)
+    (placeBytes text entries (first + nameIndex (ascii "Scoring") (itemsAt text entries first count) + 1))
+    []
+
+-- The entries before the first Deal tag, none where there is no Deal tag.
+unfoldable pub dealPlace : List ℕ → List ℕ → ℕ → ℕ → ℕ
+dealPlace text entries first count =
+    cond (ltb (nameIndex (ascii "Deal") (itemsAt text entries first count)) count) (nameIndex (ascii "Deal") (itemsAt text entries first count)) 0
+
+-- ---- notes
+
+-- A number that was read, 256 where it is none.
+abbrev pub orNone : Number → ℕ
+orNone Bad = 256
+orNone (Value v) = v
+
+-- The number of a note's value, 256 where it has no colon or no number before it.
+unfoldable pub noteNumber : List ℕ → ℕ
+noteNumber v = cond (ltb (length (before 58 v)) (length v)) (orNone (numberOf 255 (trimmed (before 58 v)))) 256
+
+-- The number of the note that the entry e names, 256 where it names none.
+unfoldable pub noteNumberAt : List ℕ → List ℕ → ℕ → ℕ
+noteNumberAt text entries e =
+    cond (eqb (entryWord entries e 0) 1)
+    (cond (eqb (tagNumber (placeBytes text entries e)) 17) (noteNumber (placeBytes text entries (e + 1))) 256)
+    256
+
+-- A note with a number from n on that is not above the best so far takes its place.
+abbrev pub better : ℕ → ℕ → ℕ → Bool
+better n best m = ltb m 256 && (leb n m && leb m best)
+
+-- The lowest number from n on, and the place of the last note of that number, among the entries from e on; 256 where there is none.
+abbrev pub nextNote : List ℕ → List ℕ → ℕ → Note → ℕ → ℕ → Note
+nextNote text entries n best e zero = best
+nextNote text entries n best e (suc m) =
+    nextNote text entries n
+    (cond (better n (best .number) (noteNumberAt text entries e)) (record { number = noteNumberAt text entries e; place = e }) best)
+    (e + 1) m
+
+-- A note's value is its number, a colon and what follows the first colon of the value at its place.
+unfoldable pub noteText : List ℕ → List ℕ → Note → List ℕ
+noteText text entries note =
+    decimal (note .number) ++ (58 ∷ []) ++ drop (length (before 58 (placeBytes text entries (note .place + 1))) + 1) (placeBytes text entries (note .place + 1))
+
+-- ---- whether there is anything to put back
+
+abbrev pub isRemark : ℕ → Bool
+isRemark k = eqb k 3 || eqb k 4
+
+-- A directive or a block is among the entries.
+abbrev pub hasRemarks : List Item → Bool
+hasRemarks [] = false
+hasRemarks (i ∷ is) = isRemark (i .kind) || hasRemarks is
