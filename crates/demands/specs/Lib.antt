@@ -3,3 +3,5 @@ pub mod Cases
 pub mod Demand1
 pub mod Demand3
 pub mod Worked
+pub mod NothingLost
+pub mod PageBack

@@ -1,0 +1,87 @@
+-- Nothing of the editor's is lost: the proof of specs/NothingLost.antt.
+use Prim.Native.Nat.{ℕ, zero, suc, _≤_}
+use mathlib.Core.Path.{_≡_, refl, ap, subst, _∙_}
+use mathlib.Core.Bool.{true, false}
+use mathlib.Core.List.{List, [], _∷_, _++_}
+use mathlib.Core.Option.{Option, some}
+use native.Mathlib.Nat.{zero-add}
+use native.Mathlib.Omega.{arith}
+use lib.ListN.{length, getElem?}
+use Rattle.tables.specs.Text.{ascii}
+use Rattle.reader.specs.Words.{same}
+use Rattle.reader.specs.Plain.{Remark, PlainBoard, plainOf}
+use Rattle.reader.proofs.EntryLaws.{All, none as no-more, one}
+use Rattle.reader.proofs.PlainAnchors.{Anchors, PlainAnchors}
+use Rattle.writer.specs.Tags.{WrittenTag, writtenTags}
+use Rattle.writer.specs.Remarks.{anchorOf, anchoredFrom, directivesOf, blocksOf, isLeading, isUnder, isLost, Line, tagLine, dataLine, directiveLine, blockLine, leadingLines, bodyLines, boardLines}
+use Rattle.writer.proofs.NamesOnce.{timesWritten, NamesOnce}
+use Rattle.demands.specs.NothingLost.{directive, block, lineOf, timesAnchored, untilTag, rankIn, NothingLost, NothingIsLost}
+use Rattle.demands.proofs.LinesWritten.{until-remark, allLines, all-tags, Each, each-at}
+use Rattle.demands.proofs.RemarksCounted.{block-times, directive-alone, OnceUnder, each-once-all}
+use Rattle.demands.proofs.RemarksOrdered.{those-rise, Behind, Ordered, from-behind, from-ordered, Ranked, each-ordered-all}
+use Rattle.demands.proofs.RemarksPlaced.{anchor-last, Good, from-good, each-all, all-known, those-ranked, leading-kept, under-kept}
+
+all-remark : {P : Remark → Type 0} {rs : List Remark} → All P rs → (i : ℕ) (k : Remark) → getElem? rs i ≡ some k → P k
+all-remark no-more i k e = let z : _≡_ {A = ℕ} 0 1 = cc in absurd (omega arith)
+all-remark {P = P} (one {x = r} p a) zero k e = let same-remark : r ≡ k = cc in subst P same-remark p
+all-remark (one p a) (suc i) k e = all-remark a i k e
+
+all-at : {P : Line → Type 0} (xs : List Line) (y : Line) (zs : List Line) → All P (xs ++ y ∷ zs) → P y
+all-at [] y zs (one p a) = p
+all-at (x ∷ xs) y zs (one p a) = all-at xs y zs a
+
+until-all : (xs ys : List Line) → untilTag xs ≡ xs → untilTag (xs ++ ys) ≡ xs ++ untilTag ys
+until-all [] ys e = refl
+until-all (tagLine n v ∷ xs) ys e = let z : _≡_ {A = ℕ} 0 1 = cc in absurd (omega arith)
+until-all (dataLine d ∷ xs) ys e = let t : untilTag xs ≡ xs = cc in rw (until-all xs ys t)
+until-all (directiveLine i x ∷ xs) ys e = let t : untilTag xs ≡ xs = cc in rw (until-all xs ys t)
+until-all (blockLine i x ∷ xs) ys e = let t : untilTag xs ≡ xs = cc in rw (until-all xs ys t)
+
+nothing-lost : (b : PlainBoard) (ws : List WrittenTag) → Anchors (length (b .tags)) (b .directives) (b .blocks)
+    → ((n : List ℕ) → same (ascii "Note") n ≡ false → timesWritten n ws ≤ 1)
+    → NothingLost b (allLines (anchoredFrom (b .tags) 0 (b .directives)) (anchoredFrom (b .tags) 0 (b .blocks)) ws)
+nothing-lost b ws reached once-each =
+    let ds = anchoredFrom (b .tags) 0 (b .directives) in
+    let ks = anchoredFrom (b .tags) 0 (b .blocks) in
+    let L = allLines ds ks ws in
+    let hd = all-known b L directive 0 (λ m. ap (getElem? (b .directives)) (zero-add m)) (reached .directives-reached) in
+    let hk = all-known b L block 0 (λ m. ap (getElem? (b .blocks)) (zero-add m)) (reached .blocks-are-reached) in
+    let rk = rankIn b L in
+    let ranked : Ranked rk ws ds ks =
+    record {
+      directives-under = λ n t. those-ranked b L ds ks ws refl directive (isUnder n) false (under-kept b L ds ks ws refl n t) hd;
+      blocks-are-under = λ n t. those-ranked b L ds ks ws refl block (isUnder n) false (under-kept b L ds ks ws refl n t) hk;
+      directives-rise = λ t. those-rise t (b .tags) 0 (b .directives);
+      blocks-rise = λ t. those-rise t (b .tags) 0 (b .blocks);
+    } in
+    let good = each-all b L ds ks ws hd hk refl in
+    let ordered =
+    each-ordered-all rk ds ks ws ranked
+    (those-ranked b L ds ks ws refl directive isLeading false (leading-kept b L ds ks ws refl) hd)
+    (those-ranked b L ds ks ws refl block isLeading false (leading-kept b L ds ks ws refl) hk)
+    (those-ranked b L ds ks ws refl block (isLost ws) true (λ k u. u) hk)
+    (those-ranked b L ds ks ws refl directive (isLost ws) true (λ k u. u) hd) in
+    record {
+      placed = λ kind front back i x e. from-good b L kind i x front back (each-at front (lineOf kind i x) back (subst (Each (Good b L) []) e good));
+      block-once = λ i k h. block-times (b .tags) (b .blocks) ds ws i k h;
+      directive-each = λ front back n v i k h a e.
+          each-at front (tagLine n v) back (subst (Each (OnceUnder i (anchorOf (b .tags) (k .before))) []) e (each-once-all (b .tags) (b .directives) ks ws i k h))
+          (anchor-last (b .tags) (k .before) (all-remark (reached .directives-reached) i k h .reached) ∙ a);
+      directive-once = λ i k h z.
+          directive-alone (b .tags) (b .directives) ks ws i k h
+          (ap (λ (a : Option (List ℕ)). timesAnchored a L) (anchor-last (b .tags) (k .before) (all-remark (reached .directives-reached) i k h .reached)) ∙ z);
+      only-notes = λ n h. rw (all-tags n ds ks ws) (once-each n h);
+      in-order = λ p q front between back i j x y e u.
+          from-behind rk q (rk p i) i j y
+          (all-at between (lineOf q j y) (untilTag back)
+          (subst (All (Behind rk (rk p i) i)) (until-all between (lineOf q j y ∷ back) u ∙ ap (λ (l : List Line). between ++ l) (until-remark q j y back))
+          (from-ordered rk p i x front (between ++ lineOf q j y ∷ back)
+          (each-at front (lineOf p i x) (between ++ lineOf q j y ∷ back) (subst (Each (Ordered rk) []) e ordered)))));
+    }
+
+-- THEOREM. Nothing of the editor's is lost.
+pub nothing-is-lost : NothingIsLost
+unfolding boardLines leadingLines bodyLines directivesOf blocksOf
+nothing-is-lost c r play =
+    let b = plainOf c r in
+    nothing-lost b (writtenTags c b play) (PlainAnchors c r) (λ n h. NamesOnce c b play n h)

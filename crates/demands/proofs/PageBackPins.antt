@@ -1,0 +1,57 @@
+-- Worked examples of directives and blocks read back, by the built-in letters.
+use Prim.Native.String.{String}
+use mathlib.Core.Path.{_≡_, refl}
+use mathlib.Core.List.{List, [], _∷_}
+use mathlib.Core.Option.{none, some}
+use Rattle.tables.specs.Text.{ascii, isWhite, isInside, trimmed}
+use Rattle.tables.specs.Numbers.{digits, decimal}
+use Rattle.tables.specs.Letters.{builtIn, capital, seatOf, suitOf, honourOf, rankOf}
+use Rattle.tables.specs.Tables.{digitOf, digitByte, digitsReading, tableOfDigits}
+use Rattle.reader.specs.Tag.{trimSpan, trimPart, bracketOf, endsQuoted, nameOf, isQuoted, valueOf, isComment, commentOf, tagLine, dataBracket, dataAfter, splitOf}
+use Rattle.reader.specs.TagBytes.{tagText}
+use Rattle.reader.specs.Lines.{isBlank, hasBrace, splitLine, bracketLine, lineKind}
+use Rattle.reader.specs.Words.{levelOf, bidCode, isPass, underscoreCode, signCode, callOf, callToken, isMark, sectionEnd, isAllPass, cardNumber, cardOf, isDoubling, contractTrump, isNoSide, isBothSides, vulnerabilityOf, vulnerabilityToken}
+use Rattle.reader.specs.Names.{tagNames, tagNumber}
+use Rattle.reader.specs.Deals.{has, ones, cardsNamed, handsAfter, dealOf, handWords, handsOfWords, cardText, ranksText, suitText, handText, dealText}
+use Rattle.reader.specs.Auction.{callTokenOf, called, calledPiece}
+use Rattle.reader.specs.Play.{weight, bestSlot, opened, isDash, played, playedBytes, playedPiece, lastTrick}
+use Rattle.reader.specs.Sections.{noteAfter, stopsAt, pieceOf, sectionData, walked, noWalk, walkedAll}
+use Rattle.reader.specs.Boards.{identityBy, dealBy, tableBy, contractBy, isKeptValue, isKept, valuesBy, applied, openBy, closed, tagged, readTag, blocked, braced, inNote, lineOut, recordOut}
+use Rattle.reader.specs.Records.{scanned, closesRecord, recordsOf}
+use Rattle.reader.specs.Plain.{itemOf, plainBy, plainOf, plainBoards}
+use Rattle.writer.specs.Sections.{endLines, auctionLines, noteIn, notesFrom, noteValues, playLines}
+use Rattle.writer.specs.Tags.{seatText, resultText, isExtra, earlyExtras, lateExtras, headTags, tableTags, dealTags, auctionTags, playTags, writtenTags}
+use Rattle.writer.specs.Remarks.{directivesOf, blocksOf, directivesAfter, blocksAfter, leadingLines, bodyLines, boardLines, lineText}
+use Rattle.writer.specs.Pages.{builtInHeader, firstPart, nextPart, writtenText}
+use Rattle.demands.specs.PageBack.{Place, Texts, asDirectives, asBlocks, pageBack}
+
+-- What the directives, or the blocks, of a text are once its edition is written and read back, board by board.
+unfoldable back : Texts → String → List (List Place)
+unfolding isWhite isInside trimmed digits decimal builtIn capital seatOf suitOf honourOf rankOf digitOf digitByte digitsReading tableOfDigits trimSpan trimPart bracketOf endsQuoted nameOf isQuoted valueOf isComment commentOf tagLine dataBracket dataAfter splitOf tagText isBlank hasBrace splitLine bracketLine lineKind levelOf bidCode isPass underscoreCode signCode callOf callToken isMark sectionEnd isAllPass cardNumber cardOf isDoubling contractTrump isNoSide isBothSides vulnerabilityOf vulnerabilityToken tagNames tagNumber has ones cardsNamed handsAfter dealOf handWords handsOfWords cardText ranksText suitText handText dealText callTokenOf called calledPiece weight bestSlot opened isDash played playedBytes playedPiece lastTrick noteAfter stopsAt pieceOf sectionData walked noWalk walkedAll identityBy dealBy tableBy contractBy isKeptValue isKept valuesBy applied openBy closed tagged readTag blocked braced inNote lineOut recordOut scanned closesRecord recordsOf itemOf plainBy plainOf plainBoards endLines auctionLines noteIn notesFrom noteValues playLines seatText resultText isExtra earlyExtras lateExtras headTags tableTags dealTags auctionTags playTags writtenTags directivesOf blocksOf directivesAfter blocksAfter leadingLines bodyLines boardLines lineText builtInHeader firstPart nextPart writtenText
+back t s = pageBack t builtIn (plainBoards builtIn (ascii s))
+
+-- Before any tag, and under its own tag; an edition of two boards.
+pin-places : back asDirectives "; h\n[Event \"\"]\n% a\n\n[X \"\"]\n; x \n"
+    ≡ ((ascii "; h", none) ∷ (ascii "% a", some (ascii "Event")) ∷ []) ∷ ((ascii "; x", some (ascii "X")) ∷ []) ∷ []
+unfolding back
+pin-places = refl
+
+-- `{c}` behind a tag reads back as a block under it, before the blocks that stood there. A CR before an LF is dropped.
+pin-comment : back asDirectives "; h\n[Site \"\"] {c}\n; s\n" ≡ ((ascii "; h", none) ∷ (ascii "; s", some (ascii "Site")) ∷ []) ∷ []
+unfolding back
+pin-comment = refl
+
+pin-blocks : back asBlocks "{a}\n[Site \"\"]\n{b\r\n\n}\n[Site \"\"] {c}\n" ≡ ((ascii "a", none) ∷ (ascii "c", some (ascii "Site")) ∷ (ascii "b\n\n", some (ascii "Site")) ∷ []) ∷ []
+unfolding back
+pin-blocks = refl
+
+-- Under Result, the last written tag, where its own is not written: a table that was not read.
+pin-lost : back asDirectives "; h\n[DoubleDummyTricks \"\"]\n; z\n" ≡ ((ascii "; h", none) ∷ (ascii "; z", some (ascii "Result")) ∷ []) ∷ []
+unfolding back
+pin-lost = refl
+
+-- A directive after a Note follows every Note. The built-in header has two of its own.
+pin-notes : back asDirectives "[Auction \"N\"]\nPass\n[Note \"2:b\"]\n; n\n[Note \"1:a\"]\n"
+    ≡ ((ascii "% PBN 2.1", none) ∷ (ascii "% EXPORT", none) ∷ (ascii "; n", some (ascii "Note")) ∷ (ascii "; n", some (ascii "Note")) ∷ []) ∷ []
+unfolding back
+pin-notes = refl
