@@ -16,7 +16,9 @@ use Rattle.planning.specs.declared.editions.Editions.{Editions}
 use Rattle.planning.specs.declared.plan.Planned.{Planned}
 use Rattle.planning.specs.Slips.{slipsOf}
 use Rattle.planning.specs.Plans.{Boxes, editionsOf, areBoth, isListed, lent, boardsOf, stateBy, behindBy, boardsAfter, BoxesAfter, BothRead, IsPlanned, StateTold, BehindTold, BoardsTold}
-use Rattle.golavimes.specs.Answers.{writtenNumbers, decodedNumbers, readingNumbers, planNumbers, stateNumbers, recordNumbers, boardsNumbers, WroteOut, ReadOut, EditionOut, PlanOut, StateOut, BehindOut, BoardsOut}
+use Rattle.golavimes.specs.Answers.{writtenNumbers, decodedNumbers, readingNumbers, writingNumbers, planNumbers, stateNumbers, recordNumbers, boardsNumbers, WroteOut, ReadOut, EditionOut, WritingOut, PlanOut, StateOut, BehindOut, BoardsOut}
+use Rattle.writer.specs.declared.write.Writing.{Writing}
+use Rattle.writer.specs.Writings.{writingOf, IsWritten}
 
 pub wrote-out : {bs page page′ : List ℕ} {w : Written} {numbers : List ℕ} → Wrote bs page page′ w → numbers ≡ writtenNumbers w → WroteOut bs page page′ numbers (getD numbers 0 0)
 wrote-out a e = record { told = e ∙ ap writtenNumbers (a .told); page-after = a .page-after; returned = refl }
@@ -81,5 +83,14 @@ boards-out {c} {old} {new} {boxes} {numbers} a e =
       told = e ∙ ap boardsNumbers (a .editions-read .answer);
       boxes-after = boxes-told (a .editions-read);
       numbers-after = a .numbers-after ∙ ap (λ (x : Editions). boardsAfter x c old new (length numbers)) (a .editions-read .answer);
+      returned = refl;
+    }
+
+pub writing-out : {c : Conventions} {text cards entries page : List ℕ} {r : Writing} {cards′ entries′ page′ numbers : List ℕ}
+    → IsWritten c text cards entries page r cards′ entries′ page′ → numbers ≡ writingNumbers r → WritingOut c text cards entries page cards′ entries′ page′ numbers (getD numbers 0 0)
+writing-out {c} {text} {cards} {entries} {page} a e =
+    record {
+      told = e ∙ ap writingNumbers (a .answer);
+      lent-after = rw (a .answer) at a;
       returned = refl;
     }

@@ -32,6 +32,9 @@ use Rattle.planning.specs.declared.plan.Planned.the-variants as planned
 use Rattle.planning.specs.States.{stateNumber, fromOf}
 use Rattle.planning.specs.Slips.{slipsOf}
 use Rattle.planning.specs.Plans.{planNumber, planEdition, planCarries, Boxes, editionsOf, areBoth, plannedOf, isListed, lent, boardsOf, BoxesAfter, stateBy, behindBy, boardsAfter}
+use Rattle.writer.specs.declared.write.Writing.{Writing}
+use Rattle.writer.specs.declared.write.Writing.the-variants as writing
+use Rattle.writer.specs.Writings.{writeNumber, writeCarries, writingOf, IsWritten}
 use Rattle.golavimes.specs.declared.Head.{Head}
 
 -- A writer's answer: the value is the bytes written.
@@ -48,6 +51,11 @@ decodedNumbers (decoded.Refused f) = refusalNumber f ∷ 0 ∷ refusalCarries f 
 abbrev pub readingNumbers : Reading → List ℕ
 readingNumbers (Taken boards entries) = 0 ∷ 0 ∷ 0 ∷ boards ∷ entries ∷ []
 readingNumbers (edition.Refused f) = readNumber f ∷ 0 ∷ readCarries f ∷ 0 ∷ 0 ∷ []
+
+-- A written edition's answer: the bytes written.
+abbrev pub writingNumbers : Writing → List ℕ
+writingNumbers (writing.Written n) = 0 ∷ 0 ∷ 0 ∷ n ∷ []
+writingNumbers (writing.Refused f) = writeNumber f ∷ 0 ∷ writeCarries f ∷ 0 ∷ []
 
 -- The first three numbers of planning's answers: refusal, edition (0 none, 1 old, 2 new), carried number.
 abbrev pub refusedHead : PlanRefusal → Head
@@ -103,6 +111,12 @@ pub record EditionOut (c : Conventions) (text cards entries cards′ entries′ 
   pub told : answer′ ≡ readingNumbers (readingOf c text (length cards) (length entries))
   pub cards-after : cards′ ≡ lentAfter (readingOf c text (length cards) (length entries)) (length cards) (cardsOf c text)
   pub entries-after : entries′ ≡ lentAfter (readingOf c text (length cards) (length entries)) (length entries) (entriesOf c text)
+  pub returned : r ≡ getD answer′ 0 0
+
+-- A text is read and written on a lent page, whatever was lent and whatever it held.
+pub record WritingOut (c : Conventions) (text cards entries page cards′ entries′ page′ answer′ : List ℕ) (r : ℕ) : Type 0 where
+  pub told : answer′ ≡ writingNumbers (writingOf c text (length cards) (length entries) (length page))
+  pub lent-after : IsWritten c text cards entries page (writingOf c text (length cards) (length entries) (length page)) cards′ entries′ page′
   pub returned : r ≡ getD answer′ 0 0
 
 -- Two editions are planned, whatever was lent and whatever it held.

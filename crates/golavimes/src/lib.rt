@@ -2,7 +2,7 @@
 ghost use mathlib.Core.Path.{_≡_};
 ghost use Prim.Native.Nat.{_-_};
 ghost use lib.ListN.{getD};
-ghost use Rattle.golavimes.specs.Answers.{writtenNumbers, decodedNumbers, readingNumbers, refusedHead, editionsHead, planNumbers, stateNumbers, recordNumbers, boardsNumbers, WroteOut, ReadOut, EditionOut, PlanOut, StateOut, BehindOut, BoardsOut};
+ghost use Rattle.golavimes.specs.Answers.{writtenNumbers, decodedNumbers, readingNumbers, writingNumbers, refusedHead, editionsHead, planNumbers, stateNumbers, recordNumbers, boardsNumbers, WroteOut, ReadOut, EditionOut, WritingOut, PlanOut, StateOut, BehindOut, BoardsOut};
 ghost use Rattle.tables.specs.Letters.{builtIn};
 ghost use Rattle.tables.specs.Tables.{digitsText, headerText, rowsText, tableOfDigits, tableOfRows};
 use planning::behind::Behind;
@@ -14,6 +14,7 @@ use reader::edition::Reading;
 use tables::dd::Decoded;
 use tables::dd::TableRead;
 use tables::page::Written;
+use writer::write::Writing;
 
 fn written_numbers(w: Written) -> [u64; 4]
     ensures { λ r. ⌜ r ≡ writtenNumbers w ⌝ }
@@ -146,6 +147,36 @@ pub extern "C" fn golavimes_read(
     ensures { λ r. ⌜ EditionOut builtIn (now (text .entry)) (now (cards .entry)) (now (entries .entry)) (now (cards .exit)) (now (entries .exit)) (now (answer .exit)) r ⌝ }
 {
     let numbers = reading_numbers(reader::edition::read_pbn(text, cards, entries));
+    *answer = numbers;
+    numbers[0]
+}
+
+fn writing_numbers(w: Writing) -> [u64; 4]
+    ensures { λ n. ⌜ n ≡ writingNumbers w ⌝ }
+{
+    match w {
+        Writing::Written(n) => [0, 0, 0, n],
+        Writing::Refused(f) => [
+            writer::write::write_number(f),
+            0,
+            writer::write::write_carried(f),
+            0,
+        ],
+    }
+}
+
+// Reads a text and writes it on a page, every comment and directive beside its tag.
+#[no_mangle]
+pub extern "C" fn golavimes_write(
+    text: &[u8],
+    cards: &mut [u32],
+    entries: &mut [u32],
+    page: &mut [u8],
+    answer: &mut [u64; 4],
+) -> u64
+    ensures { λ r. ⌜ WritingOut builtIn (now (text .entry)) (now (cards .entry)) (now (entries .entry)) (now (page .entry)) (now (cards .exit)) (now (entries .exit)) (now (page .exit)) (now (answer .exit)) r ⌝ }
+{
+    let numbers = writing_numbers(writer::write::write_pbn(text, cards, entries, page));
     *answer = numbers;
     numbers[0]
 }
