@@ -6,6 +6,8 @@ mod model;
 mod plan;
 mod read;
 mod rng;
+mod room;
+mod sample;
 mod shrink;
 mod tables;
 

@@ -12,6 +12,7 @@ use crate::read::model::{CARD, ENTRY};
 use crate::read::product::Lent as LentBoxes;
 use crate::read::{Checked, LONGEST};
 use crate::rng::Rng;
+use crate::room::{Room, ENOUGH, ROOMS};
 use crate::shrink::{shrink, Ways};
 use crate::tables::hex;
 use crate::tables::judge::text_in_domain;
@@ -57,52 +58,6 @@ pub struct Lent {
     old: LentBoxes,
     new: LentBoxes,
     numbers: usize,
-}
-
-/// What is lent of one kind, by what is needed. "One" is a card, an entry, a slip
-/// or a board's five numbers.
-#[derive(Clone, Copy, PartialEq, Eq, Debug)]
-enum Room {
-    None,
-    OneLess,
-    WordLess,
-    Exact,
-    WordMore,
-    NearlyOneMore,
-    OneMore,
-}
-
-const ROOMS: [Room; 7] = [
-    Room::None,
-    Room::OneLess,
-    Room::WordLess,
-    Room::Exact,
-    Room::WordMore,
-    Room::NearlyOneMore,
-    Room::OneMore,
-];
-
-/// Those of them that are always enough.
-const ENOUGH: [Room; 4] = [
-    Room::Exact,
-    Room::WordMore,
-    Room::NearlyOneMore,
-    Room::OneMore,
-];
-
-impl Room {
-    fn words(self, needed: usize, size: usize) -> usize {
-        let exact = needed * size;
-        match self {
-            Room::None => 0,
-            Room::OneLess => exact.saturating_sub(size),
-            Room::WordLess => exact.saturating_sub(1),
-            Room::Exact => exact,
-            Room::WordMore => exact + 1,
-            Room::NearlyOneMore => exact + size - 1,
-            Room::OneMore => exact + size,
-        }
-    }
 }
 
 /// For the old edition's cards and entries, the new one's, and the numbers.

@@ -249,53 +249,54 @@ pub struct Boxes<'a> {
     pub new_entries: &'a mut [u32],
 }
 
+/// Calls a function of planning: both texts, the four boxes, then what is its own.
+macro_rules! planning {
+    ($function:ident, $editions:expr, $boxes:expr, $($own:expr),*) => {
+        // SAFETY: as in dd_table_to_pbn.
+        unsafe {
+            c::$function(
+                $editions.old.as_ptr(),
+                $editions.old.len(),
+                $editions.new.as_ptr(),
+                $editions.new.len(),
+                $boxes.old_cards.as_mut_ptr(),
+                $boxes.old_cards.len(),
+                $boxes.old_entries.as_mut_ptr(),
+                $boxes.old_entries.len(),
+                $boxes.new_cards.as_mut_ptr(),
+                $boxes.new_cards.len(),
+                $boxes.new_entries.as_mut_ptr(),
+                $boxes.new_entries.len(),
+                $($own),*
+            )
+        }
+    };
+}
+
 /// Plans. The answer goes on with the number of boards, and how many of them are
 /// blank, own, old, near, twin and solve. A slip is 5 numbers.
 pub fn plan(editions: Editions, boxes: Boxes, slips: &mut [u64], answer: &mut [u64; 10]) -> u64 {
-    // SAFETY: as in dd_table_to_pbn.
-    unsafe {
-        c::golavimes_plan(
-            editions.old.as_ptr(),
-            editions.old.len(),
-            editions.new.as_ptr(),
-            editions.new.len(),
-            boxes.old_cards.as_mut_ptr(),
-            boxes.old_cards.len(),
-            boxes.old_entries.as_mut_ptr(),
-            boxes.old_entries.len(),
-            boxes.new_cards.as_mut_ptr(),
-            boxes.new_cards.len(),
-            boxes.new_entries.as_mut_ptr(),
-            boxes.new_entries.len(),
-            slips.as_mut_ptr(),
-            slips.len(),
-            answer.as_mut_ptr(),
-        )
-    }
+    let (slips, length) = (slips.as_mut_ptr(), slips.len());
+    planning!(
+        golavimes_plan,
+        editions,
+        boxes,
+        slips,
+        length,
+        answer.as_mut_ptr()
+    )
 }
 
 /// The state of the board at a position from 1. The answer goes on with the state
 /// (0 blank, 1 own, 2 old, 3 near, 4 twin, 5 solve) and `from`.
 pub fn state(editions: Editions, boxes: Boxes, position: u64, answer: &mut [u64; 5]) -> u64 {
-    // SAFETY: as in dd_table_to_pbn.
-    unsafe {
-        c::golavimes_state(
-            editions.old.as_ptr(),
-            editions.old.len(),
-            editions.new.as_ptr(),
-            editions.new.len(),
-            boxes.old_cards.as_mut_ptr(),
-            boxes.old_cards.len(),
-            boxes.old_entries.as_mut_ptr(),
-            boxes.old_entries.len(),
-            boxes.new_cards.as_mut_ptr(),
-            boxes.new_cards.len(),
-            boxes.new_entries.as_mut_ptr(),
-            boxes.new_entries.len(),
-            position,
-            answer.as_mut_ptr(),
-        )
-    }
+    planning!(
+        golavimes_state,
+        editions,
+        boxes,
+        position,
+        answer.as_mut_ptr()
+    )
 }
 
 /// The record behind the board at a position from 1. The answer goes on with the
@@ -306,48 +307,25 @@ pub fn record_behind(
     position: u64,
     answer: &mut [u64; 6],
 ) -> u64 {
-    // SAFETY: as in dd_table_to_pbn.
-    unsafe {
-        c::golavimes_record_behind(
-            editions.old.as_ptr(),
-            editions.old.len(),
-            editions.new.as_ptr(),
-            editions.new.len(),
-            boxes.old_cards.as_mut_ptr(),
-            boxes.old_cards.len(),
-            boxes.old_entries.as_mut_ptr(),
-            boxes.old_entries.len(),
-            boxes.new_cards.as_mut_ptr(),
-            boxes.new_cards.len(),
-            boxes.new_entries.as_mut_ptr(),
-            boxes.new_entries.len(),
-            position,
-            answer.as_mut_ptr(),
-        )
-    }
+    planning!(
+        golavimes_record_behind,
+        editions,
+        boxes,
+        position,
+        answer.as_mut_ptr()
+    )
 }
 
 /// Five numbers a board, as many as fit: state, `from`, and the edition, start and
 /// end of the record behind it. The answer goes on with the number of boards.
 pub fn boards(editions: Editions, boxes: Boxes, boards: &mut [u64], answer: &mut [u64; 4]) -> u64 {
-    // SAFETY: as in dd_table_to_pbn.
-    unsafe {
-        c::golavimes_boards(
-            editions.old.as_ptr(),
-            editions.old.len(),
-            editions.new.as_ptr(),
-            editions.new.len(),
-            boxes.old_cards.as_mut_ptr(),
-            boxes.old_cards.len(),
-            boxes.old_entries.as_mut_ptr(),
-            boxes.old_entries.len(),
-            boxes.new_cards.as_mut_ptr(),
-            boxes.new_cards.len(),
-            boxes.new_entries.as_mut_ptr(),
-            boxes.new_entries.len(),
-            boards.as_mut_ptr(),
-            boards.len(),
-            answer.as_mut_ptr(),
-        )
-    }
+    let (boards, length) = (boards.as_mut_ptr(), boards.len());
+    planning!(
+        golavimes_boards,
+        editions,
+        boxes,
+        boards,
+        length,
+        answer.as_mut_ptr()
+    )
 }

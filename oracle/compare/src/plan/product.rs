@@ -2,7 +2,7 @@
 
 use super::{Call, Lent};
 use crate::guard::{self, Guarded};
-use crate::read::product::{AROUND, FILL, FILL_ANSWER};
+use crate::read::product::{around, FILL, FILL_ANSWER};
 use golavimes::{Boxes, Editions};
 
 const MARK: u32 = 0x5c5c_5c5c;
@@ -21,7 +21,7 @@ pub struct Product {
 impl Product {
     pub fn new() -> Self {
         Product {
-            texts: std::array::from_fn(|_| Guarded::new(AROUND[0])),
+            texts: std::array::from_fn(|_| Guarded::new(0x5c)),
             boxes: std::array::from_fn(|_| Guarded::new(MARK)),
             numbers: Guarded::new(MARK_LONG),
             answer: Guarded::new(MARK_LONG),
@@ -31,10 +31,6 @@ impl Product {
     /// Calls and looks for damage. What was answered is then in `answer`,
     /// `boxes` and `numbers`.
     pub fn call(&mut self, call: Call, old: &[u8], new: &[u8], lent: &Lent) -> Result<(), String> {
-        let around = |text: &[u8]| {
-            let sum: usize = text.iter().map(|b| usize::from(*b)).sum();
-            AROUND[sum % AROUND.len()]
-        };
         let [given_old, given_new] = &mut self.texts;
         let editions = Editions {
             old: given_old.lend_copy(old, around(old)),

@@ -13,7 +13,7 @@ pub struct Out<'a> {
 }
 
 impl Out<'_> {
-    fn text(&mut self, text: &[u8]) {
+    pub fn text(&mut self, text: &[u8]) {
         if self.open {
             self.open = (self.give)(self.group, text);
         }
@@ -21,7 +21,7 @@ impl Out<'_> {
 
     /// Every sequence of up to `most` pieces, between `before` and `after`,
     /// with `between` among them.
-    fn sequences(
+    pub fn sequences(
         &mut self,
         before: &str,
         pieces: &[&str],
@@ -63,7 +63,7 @@ impl Out<'_> {
 }
 
 /// A group's name and what gives its texts.
-type Group = (&'static str, fn(&mut Rng, &mut Out));
+pub type Group = (&'static str, fn(&mut Rng, &mut Out));
 
 const GROUPS: [Group; 16] = [
     ("named texts", named),
@@ -84,15 +84,20 @@ const GROUPS: [Group; 16] = [
     ("long editions", long),
 ];
 
-/// Gives every text to `give`, which says whether it wants more. Each group has
-/// its own random numbers, so that a change in one leaves the others alone.
+/// Gives every text to `give`, which says whether it wants more.
 pub fn all(seed: u64, give: &mut dyn FnMut(&'static str, &[u8]) -> bool) {
+    all_of(&GROUPS, seed, give);
+}
+
+/// Gives every text of these groups. Each group has its own random numbers, so
+/// that a change in one leaves the others alone.
+pub fn all_of(groups: &[Group], seed: u64, give: &mut dyn FnMut(&'static str, &[u8]) -> bool) {
     let mut out = Out {
         give,
         group: "",
         open: true,
     };
-    for (i, (group, texts)) in GROUPS.into_iter().enumerate() {
+    for (i, (group, texts)) in groups.iter().enumerate() {
         if !out.open {
             return;
         }
@@ -338,11 +343,11 @@ fn short_values(_: &mut Rng, out: &mut Out) {
 const OTHERS: [&str; 6] = ["Scoring", "Room", "", "board", "Événement", "Note:"];
 
 /// Both, in this order.
-fn names() -> Vec<&'static str> {
+pub fn names() -> Vec<&'static str> {
     [&MODELLED[..], &OTHERS[..]].concat()
 }
 
-const ODD: [&str; 64] = [
+pub const ODD: [&str; 64] = [
     "",
     " ",
     "?",
@@ -429,7 +434,7 @@ fn values(_: &mut Rng, out: &mut Out) {
 const RANKS: &[u8; 13] = b"AKQJT98765432";
 
 /// Four hands of cards drawn from a pack.
-fn deal(rng: &mut Rng) -> String {
+pub fn deal(rng: &mut Rng) -> String {
     let mut pack: Vec<usize> = (0..52).collect();
     rng.shuffle(&mut pack);
     let each = if rng.once_in(4) { rng.below(14) } else { 13 };
@@ -475,7 +480,7 @@ fn deal(rng: &mut Rng) -> String {
     }
 }
 
-fn value(rng: &mut Rng, name: &str) -> String {
+pub fn value(rng: &mut Rng, name: &str) -> String {
     if rng.once_in(6) {
         return rng.pick(&ODD).to_string();
     }
@@ -549,7 +554,7 @@ pub fn optimum(rng: &mut Rng, damage: usize) -> String {
     text + &rows.join("\n") + "\n"
 }
 
-const CALLS: [&str; 34] = [
+pub const CALLS: [&str; 34] = [
     "Pass",
     "P",
     "-",
@@ -586,7 +591,7 @@ const CALLS: [&str; 34] = [
     "é!",
 ];
 
-fn tokens(rng: &mut Rng, list: &[&str], most: usize) -> String {
+pub fn tokens(rng: &mut Rng, list: &[&str], most: usize) -> String {
     let mut text = String::new();
     for _ in 0..rng.below(most) {
         text += rng.pick(list);
@@ -601,7 +606,7 @@ fn card(rng: &mut Rng) -> String {
     format!("{suit}{rank}")
 }
 
-fn play_data(rng: &mut Rng, most: usize) -> String {
+pub fn play_data(rng: &mut Rng, most: usize) -> String {
     let mut text = String::new();
     for _ in 0..rng.below(most) {
         if rng.once_in(8) {

@@ -434,7 +434,7 @@ fn set_cells(card: &mut [u32; CARD], cells: &[u8; 20]) {
 }
 
 /// An optional `+`, then digits, up to `most`.
-fn number(text: &[u8], most: u64) -> Option<u64> {
+pub fn number(text: &[u8], most: u64) -> Option<u64> {
     let digits = text.strip_prefix(b"+").unwrap_or(text);
     if digits.is_empty() || !digits.iter().all(u8::is_ascii_digit) {
         return None;
@@ -492,7 +492,7 @@ fn trump_of(contract: &[u8]) -> u32 {
     }
 }
 
-const RANKS: &[u8] = b"23456789TJQKA";
+pub const RANKS: &[u8] = b"23456789TJQKA";
 
 fn card_of(token: &[u8]) -> Option<u32> {
     // Two characters are looked for in the first three bytes alone.

@@ -8,7 +8,13 @@ pub const FILL: u32 = 0xaaaa_aaaa;
 pub const FILL_ANSWER: u64 = 0xaaaa_aaaa_aaaa_aaaa;
 /// What may stand around a text: what a reader that looks past an end would
 /// slip on.
-pub const AROUND: [u8; 8] = [b'\n', b'"', b']', b'}', b'1', 0x80, b' ', b'P'];
+const AROUND: [u8; 8] = [b'\n', b'"', b']', b'}', b'1', 0x80, b' ', b'P'];
+
+/// Which of them stands around this one.
+pub fn around(text: &[u8]) -> u8 {
+    let sum: usize = text.iter().map(|b| usize::from(*b)).sum();
+    AROUND[sum % AROUND.len()]
+}
 
 /// The buffers, kept between calls.
 pub struct Product {
@@ -40,7 +46,7 @@ impl Lent {
 impl Product {
     pub fn new() -> Self {
         Product {
-            text: Guarded::new(AROUND[0]),
+            text: Guarded::new(0x5c),
             cards: Guarded::new(0x5c5c_5c5c),
             entries: Guarded::new(0x5c5c_5c5c),
             answer: Guarded::new(0x5c5c_5c5c_5c5c_5c5c),
@@ -50,8 +56,7 @@ impl Product {
     /// Calls and looks for damage. What was answered is then in `answer`,
     /// `cards` and `entries`.
     pub fn call(&mut self, text: &[u8], lent: Lent) -> Result<(), String> {
-        let sum: usize = text.iter().map(|b| usize::from(*b)).sum();
-        let given = &*self.text.lend_copy(text, AROUND[sum % AROUND.len()]);
+        let given = &*self.text.lend_copy(text, around(text));
         let cards = self.cards.lend(lent.cards, FILL);
         let entries = self.entries.lend(lent.entries, FILL);
         let answer = self.answer.lend(5, FILL_ANSWER);

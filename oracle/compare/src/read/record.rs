@@ -23,6 +23,7 @@ use super::model::{self, Reading};
 use super::product::Lent;
 use super::{answer_for, around, compare_boards};
 use crate::rng::Rng;
+use crate::sample::{sample, Share, LONG};
 use crate::tables::judge::text_in_domain;
 use std::collections::{BTreeMap, BTreeSet};
 use std::path::Path;
@@ -35,12 +36,6 @@ const MOST: Lent = Lent {
 };
 const MOST_BYTES: usize = 400_000;
 
-/// Sampled texts have at most this length.
-const LONGEST: usize = 1000;
-
-/// A text above this length counts as long; fewer of those are recorded.
-const LONG: usize = 120;
-
 /// The groups of a recorded file.
 #[derive(Clone, Copy, PartialEq, Eq, PartialOrd, Ord, Debug)]
 enum Group {
@@ -51,9 +46,7 @@ enum Group {
     Damaged = 5,
 }
 
-/// How many short and how many long texts of a generator's group are kept, and
-/// where they are recorded.
-fn share(group: &str) -> Option<(Group, [usize; 2])> {
+fn share(group: &str) -> Share<Group> {
     match group {
         "outside the domain" | "long editions" => None,
         "generated editions" => Some((Group::Sampled, [120, 60])),
@@ -64,13 +57,6 @@ fn share(group: &str) -> Option<(Group, [usize; 2])> {
         "named texts" => Some((Group::Sampled, [150, 30])),
         _ => Some((Group::Sampled, [50, 10])),
     }
-}
-
-/// An even sample of the texts that went by.
-#[derive(Default)]
-struct Bucket {
-    met: usize,
-    kept: Vec<Vec<u8>>,
 }
 
 /// The file and what was put into it.
@@ -99,7 +85,7 @@ pub fn run(seed: u64, path: &Path) -> std::io::Result<()> {
     for text in chosen::SIZED {
         file.record_around(text.as_bytes());
     }
-    let sampled = sample(seed, &mut rng);
+    let sampled = sample(seed, &mut rng, generate::all, share);
     for (number, (group, text)) in sampled.iter().enumerate() {
         file.record_roomy(*group, text, &mut rng);
         if number % 8 == 0 && text.len() <= LONG {
@@ -117,39 +103,8 @@ pub fn run(seed: u64, path: &Path) -> std::io::Result<()> {
     Ok(())
 }
 
-/// A sample of the texts that the comparison goes through, in the domain.
-fn sample(seed: u64, rng: &mut Rng) -> Vec<(Group, Vec<u8>)> {
-    let mut buckets: BTreeMap<(Group, &'static str, bool), Bucket> = BTreeMap::new();
-    generate::all(seed, &mut |name, text| {
-        let Some((group, shares)) = share(name) else {
-            return true;
-        };
-        if text.len() > LONGEST || text_in_domain(text).is_none() {
-            return true;
-        }
-        let long = text.len() > LONG;
-        let share = shares[usize::from(long)];
-        let bucket = buckets.entry((group, name, long)).or_default();
-        bucket.met += 1;
-        if bucket.kept.len() < share {
-            bucket.kept.push(text.to_vec());
-        } else {
-            let at = rng.below(bucket.met);
-            if at < share {
-                bucket.kept[at] = text.to_vec();
-            }
-        }
-        true
-    });
-    let of_bucket = |((group, _, _), bucket): (_, Bucket)| {
-        let kept = bucket.kept.into_iter();
-        kept.map(move |text| (group, text))
-    };
-    buckets.into_iter().flat_map(of_bucket).collect()
-}
-
 /// The reading of a text of which the model and the Rust agree.
-fn agreed(text: &[u8]) -> Reading {
+pub fn agreed(text: &[u8]) -> Reading {
     let rust = text_in_domain(text).expect("a text of the domain");
     let reading = model::read(text);
     let words = Words {
