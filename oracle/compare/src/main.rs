@@ -10,6 +10,7 @@ mod room;
 mod sample;
 mod shrink;
 mod tables;
+mod write;
 
 use std::process::ExitCode;
 
@@ -17,10 +18,12 @@ const USAGE: &str = "\
 usage: compare tables [--seed N]
        compare read [--seed N]
        compare plan [--seed N]
+       compare write [--seed N]
        compare bench [--seed N]
        compare outside [--seed N]
        compare record tables PATH [--seed N]
-       compare record read PATH [--seed N]";
+       compare record read PATH [--seed N]
+       compare record write PATH [--seed N]";
 
 /// The seed of every run that names no other.
 const SEED: u64 = 20_240_501;
@@ -36,15 +39,19 @@ fn main() -> ExitCode {
         ["tables"] => exit(tables::run(seed)),
         ["read"] => exit(read::run(seed)),
         ["plan"] => exit(plan::run(seed)),
+        ["write"] => exit(write::run(seed)),
         ["bench"] => {
             read::bench::run(seed);
             println!();
             plan::bench::run(seed);
+            println!();
+            write::bench::run(seed);
             ExitCode::SUCCESS
         }
-        ["outside"] => exit(read::outside::run(seed)),
+        ["outside"] => exit(read::outside::run(seed) && write::outside::run(seed)),
         ["record", "tables", path] => recorded(path, tables::record::run(seed, path.as_ref())),
         ["record", "read", path] => recorded(path, read::record::run(seed, path.as_ref())),
+        ["record", "write", path] => recorded(path, write::record::run(seed, path.as_ref())),
         _ => bad_usage(""),
     }
 }

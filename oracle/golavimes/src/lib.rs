@@ -2,8 +2,8 @@
 //!
 //! Every function fills the answer array and returns its first number:
 //! `answer[0]` is the refusal (0 none), `answer[1]` the edition (1 old, 2 new, 0
-//! neither), `answer[2]` the number a refusal carries; a writer adds `answer[3]`,
-//! the bytes written, and the reader of editions `answer[3]` and `answer[4]`, its
+//! neither), `answer[2]` the number a refusal carries; a writer, of tables or of
+//! editions, adds `answer[3]`, the bytes written, and the reader of editions `answer[3]` and `answer[4]`, its
 //! boards and entries. What the functions of planning add stands at each. Slices
 //! and arrays of the right length are all that the C functions ask for, so
 //! nothing here needs a test before the call.
@@ -121,6 +121,17 @@ mod c {
             new_entries_len: usize,
             boards: *mut u64,
             boards_len: usize,
+            answer: *mut u64,
+        ) -> u64;
+        pub fn golavimes_write(
+            text: *const u8,
+            text_len: usize,
+            cards: *mut u32,
+            cards_len: usize,
+            entries: *mut u32,
+            entries_len: usize,
+            page: *mut u8,
+            page_len: usize,
             answer: *mut u64,
         ) -> u64;
     }
@@ -328,4 +339,53 @@ pub fn boards(editions: Editions, boxes: Boxes, boards: &mut [u64], answer: &mut
         length,
         answer.as_mut_ptr()
     )
+}
+
+/// Reads an edition and writes it to the page.
+pub fn write(
+    text: &[u8],
+    cards: &mut [u32],
+    entries: &mut [u32],
+    page: &mut [u8],
+    answer: &mut [u64; 4],
+) -> u64 {
+    // SAFETY: as in dd_table_to_pbn.
+    unsafe {
+        c::golavimes_write(
+            text.as_ptr(),
+            text.len(),
+            cards.as_mut_ptr(),
+            cards.len(),
+            entries.as_mut_ptr(),
+            entries.len(),
+            page.as_mut_ptr(),
+            page.len(),
+            answer.as_mut_ptr(),
+        )
+    }
+}
+
+/// Writes with memory that nothing was stored in yet. The call stores into all
+/// of it.
+pub fn write_fresh(
+    text: &[u8],
+    cards: &mut [MaybeUninit<u32>],
+    entries: &mut [MaybeUninit<u32>],
+    page: &mut [MaybeUninit<u8>],
+    answer: &mut [MaybeUninit<u64>; 4],
+) -> u64 {
+    // SAFETY: as in read_fresh.
+    unsafe {
+        c::golavimes_write(
+            text.as_ptr(),
+            text.len(),
+            cards.as_mut_ptr().cast(),
+            cards.len(),
+            entries.as_mut_ptr().cast(),
+            entries.len(),
+            page.as_mut_ptr().cast(),
+            page.len(),
+            answer.as_mut_ptr().cast(),
+        )
+    }
 }

@@ -1,0 +1,596 @@
+//! Writing: editions read and written by the product, by a model in plain Rust
+//! and by the unchanged `reader.rs` and `writer.rs`.
+
+pub mod bench;
+mod chosen;
+mod generate;
+mod model;
+pub mod outside;
+mod product;
+mod read_back;
+pub mod record;
+
+use crate::read::model::{self as reading, Reading, CARD, ENTRY};
+use crate::read::product::Lent as LentBoxes;
+use crate::read::{read_rust, Checked, LONGEST};
+use crate::rng::Rng;
+use crate::room::{Room, ENOUGH, ROOMS};
+use crate::shrink::{shrink, Ways};
+use crate::tables::hex;
+use crate::tables::judge::text_in_domain;
+use bridge_encodings::pbn::write_pbn;
+use product::Product;
+use std::collections::BTreeMap;
+
+/// How many words are lent for cards and entries, and how many bytes as page.
+#[derive(Clone, Copy, PartialEq, Eq, Debug)]
+pub struct Lent {
+    boxes: LentBoxes,
+    page: usize,
+}
+
+/// An edition, read and written by the models.
+struct Edition<'a> {
+    text: &'a [u8],
+    reading: Reading,
+    page: Vec<u8>,
+}
+
+/// For the cards, the entries and the page.
+type Rooms = [Room; 3];
+
+/// How far "one more" and "one less" are from the page's boundary.
+const PAGE_STEP: usize = 33;
+
+impl<'a> Edition<'a> {
+    fn new(text: &'a [u8]) -> Self {
+        let reading = reading::read(text);
+        let page = model::write(text, &reading);
+        Edition {
+            text,
+            reading,
+            page,
+        }
+    }
+
+    fn lent(&self, [cards, entries, page]: Rooms) -> Lent {
+        Lent {
+            boxes: LentBoxes {
+                cards: cards.words(self.reading.boards(), CARD),
+                entries: entries.words(self.reading.entry_count(), ENTRY),
+            },
+            page: page.around(self.page.len(), PAGE_STEP),
+        }
+    }
+
+    /// The answer to a call with what is lent.
+    fn answer(&self, lent: &Lent) -> [u64; 4] {
+        answer_for(self.text.len(), lent, &self.reading, self.page.len() as u64)
+    }
+}
+
+fn answer_for(length: usize, lent: &Lent, reading: &Reading, need: u64) -> [u64; 4] {
+    match crate::read::answer_for(length, lent.boxes, reading) {
+        [0, ..] if need > lent.page as u64 => [7, 0, need, 0],
+        [0, ..] => [0, 0, 0, need],
+        [refusal, edition, carried, ..] => [refusal, edition, carried, 0],
+    }
+}
+
+/// The page that the unchanged `write_pbn` writes of what `read_pbn` reads.
+fn rust_page(text: &str) -> Result<Vec<u8>, String> {
+    Ok(write_pbn(&read_rust(text)?).into_bytes())
+}
+
+/// The model's page against the Rust's.
+fn compare_rust(edition: &Edition, text: &str) -> Checked {
+    let rust = rust_page(text)?;
+    match page_differs("writer.rs", &rust, "the model", &edition.page) {
+        Some(error) => Err(error),
+        None => Ok(()),
+    }
+}
+
+/// The first line in which two pages differ, with both.
+fn page_differs(name: &str, wanted: &[u8], other: &str, seen: &[u8]) -> Option<String> {
+    if wanted == seen {
+        return None;
+    }
+    let at = wanted.iter().zip(seen).position(|(a, b)| a != b);
+    let at = at.unwrap_or(wanted.len().min(seen.len()));
+    let before = &wanted[..at];
+    let start = before
+        .iter()
+        .rposition(|b| *b == b'\n')
+        .map_or(0, |lf| lf + 1);
+    let line = before.iter().filter(|b| **b == b'\n').count();
+    let show = |page: &[u8]| -> String {
+        let rest = &page[start..];
+        let end = rest.iter().skip(at - start).position(|b| *b == b'\n');
+        let end = end.map_or(rest.len(), |lf| at - start + lf + 1).min(300);
+        rest[..end].escape_ascii().to_string()
+    };
+    Some(format!(
+        "page, line {line} from 0, byte {at} of {} and {}\n  {name}: \"{}\"\n  {other}: \"{}\"",
+        wanted.len(),
+        seen.len(),
+        show(wanted),
+        show(seen)
+    ))
+}
+
+/// What a call left: its answer and all that was lent.
+pub struct Left<'a> {
+    answer: &'a [u64],
+    cards: &'a [u32],
+    entries: &'a [u32],
+    page: &'a [u8],
+}
+
+/// What a call left, against the model.
+fn compare_left(edition: &Edition, lent: &Lent, left: &Left) -> Checked {
+    let wanted = edition.answer(lent);
+    if left.answer != wanted {
+        let mut error = format!(
+            "answer\n  the model: {wanted:?}\n  golavimes: {:?}",
+            left.answer
+        );
+        // Where both wrote, the first difference tells more.
+        if let ([0, ..], [0, _, _, length]) = (wanted, left.answer) {
+            let page = left.page.get(..*length as usize).unwrap_or(left.page);
+            let differs = page_differs("the model", &edition.page, "golavimes", page);
+            error += &differs.map_or(String::new(), |page| format!("\n{page}"));
+        }
+        return Err(error);
+    }
+    let taken = wanted[0] == 0;
+    let reading = &edition.reading;
+    for (what, seen, wanted) in [
+        ("cards", left.cards, &reading.cards),
+        ("entries", left.entries, &reading.entries),
+    ] {
+        let used = if taken { &wanted[..] } else { &[] };
+        let (seen, rest) = seen.split_at(used.len());
+        if seen != used {
+            return Err(format!("{what}: not those of the model"));
+        }
+        if let Some(at) = rest.iter().position(|word| *word != 0) {
+            return Err(format!("{what}: unused word {at} is {:x}", rest[at]));
+        }
+    }
+    let used = if taken { &edition.page[..] } else { &[] };
+    let (seen, rest) = left.page.split_at(used.len());
+    if let Some(error) = page_differs("the model", used, "golavimes", seen) {
+        return Err(error);
+    }
+    if let Some(at) = rest.iter().position(|byte| *byte != 0) {
+        return Err(format!("page: unused byte {at} is {:x}", rest[at]));
+    }
+    Ok(())
+}
+
+/// One call, against the model.
+fn compare_call(product: &mut Product, edition: &Edition, lent: &Lent) -> Checked {
+    product.call(edition.text, lent)?;
+    compare_left(edition, lent, &product.left())
+}
+
+/// One thing that is checked of a text.
+#[derive(Clone, Copy, Debug)]
+enum Check {
+    /// The model's page against that of the Rust.
+    Rust,
+    /// What the model's page reads back as.
+    ReadBack,
+    /// The product against the model.
+    Call(Rooms),
+}
+
+/// A text that failed a check.
+struct Failure {
+    group: &'static str,
+    text: Vec<u8>,
+    check: Check,
+    error: String,
+}
+
+/// Every so many texts the rooms around each boundary are tried.
+const SIZES_EVERY: u64 = 499;
+
+/// What was met.
+#[derive(Default)]
+struct Counts {
+    groups: BTreeMap<&'static str, u64>,
+    by_rust: u64,
+    by_model: u64,
+    bytes: u64,
+    written: u64,
+    boards: u64,
+    /// By what `HELD` names.
+    held: [u64; HELD.len()],
+    calls: u64,
+    refused: BTreeMap<u64, u64>,
+    sized: u64,
+}
+
+/// What a page can hold, and whether one does.
+type Held = (&'static str, fn(&Edition) -> bool);
+
+/// What is counted of the editions that were compared.
+const HELD: [Held; 9] = [
+    ("no board", |e| e.reading.boards() == 0),
+    ("several boards", |e| e.reading.boards() > 1),
+    ("a header of its own", |e| {
+        e.reading.boards() > 0 && !e.page.starts_with(b"% PBN 2.1\n% EXPORT\n\n")
+    }),
+    ("an auction", |e| has(e, b"[Auction \"")),
+    ("notes", |e| has(e, b"[Note \"")),
+    ("a play", |e| has(e, b"[Play \"")),
+    ("a table", |e| has(e, b"[DoubleDummyTricks \"")),
+    ("commentary", |e| {
+        e.reading.entries.chunks(ENTRY).any(|entry| entry[0] == 4)
+    }),
+    ("directives", |e| {
+        e.reading.entries.chunks(ENTRY).any(|entry| entry[0] == 3)
+    }),
+];
+
+fn has(edition: &Edition, start: &[u8]) -> bool {
+    let mut lines = edition.page.split(|b| *b == b'\n');
+    lines.any(|line| line.starts_with(start))
+}
+
+/// Every refusal.
+const REFUSALS: [(u64, &str); 5] = [
+    (0, "not refused"),
+    (1, "refused with 1 overlong"),
+    (2, "refused with 2 box full"),
+    (3, "refused with 3 list full"),
+    (7, "refused with 7 page full"),
+];
+
+struct Run {
+    product: Product,
+    rng: Rng,
+    counts: Counts,
+}
+
+impl Run {
+    fn call(&mut self, edition: &Edition, rooms: Rooms) -> Result<(), (Check, String)> {
+        let lent = edition.lent(rooms);
+        compare_call(&mut self.product, edition, &lent)
+            .map_err(|error| (Check::Call(rooms), error))?;
+        self.count_call();
+        Ok(())
+    }
+
+    fn count_call(&mut self) {
+        let refusal = self.product.left().answer[0];
+        self.counts.calls += 1;
+        *self.counts.refused.entry(refusal).or_default() += 1;
+    }
+
+    /// Compares one text.
+    fn compare(&mut self, group: &'static str, text: &[u8]) -> Result<(), (Check, String)> {
+        let edition = Edition::new(text);
+        let counts = &mut self.counts;
+        let count = counts.groups.entry(group).or_default();
+        *count += 1;
+        let number = *count;
+        counts.bytes += text.len() as u64;
+        counts.written += edition.page.len() as u64;
+        counts.boards += edition.reading.boards() as u64;
+        for (count, (_, holds)) in counts.held.iter_mut().zip(HELD) {
+            *count += u64::from(holds(&edition));
+        }
+        if let Some(text) = text_in_domain(text) {
+            counts.by_rust += 1;
+            compare_rust(&edition, text).map_err(|error| (Check::Rust, error))?;
+        } else {
+            counts.by_model += 1;
+        }
+        read_back::check(&edition).map_err(|error| (Check::ReadBack, error))?;
+
+        let enough = std::array::from_fn(|_| ENOUGH[self.rng.below(ENOUGH.len())]);
+        self.call(&edition, enough)?;
+        let [cards, entries, _] = enough;
+        let page = ROOMS[self.rng.below(ROOMS.len())];
+        self.call(&edition, [cards, entries, page])?;
+        if number.is_multiple_of(5) {
+            let any = std::array::from_fn(|_| ROOMS[self.rng.below(ROOMS.len())]);
+            self.call(&edition, any)?;
+        }
+        if number.is_multiple_of(SIZES_EVERY) && text.len() < 4000 {
+            self.counts.sized += 1;
+            for cards in ROOMS {
+                for entries in ROOMS {
+                    for page in ROOMS {
+                        self.call(&edition, [cards, entries, page])?;
+                    }
+                }
+            }
+        }
+        Ok(())
+    }
+
+    /// Editions as long as can be, and longer; pages longer than can be lent.
+    fn longest(&mut self, seed: u64) -> Result<u64, String> {
+        let before = self.counts.calls;
+        let mut text = crate::read::generate::plain_edition(seed, LONGEST);
+        let edition = Edition::new(&text);
+        let in_domain = text_in_domain(&text).expect("an edition of ASCII");
+        compare_rust(&edition, in_domain)?;
+        for rooms in [
+            [Room::Exact; 3],
+            [Room::Exact, Room::Exact, Room::WordLess],
+            [Room::Exact, Room::Exact, Room::None],
+            [Room::WordLess, Room::WordLess, Room::WordLess],
+            [Room::Exact, Room::WordLess, Room::WordLess],
+        ] {
+            let tell = |(check, error)| format!("{check:?}: {error}");
+            self.call(&edition, rooms).map_err(tell)?;
+        }
+        let generous = edition.lent([Room::OneMore; 3]);
+        let nothing = Lent {
+            boxes: LentBoxes {
+                cards: 0,
+                entries: 0,
+            },
+            page: 0,
+        };
+        for length in [LONGEST + 1, LONGEST + 2] {
+            text.resize(length, b'x');
+            // What it would hold does not count.
+            let edition = Edition {
+                text: &text,
+                reading: Reading::default(),
+                page: Vec::new(),
+            };
+            for lent in [generous, nothing] {
+                compare_call(&mut self.product, &edition, &lent)?;
+                self.count_call();
+            }
+        }
+        for text in generate::needing_most() {
+            self.too_long_to_lend(&text)?;
+        }
+        Ok(self.counts.calls - before)
+    }
+
+    /// A text whose page is too long to be lent: it must be refused, with the
+    /// bytes that the model counts.
+    fn too_long_to_lend(&mut self, text: &[u8]) -> Checked {
+        let reading = reading::read(text);
+        let need = model::need(text, &reading);
+        for page in [0, 1, 100_000] {
+            let lent = Lent {
+                boxes: LentBoxes {
+                    cards: reading.cards.len(),
+                    entries: reading.entries.len(),
+                },
+                page,
+            };
+            self.product.call(text, &lent)?;
+            let wanted = answer_for(text.len(), &lent, &reading, need);
+            let left = self.product.left();
+            if left.answer != wanted {
+                return Err(format!(
+                    "needing {need} bytes\n  the model: {wanted:?}\n  golavimes: {:?}",
+                    left.answer
+                ));
+            }
+            let words = left.cards.iter().chain(left.entries);
+            if words.into_iter().any(|word| *word != 0) {
+                return Err("words that are not zero after page full".into());
+            }
+            if left.page.iter().any(|byte| *byte != 0) {
+                return Err("a page that is not zero after page full".into());
+            }
+            self.count_call();
+        }
+        Ok(())
+    }
+}
+
+/// Compares every text. Returns whether all agreed.
+pub fn run(seed: u64) -> bool {
+    let mut run = Run {
+        product: Product::new(),
+        rng: Rng::new(seed ^ 0x7772_6974),
+        counts: Counts::default(),
+    };
+    let mut failed = None;
+    generate::all(seed, &mut |group, text| {
+        if let Err((check, error)) = run.compare(group, text) {
+            failed = Some(Failure {
+                group,
+                text: text.to_vec(),
+                check,
+                error,
+            });
+        }
+        failed.is_none()
+    });
+    let long = match failed {
+        None => run.longest(seed),
+        Some(_) => Ok(0),
+    };
+    let unmet = print(&run.counts);
+    if let Some(failure) = failed {
+        println!("write: DIFFERENCE, met in \"{}\"", failure.group);
+        show(&mut run.product, &failure);
+        return false;
+    }
+    match long {
+        Ok(calls) => println!("write: {calls} calls with texts of {LONGEST} bytes and more, and with pages too long to lend"),
+        Err(error) => {
+            println!("write: DIFFERENCE, with a longest text or page: {error}");
+            return false;
+        }
+    }
+    if unmet {
+        println!("write: something above was never met, and so not compared");
+        return false;
+    }
+    println!("write: no difference");
+    true
+}
+
+/// Prints what was met. Returns whether something was not that should have been.
+fn print(counts: &Counts) -> bool {
+    for (group, count) in &counts.groups {
+        println!("{count:>9}  {group}");
+    }
+    let mut unmet = false;
+    let mut line = |count: u64, what: &str| {
+        println!("{count:>9}  {what}");
+        unmet |= count == 0;
+    };
+    println!(
+        "write: {} texts compared, {} with writer.rs, {} outside its domain with the model",
+        counts.by_rust + counts.by_model,
+        counts.by_rust,
+        counts.by_model
+    );
+    println!(
+        "write: {} bytes read, {} boards, {} bytes written",
+        counts.bytes, counts.boards, counts.written
+    );
+    for (count, (name, _)) in counts.held.into_iter().zip(HELD) {
+        line(count, &format!("editions with {name}"));
+    }
+    println!("write: {} calls", counts.calls);
+    for (refusal, name) in REFUSALS {
+        let count = counts.refused.get(&refusal).copied();
+        line(count.unwrap_or(0), &format!("calls {name}"));
+    }
+    line(
+        counts.sized,
+        "texts with each room for cards, entries and page",
+    );
+    unmet
+}
+
+fn check_again(product: &mut Product, text: &[u8], check: Check) -> Checked {
+    let edition = Edition::new(text);
+    match check {
+        Check::Rust => match text_in_domain(text) {
+            Some(text) => compare_rust(&edition, text),
+            None => Ok(()),
+        },
+        Check::ReadBack => read_back::check(&edition),
+        Check::Call(rooms) => {
+            let lent = edition.lent(rooms);
+            compare_call(product, &edition, &lent).map_err(|error| format!("{lent:?}: {error}"))
+        }
+    }
+}
+
+/// Longer texts are not made smaller, and not shown.
+const MOST_SHOWN: usize = 40_000;
+
+/// Prints the smallest text found that still shows the difference.
+fn show(product: &mut Product, failure: &Failure) {
+    let check = failure.check;
+    match check {
+        Check::Rust => println!("the model against writer.rs"),
+        Check::ReadBack => println!("the model against what its page reads back as"),
+        Check::Call(_) => println!("golavimes against the model"),
+    }
+    let text = &failure.text;
+    if text.len() > MOST_SHOWN {
+        let length = text.len();
+        println!("a text of {length} bytes, {check:?}: {}", failure.error);
+        return;
+    }
+    let ways = Ways {
+        remove: true,
+        simpler: b"xN1 \n",
+    };
+    let small = shrink(text, &ways, &mut |candidate| {
+        check_again(product, candidate, check).is_err()
+    });
+    println!("text, {} bytes: {}", small.len(), hex(&small));
+    println!("as text: \"{}\"", small.escape_ascii());
+    match check_again(product, &small, check) {
+        Err(error) => println!("{error}"),
+        Ok(()) => println!("(the difference is gone when the check is made again)"),
+    }
+    if small != *text {
+        println!("made smaller from {} bytes", text.len());
+        println!("as text: \"{}\"", text.escape_ascii());
+        println!("there: {check:?}: {}", failure.error);
+    }
+}
+
+#[cfg(test)]
+mod tests {
+    use super::*;
+
+    fn page(text: &str) -> String {
+        let edition = Edition::new(text.as_bytes());
+        compare_rust(&edition, text).expect("the Rust agrees");
+        read_back::check(&edition).expect("it reads back");
+        String::from_utf8(edition.page).expect("text")
+    }
+
+    /// A board with nothing but what is always written.
+    const BARE: &str = "[Event \"\"]\n[Site \"\"]\n[Date \"\"]\n[West \"\"]\n[North \"\"]\n\
+        [East \"\"]\n[South \"\"]\n[Vulnerable \"None\"]\n[Deal \"N:- - - -\"]\n[Scoring \"\"]\n\
+        [Declarer \"\"]\n[Contract \"\"]\n[Result \"\"]\n";
+    const HEADER: &str = "% PBN 2.1\n% EXPORT\n\n";
+
+    #[test]
+    fn pages() {
+        assert_eq!(page(";x\n{c}\n"), HEADER);
+        assert_eq!(page("[Event \"\"]"), format!("{HEADER}{BARE}"));
+        let two = page("% h\n\n{b}\n[Event \"\"]\n\n;i\n[Event \"\"]");
+        assert_eq!(two, format!("% h\n\n{{b}}\n{BARE}\n;i\n{BARE}"));
+        let early = page("[B \"1\"]\n[A \"2\"]\n[Deal \"\"]\n[C \"3\"]\n[A \"4\"]\n;d");
+        let deal = "[B \"1\"]\n[A \"2\"]\n;d\n[Deal";
+        let bare = BARE.replace("[Deal", deal);
+        assert_eq!(early, format!("{HEADER}{bare}[C \"3\"]\n"));
+        let notes = page("[Auction \"N\"]\n1C=1= AP\n[Note \"2:b\"]\n;d\n{c}\n[Note \"1:a\"]");
+        let auction = "[Auction \"N\"]\n1C=1= Pass Pass Pass\n";
+        let notes_wanted = "[Note \"1:a\"]\n;d\n{c}\n[Note \"2:b\"]\n;d\n";
+        assert_eq!(notes, format!("{HEADER}{BARE}{auction}{notes_wanted}"));
+        let unwritten = page("[Board \"\"]\n;d\n{b}");
+        assert_eq!(unwritten, format!("{HEADER}{BARE}{{b}}\n;d\n"));
+    }
+
+    #[test]
+    fn answers() {
+        let edition = Edition::new(b"[Event \"\"]");
+        let need = (HEADER.len() + BARE.len()) as u64;
+        let answer = |rooms| edition.answer(&edition.lent(rooms));
+        assert_eq!(answer([Room::Exact; 3]), [0, 0, 0, need]);
+        let exact = Room::Exact;
+        for page in [Room::None, Room::OneLess, Room::WordLess] {
+            assert_eq!(answer([exact, exact, page]), [7, 0, need, 0]);
+        }
+        assert_eq!(answer([exact, Room::WordLess, Room::None]), [3, 0, 2, 0]);
+        assert_eq!(answer([Room::WordLess; 3]), [2, 0, 1, 0]);
+        assert_eq!(model::need(edition.text, &edition.reading), need);
+    }
+
+    #[test]
+    fn damage_is_seen() {
+        let text = "[Event \"x\"] ;c";
+        let spoilt = |spoil: &dyn Fn(&mut Edition)| {
+            let mut edition = Edition::new(text.as_bytes());
+            spoil(&mut edition);
+            compare_rust(&edition, text).is_err() && read_back::check(&edition).is_err()
+        };
+        assert!(!spoilt(&|_| {}));
+        assert!(spoilt(&|edition| edition.page[31] = b'y'));
+        assert!(spoilt(&|edition| edition.page.insert(34, b'\n')));
+        assert!(spoilt(&|edition| edition.page.truncate(34)));
+    }
+
+    #[test]
+    fn chosen_texts_are_in_the_domain() {
+        for text in chosen::texts() {
+            assert!(text_in_domain(text.as_bytes()).is_some());
+        }
+    }
+}
