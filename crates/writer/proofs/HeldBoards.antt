@@ -28,7 +28,8 @@ use Rattle.reader.proofs.StandLaws.{stands-map, stands-fit, stands-same}
 use Rattle.reader.proofs.EditionLaws.{card-blocks, all-blocks}
 use Rattle.reader.proofs.Counts.{cards-few, TextEntriesFew}
 use Rattle.reader.proofs.Placed.{Placed, EntriesPlaced}
-use Rattle.reader.proofs.CardLength.{CardsWhole, RecordBounded}
+use Rattle.reader.proofs.CardLength.{CardsWhole}
+use Rattle.reader.proofs.PlainBounds.{RecordBounded}
 use Rattle.reader.proofs.CardShape.{word-0, word-1, word-back}
 use Rattle.reader.proofs.CardPlaced.{valueKind, Points, absent, there, RecordPlaced}
 use Rattle.reader.proofs.WordsPlaced.{stands-within}
@@ -381,7 +382,7 @@ module _ (c : Conventions) (text cards entries : List ℕ) (t : Holds c text car
         let ws = bd .deal .words in
         let cs = bd .table .cells in
         let lw = RecordBounded c r .deal-in .words-eight in
-        let l = RecordBounded c r .table-in .cells-twenty in
+        let l = RecordBounded c r .table-in .twenty in
         let at : (j : ℕ) → j < length cs → cardWord cards k (18 + j) ≡ getD cs j 0 = λ j g.
         let z : 18 + j ≡ 10 + (length ws + j) = omega arith in
         card-is (18 + j) (omega arith)
@@ -407,7 +408,7 @@ module _ (c : Conventions) (text cards entries : List ℕ) (t : Holds c text car
         let e7 : cardWord cards k 7 ≡ bd .id .«result_met» = head-is 7 (omega arith) ∙ omega (arith, low .result-met-low) in
         let e8 : cardWord cards k 8 ≡ bd .id .result = head-is 8 (omega arith) ∙ omega (arith, low .result-low) in
         let e9 : cardWord cards k 9 ≡ bd .deal .kind = head-is 9 (omega arith) ∙ omega (arith, RecordBounded c r .deal-in .deal-kind-low) in
-        let e38 : cardWord cards k 38 ≡ bd .table .kind = back-is 0 (omega arith) ∙ omega (arith, RecordBounded c r .table-in .table-kind-low) in
+        let e38 : cardWord cards k 38 ≡ bd .table .kind = back-is 0 (omega arith) ∙ omega (arith, RecordBounded c r .table-in .kind-low) in
         let e59 : cardWord cards k 59 ≡ bd .trump = back-is 21 (omega arith) ∙ omega (arith, SectionsFit c r .trump-in) in
         rw (e2, e3, e4, e5, e6, e7, e8, e9, e38, e59, words-are, cells-are, values-are, items-are, auction-is, play-is)
 

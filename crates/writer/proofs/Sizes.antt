@@ -204,7 +204,7 @@ PlainSized c r h =
       annotated = plain-annotated c r;
       calls-good = plain-writable c r;
       values-few = plain-values c r;
-      cells-few = omega (arith, PlainBounds c r .table-in .cells-twenty);
+      cells-few = omega (arith, PlainBounds c r .table-in .twenty);
     }
 
 pub TablePut : (n : ℕ) (b : PlainBoard) (t : TableCard) → length (t .cells) ≤ 20 → BoardSized n b

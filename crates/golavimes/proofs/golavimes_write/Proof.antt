@@ -18,8 +18,11 @@ same-length c = search needs
 same-length-2 : tie.Need-same-length-2
 same-length-2 c = search needs
 
+same-length-3 : tie.Need-same-length-3
+same-length-3 c = search needs
+
 returns : tie.Need-returns
-returns c = writing-out (c .before .before .before .before .before .write-pbn .ensures) (c .writing-numbers .ensures)
+returns c = writing-out (c .before .before .before .before .before .before .before .write-pbn .ensures) (c .writing-numbers .ensures)
 
 pub golavimes-write-spec : {M : Type 1} → statement M
 golavimes-write-spec =
@@ -30,4 +33,5 @@ golavimes-write-spec =
     array-read-result
     same-length
     same-length-2
+    same-length-3
     returns)
