@@ -26,4 +26,5 @@ pub mod TotalsAdd
 pub mod TrimmedDirectives
 pub mod Worked
 pub mod WorkedCards
+pub mod WriteRefusing
 pub mod WrittenTagsBack

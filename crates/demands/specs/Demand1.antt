@@ -6,7 +6,7 @@
 -- the order in which they are looked for, with the number carried; that 0 is answered exactly when none of the conditions holds; and
 -- that every lent word, and every value of the answer, is zero after a refusal. An answer array is: number, edition, carried number, values.
 -- The statements hold for every set of letters c; the C functions read with the built-in ones. proofs/Refusing.antt proves
--- them, and proofs/TableRefusing.antt those of tables.
+-- them, proofs/TableRefusing.antt those of tables and proofs/WriteRefusing.antt that of writing.
 use Prim.Native.Nat.{ℕ, suc, _/_, _<_}
 use mathlib.Core.Path.{_≡_}
 use mathlib.Core.Logic.{_↔_}
@@ -26,7 +26,8 @@ use Rattle.reader.specs.Store.{zeros}
 use Rattle.reader.specs.Editions.{cardsOf, entriesOf}
 use Rattle.planning.specs.Slips.{totalsOf}
 use Rattle.planning.specs.Plans.{Boxes, boardsOf}
-use Rattle.golavimes.specs.Answers.{WroteOut, ReadOut, EditionOut, PlanOut, StateOut, BehindOut, BoardsOut}
+use Rattle.writer.specs.Pages.{writtenText}
+use Rattle.golavimes.specs.Answers.{WroteOut, ReadOut, EditionOut, WritingOut, PlanOut, StateOut, BehindOut, BoardsOut}
 
 -- ---- refusals, the first whose condition holds
 
@@ -250,6 +251,22 @@ ReadRefuses =
     (c : Conventions) (text cards entries cards′ entries′ answer′ : List ℕ) (r : ℕ)
     → EditionOut c text cards entries cards′ entries′ answer′ r
     → ReadRefusals c text cards entries cards′ entries′ answer′ r
+
+-- THEOREM. golavimes_write: 1, 2, 3, then 7, carrying the bytes needed.
+pub record WriteRefusals (c : Conventions) (text cards entries page cards′ entries′ page′ answer′ : List ℕ) (r : ℕ) : Type 0 where
+  pub refused : FirstThatHolds (ofEdition 0 c text cards entries ++ (refusal 7 0 (length (writtenText c text)) (PageFull (writtenText c text) page) ∷ [])) answer′
+  pub one-edition : getD answer′ 1 0 ≡ 0
+  pub returned : r ≡ getD answer′ 0 0
+  pub cards-zero : (r ≡ 0 → ⊥) → cards′ ≡ zeros cards
+  pub entries-zero : (r ≡ 0 → ⊥) → entries′ ≡ zeros entries
+  pub page-zero : (r ≡ 0 → ⊥) → page′ ≡ zeros page
+  pub no-values : (r ≡ 0 → ⊥) → NoValues 1 answer′
+
+abbrev pub WriteRefuses : Type 0
+WriteRefuses =
+    (c : Conventions) (text cards entries page cards′ entries′ page′ answer′ : List ℕ) (r : ℕ)
+    → WritingOut c text cards entries page cards′ entries′ page′ answer′ r
+    → WriteRefusals c text cards entries page cards′ entries′ page′ answer′ r
 
 -- THEOREM. golavimes_plan: 1, 2, 3 of the old edition, then of the new, then 4, carrying the boards to solve.
 pub record PlanRefusals (c : Conventions) (old new : List ℕ) (boxes : Boxes) (slips : List ℕ) (boxes′ : Boxes) (slips′ answer′ : List ℕ) (r : ℕ) : Type 0 where
