@@ -5,6 +5,8 @@
  * target/staticlib. It is for x86-64 Linux. docs/FORMAT.md says what every
  * answer means. Here are
  *   - reading: golavimes_read;
+ *   - writing, an edition read and written again with every comment beside its
+ *     tag: golavimes_write;
  *   - planning, what is left to be solved in a new edition when an old one is
  *     at hand: golavimes_plan, golavimes_boards, golavimes_state,
  *     golavimes_record_behind;
@@ -244,6 +246,73 @@ uint64_t golavimes_read(const uint8_t *text, size_t text_length, uint32_t *cards
  *     }
  *     free(cards);
  *     free(entries);
+ */
+
+/*
+ * Writing. The text of a collection is read, as golavimes_read reads it, and
+ * written on the page: its boards in order, the tags of each in a fixed order,
+ * and every directive and every block of commentary after the tag that it
+ * followed. docs/FORMAT.md section 14 says what is written, line by line.
+ *
+ * The written text stands at the start of the page, with zeros after it to the
+ * page's end. It does not end in a zero byte: its length is answer[3], 0 after a
+ * refusal. Lines end in LF. A text without boards is written as a header of 20
+ * bytes.
+ *
+ * cards_length and entries_length are words, as for golavimes_read, and after
+ * success cards and entries hold what golavimes_read leaves. Nothing that stood
+ * in them is believed. page_length is bytes.
+ *
+ * Refusals, in the order tested:
+ *   1  the text has more than 16777215 bytes; answer[2] is its length
+ *   2  it has more boards than cards are lent; answer[2] is all its boards
+ *   3  they have more entries than are lent; answer[2] is all their entries
+ *   7  the written text is longer than the page; answer[2] is its length
+ * answer[1] is always 0. After a refusal, 7 too, every byte of the page and every
+ * word of cards and entries is 0.
+ *
+ * How much to lend. The bounds of golavimes_read hold for cards and entries. The
+ * page never needs more than 475 * text_length + 20 bytes, which is below 2^33;
+ * it is proved. Ordinary collections need about as much as the text has, or a
+ * few times as much where records are short: each board has thirteen tags or
+ * more. The most is needed where comments follow a Note, since they are written
+ * after each Note of the board. So a host asks rather than lends the bound: with
+ * page_length 0 (and page any pointer that is not null) refusal 7 carries the
+ * need, and a page of that length is never refused. A host that knows no size
+ * lends nothing at first, and after each refusal 2, 3 or 7 lends the carried
+ * number to what the refusal is about; the fourth call at the latest is taken,
+ * unless the text is refused with 1.
+ *
+ * How long it takes. Each call reads the text once and goes over its boards once.
+ * That is linear in the text and in what is lent, but for the tags of one record
+ * times its entries: after each written tag the entries of its record are looked
+ * through for comments, if there are any, and for each supplemental tag those
+ * before it for its name. Real records have a few dozen tags. A call that is
+ * refused with 7 takes as long as one that is not.
+ */
+uint64_t golavimes_write(const uint8_t *text, size_t text_length, uint32_t *cards,
+                         size_t cards_length, uint32_t *entries, size_t entries_length,
+                         uint8_t *page, size_t page_length, uint64_t answer[4]);
+
+/*
+ * Example, in C: a text that golavimes_read has just taken, with these cards and
+ * entries, is written to standard output. The page's length is asked for first.
+ *
+ *     uint8_t none[1], *page;
+ *     uint64_t written[4];
+ *     golavimes_write(text, text_length, cards, cards_length, entries, entries_length, none, 0,
+ *                     written);
+ *     page = malloc(written[2]);
+ *     if (page == NULL) {
+ *         printf("no memory\n");
+ *     } else if (golavimes_write(text, text_length, cards, cards_length, entries,
+ *                                entries_length, page, written[2], written)
+ *                != 0) {
+ *         printf("refusal %d, %lu\n", (int)written[0], (unsigned long)written[2]);
+ *     } else {
+ *         fwrite(page, 1, written[3], stdout);
+ *     }
+ *     free(page);
  */
 
 /*
