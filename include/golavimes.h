@@ -273,10 +273,10 @@ uint64_t golavimes_read(const uint8_t *text, size_t text_length, uint32_t *cards
  *
  * How much to lend. The bounds of golavimes_read hold for cards and entries. The
  * page never needs more than 475 * text_length + 20 bytes, which is below 2^33;
- * it is proved. Ordinary collections need about as much as the text has, or a
- * few times as much where records are short: each board has thirteen tags or
- * more. The most is needed where comments follow a Note, since they are written
- * after each Note of the board. So a host asks rather than lends the bound: with
+ * it is proved. Collections as they are written need far less: the most is
+ * needed by comments that follow a Note, since they are written after each Note
+ * of the board, and by records of a few bytes, since each board is written with
+ * thirteen tags or more. So a host asks rather than lends the bound: with
  * page_length 0 (and page any pointer that is not null) refusal 7 carries the
  * need, and a page of that length is never refused. A host that knows no size
  * lends nothing at first, and after each refusal 2, 3 or 7 lends the carried
