@@ -252,7 +252,8 @@ uint64_t golavimes_read(const uint8_t *text, size_t text_length, uint32_t *cards
  * Writing. The text of a collection is read, as golavimes_read reads it, and
  * written on the page: its boards in order, the tags of each in a fixed order,
  * and every directive and every block of commentary after the tag that it
- * followed. docs/FORMAT.md section 14 says what is written, line by line.
+ * followed, or at the board's end where that tag is not written. docs/FORMAT.md
+ * section 14 says what is written, line by line.
  *
  * The written text stands at the start of the page, with zeros after it to the
  * page's end. It does not end in a zero byte: its length is answer[3], 0 after a
@@ -273,22 +274,21 @@ uint64_t golavimes_read(const uint8_t *text, size_t text_length, uint32_t *cards
  *
  * How much to lend. The bounds of golavimes_read hold for cards and entries. The
  * page never needs more than 475 * text_length + 20 bytes, which is below 2^33;
- * it is proved. Collections as they are written need far less: the most is
- * needed by comments that follow a Note, since they are written after each Note
- * of the board, and by records of a few bytes, since each board is written with
- * thirteen tags or more. So a host asks rather than lends the bound: with
- * page_length 0 (and page any pointer that is not null) refusal 7 carries the
- * need, and a page of that length is never refused. A host that knows no size
- * lends nothing at first, and after each refusal 2, 3 or 7 lends the carried
- * number to what the refusal is about; the fourth call at the latest is taken,
- * unless the text is refused with 1.
+ * it is proved. The most is needed by comments that follow a Note, since they
+ * are written after each Note of the board, and by records of a few bytes, since
+ * each board is written with thirteen tags or more. So a host asks rather than
+ * lends the bound: with page_length 0 (and page any pointer that is not null)
+ * refusal 7 carries the need, and a page of that length is never refused. A host
+ * that knows no size lends nothing at first, and after each refusal 2, 3 or 7
+ * lends the carried number to what the refusal is about; the fourth call at the
+ * latest is taken, unless the text is refused with 1.
  *
  * How long it takes. Each call reads the text once and goes over its boards once.
  * That is linear in the text and in what is lent, but for the tags of one record
  * times its entries: after each written tag the entries of its record are looked
  * through for comments, if there are any, and for each supplemental tag those
- * before it for its name. Real records have a few dozen tags. A call that is
- * refused with 7 takes as long as one that is not.
+ * before it for its name. A call that is refused with 7 does the same work as one
+ * that is not.
  */
 uint64_t golavimes_write(const uint8_t *text, size_t text_length, uint32_t *cards,
                          size_t cards_length, uint32_t *entries, size_t entries_length,
