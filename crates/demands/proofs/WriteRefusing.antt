@@ -46,9 +46,9 @@ module _ (c : Conventions) (text cards entries page answer : List ℕ)
   taken-met m n q =
       met-below 7 0 (length (writtenText c text)) (length page) (length (writtenText c text))
       (λ t. says-writing (Refused (PageFull (length (writtenText c text)))) answer 7 (length (writtenText c text))
-        (rw (q, lt-leb (length (writtenText c text)) (length page) (ltb-true (length page) (length (writtenText c text)) t)) at told) refl refl refl)
+      (rw (q, lt-leb (length (writtenText c text)) (length page) (ltb-true (length page) (length (writtenText c text)) t)) at told) refl refl refl)
       (λ t. nothing (says-writing (Written (length (writtenText c text))) answer 0 0
-        (rw (q, le-leb (length (writtenText c text)) (length page) (ltb-false (length page) (length (writtenText c text)) t)) at told) refl refl refl))
+      (rw (q, le-leb (length (writtenText c text)) (length page) (ltb-false (length page) (length (writtenText c text)) t)) at told) refl refl refl))
 
 pub write-refuses : WriteRefuses
 write-refuses c text cards entries page cards′ entries′ page′ answer′ r o =

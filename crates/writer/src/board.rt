@@ -387,7 +387,7 @@ pub fn put_analysis(
 }
 
 // a - b, or 0.
-fn less(a: usize, b: usize) -> usize
+pub fn less(a: usize, b: usize) -> usize
     ensures { λ r. ⌜ (r ≡ a - b) × (r ≤ a) ⌝ }
 {
     if a <= b {

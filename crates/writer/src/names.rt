@@ -27,7 +27,8 @@ pub fn find_name(text: &[u8], entries: &[u32], first: usize, count: usize, name:
                     }
                     j += 1;
                 }
-                return here;
+                e = here;
+                break 'search;
             }
         }
     }

@@ -9,6 +9,7 @@ ghost use Rattle.writer.specs.Held.{cardWord, itemsAt};
 ghost use Rattle.writer.specs.Pages.{builtInHeader};
 ghost use Rattle.writer.specs.Items.{hasRemarks, dealPlace};
 ghost use Rattle.writer.specs.BoardTexts.{scanned, presentHeld, scanOf, frontText, backText, leadHeld, bodyHeld, headerHeld, nextHeld, partsHeld, pageHeld};
+use crate::board::less;
 use crate::board::put_analysis;
 use crate::board::put_bidding;
 use crate::board::put_cards;
@@ -51,16 +52,6 @@ fn scan_of(text: &[u8], cards: &[u32], entries: &[u32], b: usize) -> usize
     let first = card_word(cards, b, 0);
     let count = card_word(cards, b, 1);
     scan_count(text, entries, first, count)
-}
-
-// a - b, or 0.
-fn less(a: usize, b: usize) -> usize
-    ensures { λ r. ⌜ (r ≡ a - b) × (r ≤ a) ⌝ }
-{
-    if a <= b {
-        return 0;
-    }
-    a - b
 }
 
 // Whether the auction in force has notes.

@@ -15,10 +15,6 @@ use lib.ListN.{length, drop}
 use borrow.Author.Needs.{needs}
 use Rattle.writer.proofs.names.find_name.Statement.{statement}
 use Rattle.writer.proofs.names.find_name.Tie as tie
-use Rattle.writer.proofs.names.find_name.Reads as reads
-use Rattle.writer.proofs.names.find_name.Lts as lts
-use Rattle.writer.proofs.held.bytes_at.Reads as bytes-at-reads
-use Rattle.writer.proofs.held.entry_word.Reads as entry-word-reads
 
 abbrev Inv-loop : tie.InvT-loop
 Inv-loop text entries first count name e left here own j₀ j =
@@ -80,10 +76,6 @@ loop-again : tie.Need-loop-again Inv-loop μ-loop Inv-search μ-search
 loop-again c =
     let a = c .before .before .before .before .before .before .before .before .before .before .before .before .before .before .args in let l = c .before .before .before .before .loop in let h = c .before .before .before .loop-test .taken in let k : l .j < length (now (c .before .before .before .before .before .before .bytes-at .result)) = omega (arith, l .inv .1) in (rw (same-equal (now (a .name)) (now (c .before .before .before .before .before .before .bytes-at .result)) (l .j) h k (c .if3 .left)) at (l .inv .0), l .inv .1, l .inv .2)
 
-returns : tie.Need-returns Inv-loop μ-loop Inv-search μ-search
-returns c =
-    let a = c .before .before .before .before .before .before .before .before .before .before .before .args in let l = c .before .loop in let h = c .loop-test .left in let k : length (now (c .before .before .before .bytes-at .result)) ≤ l .j = omega (arith, l .inv .1) in sym (rw (same-end (now (a .name)) (now (c .before .before .before .bytes-at .result)) (l .j) h k) at (l .inv .0))
-
 search-less-2 : tie.Need-search-less-2 Inv-loop μ-loop Inv-search μ-search
 search-less-2 c = search needs
 
@@ -98,9 +90,13 @@ search-again-3 : tie.Need-search-again-3 Inv-loop μ-loop Inv-search μ-search
 search-again-3 c =
     let a = c .before .before .before .before .before .before .before .args in let l = c .before .before .before .search in (l .inv .0 ∙ name-pass (now (a .name)) (now (a .text)) (now (a .entries)) (l .e) (l .left) (c .before .before .search-test .taken) (rw (← c .before .entry-word .ensures .0) (c .if1 .left)), omega (arith, l .inv .1, c .before .before .search-test .taken))
 
+returns : tie.Need-returns Inv-loop μ-loop Inv-search μ-search
+returns c =
+    let a = c .before .before .before .before .before .args in let l = c .before .search in let z : l .e + 0 ≡ l .e = omega arith in sym (l .inv .0 ∙ rw (items-none (now (a .text)) (now (a .entries)) (l .e) (l .left) (c .search-test .left)) z)
+
 returns-2 : tie.Need-returns-2 Inv-loop μ-loop Inv-search μ-search
 returns-2 c =
-    let a = c .before .before .before .before .before .args in let l = c .before .search in let z : l .e + 0 ≡ l .e = omega arith in sym (l .inv .0 ∙ rw (items-none (now (a .text)) (now (a .entries)) (l .e) (l .left) (c .search-test .left)) z)
+    let a = c .before .before .before .before .before .before .before .before .before .before .before .args in let l = c .before .loop in let h = c .loop-test .left in let k : length (now (c .before .before .before .bytes-at .result)) ≤ l .j = omega (arith, l .inv .1) in sym (rw (same-end (now (a .name)) (now (c .before .before .before .bytes-at .result)) (l .j) h k) at (l .inv .0))
 
 pub find-name-spec : {M : Type 1} → statement M
 find-name-spec =
@@ -123,9 +119,9 @@ find-name-spec =
     add-j
     loop-less
     loop-again
-    returns
     search-less-2
     search-again-2
     search-less-3
     search-again-3
+    returns
     returns-2)

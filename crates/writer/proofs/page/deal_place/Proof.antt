@@ -9,7 +9,7 @@ use Rattle.writer.proofs.page.deal_place.Tie as tie
 use Rattle.writer.proofs.page.deal_place.Reads as reads
 use Rattle.writer.proofs.page.deal_place.Lts as lts
 use Rattle.writer.proofs.names.find_name.Reads as find-name-reads
-use Rattle.writer.proofs.page.less.Reads as less-reads
+use Rattle.writer.proofs.board.less.Reads as less-reads
 
 slice-aggregate-find-name : tie.Need-slice-aggregate-find-name
 slice-aggregate-find-name c = search needs

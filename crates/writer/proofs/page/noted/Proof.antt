@@ -9,7 +9,7 @@ use Rattle.writer.proofs.page.noted.Reads as reads
 use Rattle.writer.proofs.page.noted.Lts as lts
 use Rattle.writer.proofs.held.card_word.Reads as card-word-reads
 use Rattle.writer.proofs.notes.has_notes.Reads as has-notes-reads
-use Rattle.writer.proofs.page.less.Reads as less-reads
+use Rattle.writer.proofs.board.less.Reads as less-reads
 
 card-word-requires : tie.Need-card-word-requires
 card-word-requires c κs = search needs
