@@ -6,8 +6,8 @@
 -- the order in which they are looked for, with the number carried; that 0 is answered exactly when none of the conditions holds; and
 -- that every lent word, and every value of the answer, is zero after a refusal. An answer array is: number, edition, carried number, values.
 -- The statements hold for every set of letters c; the C functions read with the built-in ones. proofs/Refusing.antt proves
--- them, proofs/TableRefusing.antt those of tables and proofs/WriteRefusing.antt that of writing.
-use Prim.Native.Nat.{ℕ, suc, _/_, _<_}
+-- them, proofs/TableRefusing.antt those of tables, proofs/WriteRefusing.antt that of writing and proofs/FinishRefusing.antt that of finishing.
+use Prim.Native.Nat.{ℕ, suc, _*_, _/_, _<_}
 use mathlib.Core.Path.{_≡_}
 use mathlib.Core.Logic.{_↔_}
 use mathlib.Core.Bool.{Bool, true, false, not, cond}
@@ -27,7 +27,8 @@ use Rattle.reader.specs.Editions.{cardsOf, entriesOf}
 use Rattle.planning.specs.Slips.{totalsOf}
 use Rattle.planning.specs.Plans.{Boxes, boardsOf}
 use Rattle.writer.specs.Pages.{writtenText}
-use Rattle.golavimes.specs.Answers.{WroteOut, ReadOut, EditionOut, WritingOut, PlanOut, StateOut, BehindOut, BoardsOut}
+use Rattle.writer.specs.Given.{finishedText}
+use Rattle.golavimes.specs.Answers.{WroteOut, ReadOut, EditionOut, WritingOut, PlanOut, StateOut, BehindOut, BoardsOut, FinishOut}
 
 -- ---- refusals, the first whose condition holds
 
@@ -103,6 +104,20 @@ solveIn c old new = totalsOf (boardsOf c old new) .solve
 -- 4 slips short: fewer slips lent than boards to solve, five numbers a slip.
 abbrev pub SlipsShort : Conventions → List ℕ → List ℕ → List ℕ → Type 0
 SlipsShort c old new slips = length slips / 5 < solveIn c old new
+
+-- ---- 5 and 6: answers
+
+-- 5 answers: not 20 bytes for each board to solve.
+abbrev pub NotTwentyEach : Conventions → List ℕ → List ℕ → List ℕ → Type 0
+NotTwentyEach c old new answers = length answers ≡ 20 * solveIn c old new → ⊥
+
+-- The bytes before the first that is above 13: its index. All bytes, where none is.
+abbrev pub possible : List ℕ → List ℕ
+possible answers = front (λ b. not (ltb 13 b)) answers
+
+-- 6 impossible: a byte above 13 stands behind the others.
+abbrev pub SomeAbove : List ℕ → Type 0
+SomeAbove answers = length (possible answers) < length answers
 
 -- ---- 7: a page
 
@@ -314,3 +329,22 @@ BoardsRefuse =
     (c : Conventions) (old new : List ℕ) (boxes : Boxes) (numbers : List ℕ) (boxes′ : Boxes) (numbers′ answer′ : List ℕ) (r : ℕ)
     → BoardsOut c old new boxes numbers boxes′ numbers′ answer′ r
     → BoardsRefusals c old new boxes numbers boxes′ numbers′ answer′ r
+
+-- THEOREM. golavimes_finish: 1, 2, 3 of the old edition, then of the new, then 5, carrying the boards to solve, 6, carrying the index of the
+-- first byte above 13, and 7, carrying the bytes needed.
+pub record FinishRefusals (c : Conventions) (old new : List ℕ) (boxes : Boxes) (answers page : List ℕ) (boxes′ : Boxes) (page′ answer′ : List ℕ) (r : ℕ) : Type 0 where
+  pub refused : FirstThatHolds (ofEditions c old new boxes ++ (
+      refusal 5 0 (solveIn c old new) (NotTwentyEach c old new answers)
+      ∷ refusal 6 0 (length (possible answers)) (SomeAbove answers)
+      ∷ refusal 7 0 (length (finishedText c old new answers)) (PageFull (finishedText c old new answers) page)
+      ∷ [])) answer′
+  pub returned : r ≡ getD answer′ 0 0
+  pub boxes-zero : (r ≡ 0 → ⊥) → BoxesZero boxes boxes′
+  pub page-zero : (r ≡ 0 → ⊥) → page′ ≡ zeros page
+  pub no-values : (r ≡ 0 → ⊥) → NoValues 1 answer′
+
+abbrev pub FinishRefuses : Type 0
+FinishRefuses =
+    (c : Conventions) (old new : List ℕ) (boxes : Boxes) (answers page : List ℕ) (boxes′ : Boxes) (page′ answer′ : List ℕ) (r : ℕ)
+    → FinishOut c old new boxes answers page boxes′ page′ answer′ r
+    → FinishRefusals c old new boxes answers page boxes′ page′ answer′ r

@@ -7,17 +7,20 @@
 use Prim.Native.Nat.{ℕ, _+_, _-_, _*_, _<_}
 use mathlib.Core.Path.{_≡_}
 use mathlib.Core.Logic.{_↔_}
+use mathlib.Core.Bool.{true, false}
 use mathlib.Core.List.{List, [], _++_}
-use lib.ListN.{length, getD, drop, replicate}
+use lib.ListN.{length, getD, take, drop, replicate}
 use Rattle.tables.specs.declared.letters.Conventions.{Conventions}
+use Rattle.tables.specs.Letters.{Accepted}
 use Rattle.reader.specs.declared.deal.Hands.{Hands}
 use Rattle.reader.specs.Records.{AlikeBut}
 use Rattle.reader.specs.Editions.{cardsOf}
-use Rattle.planning.specs.Cards.{cardHere}
+use Rattle.planning.specs.Cards.{isWhole, cardHere}
 use Rattle.planning.specs.Plans.{Boxes}
-use Rattle.planning.specs.Demands.{slipHere, Holds, ListedIn, Unsolved, InFront, InBack, AllSolved, OnlyInside}
-use Rattle.golavimes.specs.Answers.{EditionOut, PlanOut}
-use Rattle.demands.specs.Demand1.{boardsIn, entriesIn, Overlong, BoxFull, ListFull, SlipsShort}
+use Rattle.planning.specs.Demands.{WithDeal, Tabled, slipHere, Holds, ListedIn, Unsolved, InFront, InBack, AllSolved, OnlyInside}
+use Rattle.writer.specs.Given.{finishedText}
+use Rattle.golavimes.specs.Answers.{EditionOut, PlanOut, StateOut, FinishOut}
+use Rattle.demands.specs.Demand1.{boardsIn, entriesIn, Overlong, BoxFull, ListFull, SlipsShort, NotTwentyEach, SomeAbove, PageFull}
 use Rattle.demands.specs.Boards.{HandedBack, Board, recordStart, boardHere, ReadAlike}
 
 -- ---- "Whatever two editions hold, if both are read without refusal and slips are enough, .."
@@ -125,3 +128,87 @@ InsideAlone =
     → AllSolved (cardsOf c (front ++ (middle ++ back)))
     → (h : Hands) → ListedIn h (getD answer′ 9 0) slips′
     → OnlyInside front middle′ h (cardsOf c (front ++ (middle′ ++ back)))
+
+-- ---- "Whatever the answers are, when every listed deal has one and the finished edition is written and itself read without refusal, it has
+-- as many boards as the new edition. At each position it has the same whole deal, with the cells of its own table or else of the one that
+-- document 01's Finishing gives it, or no whole deal where the new edition has none."
+
+-- The finished edition: the first bytes of the page as handed back, as many as answer[3] says.
+abbrev pub finishedPart : List ℕ → List ℕ → List ℕ
+finishedPart page answer = take (getD answer 3 0) page
+
+-- The cells of a board, words 18 to 37.
+abbrev pub cells : List ℕ → List ℕ
+cells card = take 20 (drop 18 card)
+
+-- A slip, one of those handed back, holds the hands h; the cells are the answers for that slip, 20 bytes, in cell order.
+pub record Answers (h : Hands) (solve : ℕ) (slips answers table : List ℕ) : Type 0 where
+  pub slip : ℕ
+  pub below : slip < solve
+  pub holds : Holds h (slipHere slip slips)
+  pub answered : table ≡ take 20 (drop (20 * slip) answers)
+
+-- Where the cells of a finished board with the deal h come from, by what golavimes_state answers for its position, state and source board
+-- from 1: its own (1, card is the board of the new edition), the old source's (2), the new source's (3); for twin (4) and solve (5) the
+-- answers for the slip that holds its hands.
+pub data CellsFrom (h : Hands) (card old-cards new-cards : List ℕ) (solve : ℕ) (slips answers : List ℕ) (state from : ℕ) (table : List ℕ) : Type 0 where
+  own : state ≡ 1 → table ≡ cells card → CellsFrom h card old-cards new-cards solve slips answers state from table
+  old : state ≡ 2 → table ≡ cells (cardHere (from - 1) old-cards) → CellsFrom h card old-cards new-cards solve slips answers state from table
+  near : state ≡ 3 → table ≡ cells (cardHere (from - 1) new-cards) → CellsFrom h card old-cards new-cards solve slips answers state from table
+  twin : state ≡ 4 → Answers h solve slips answers table → CellsFrom h card old-cards new-cards solve slips answers state from table
+  solve : state ≡ 5 → Answers h solve slips answers table → CellsFrom h card old-cards new-cards solve slips answers state from table
+
+-- The board at the index k, from 0, card in the new edition, finished in the finished one: the same whole deal with a table, or none.
+pub record FinishedAt (c : Conventions) (old new old-cards new-cards : List ℕ) (solve : ℕ) (slips answers : List ℕ) (k : ℕ) (card finished : List ℕ) : Type 0 where
+  pub same-deal : (h : Hands) → WithDeal h card → WithDeal h finished
+  pub no-deal : isWhole card ≡ false → isWhole finished ≡ false
+  pub with-table : (h : Hands) → WithDeal h card → Tabled h finished
+  pub own-cells : (h : Hands) → Tabled h card → cells finished ≡ cells card
+  pub given-cells : (h : Hands) → WithDeal h card → (boxes boxes′ : Boxes) (answer′ : List ℕ) → StateOut c old new boxes boxes′ (k + 1) answer′ 0
+      → CellsFrom h card old-cards new-cards solve slips answers (getD answer′ 3 0) (getD answer′ 4 0) (cells finished)
+
+-- THEOREM (proofs/Finishing.antt). golavimes_finish and golavimes_plan returned 0 for the same editions, each with any boxes, and slips were
+-- enough; old-cards and new-cards are the cards of both editions as handed back, cards those of the finished one.
+pub record AllFinished (c : Conventions) (old new old-cards new-cards : List ℕ) (solve : ℕ) (slips answers finished cards : List ℕ) : Type 0 where
+  pub as-many : boardsIn c finished ≡ boardsIn c new
+  pub each : (k : ℕ) → k < boardsIn c new → FinishedAt c old new old-cards new-cards solve slips answers k (cardHere k new-cards) (cardHere k cards)
+
+abbrev pub FinishedRight : Type 0
+FinishedRight =
+    (c : Conventions) → Accepted c → (old new : List ℕ) (boxes : Boxes) (answers page : List ℕ) (boxes′ : Boxes) (page′ answer′ : List ℕ)
+    → FinishOut c old new boxes answers page boxes′ page′ answer′ 0
+    → (plan-boxes : Boxes) (slips : List ℕ) (plan-boxes′ : Boxes) (slips′ plan-answer′ : List ℕ)
+    → PlanOut c old new plan-boxes slips plan-boxes′ slips′ plan-answer′ 0
+    → (old-cards old-entries new-cards new-entries cards entries : List ℕ)
+    → HandedBack c old old-cards old-entries
+    → HandedBack c new new-cards new-entries
+    → HandedBack c (finishedPart page′ answer′) cards entries
+    → AllFinished c old new old-cards new-cards (getD plan-answer′ 9 0) slips′ answers (finishedPart page′ answer′) cards
+
+-- THEOREM (proofs/Finishing.antt). It is finished exactly when both editions are read without refusal, every listed deal has its answer, 20
+-- bytes for each board to solve and none above 13, and the page is long enough.
+pub record Finishable (c : Conventions) (old new : List ℕ) (boxes : Boxes) (answers page : List ℕ) : Type 0 where
+  pub old-taken : IsTaken c old (boxes .old-cards) (boxes .old-entries)
+  pub new-taken : IsTaken c new (boxes .new-cards) (boxes .new-entries)
+  pub twenty-each : NotTwentyEach c old new answers → ⊥
+  pub none-above : SomeAbove answers → ⊥
+  pub page-long : PageFull (finishedText c old new answers) page → ⊥
+
+abbrev pub FinishedWhenAnswered : Type 0
+FinishedWhenAnswered =
+    (c : Conventions) (old new : List ℕ) (boxes : Boxes) (answers page : List ℕ) (boxes′ : Boxes) (page′ answer′ : List ℕ) (r : ℕ)
+    → FinishOut c old new boxes answers page boxes′ page′ answer′ r
+    → (r ≡ 0) ↔ Finishable c old new boxes answers page
+
+-- ---- "Planned as the new edition against any old one that is read without refusal, it lists nothing."
+
+-- THEOREM (proofs/Finishing.antt). Whatever slips are lent: no board is to be solved, and every lent number is zero.
+abbrev pub NothingLeft : Type 0
+NothingLeft =
+    (c : Conventions) → Accepted c → (old new : List ℕ) (boxes : Boxes) (answers page : List ℕ) (boxes′ : Boxes) (page′ answer′ : List ℕ)
+    → FinishOut c old new boxes answers page boxes′ page′ answer′ 0
+    → (other : List ℕ) (other-boxes : Boxes) (slips : List ℕ) (other-boxes′ : Boxes) (slips′ other-answer′ : List ℕ) (r : ℕ)
+    → PlanOut c other (finishedPart page′ answer′) other-boxes slips other-boxes′ slips′ other-answer′ r
+    → IsTaken c other (other-boxes .old-cards) (other-boxes .old-entries)
+    → IsTaken c (finishedPart page′ answer′) (other-boxes .new-cards) (other-boxes .new-entries)
+    → (r ≡ 0) × (getD other-answer′ 9 0 ≡ 0) × (slips′ ≡ replicate (length slips) 0)

@@ -5,3 +5,4 @@ pub mod Demand3
 pub mod Worked
 pub mod NothingLost
 pub mod PageBack
+pub mod Finished

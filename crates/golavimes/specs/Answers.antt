@@ -35,6 +35,9 @@ use Rattle.planning.specs.Plans.{planNumber, planEdition, planCarries, Boxes, e
 use Rattle.writer.specs.declared.write.Writing.{Writing}
 use Rattle.writer.specs.declared.write.Writing.the-variants as writing
 use Rattle.writer.specs.Writings.{writeNumber, writeCarries, writingOf, IsWritten}
+use Rattle.writer.specs.declared.finish.Finishing.{Finishing}
+use Rattle.writer.specs.declared.finish.Finishing.the-variants as finishing
+use Rattle.writer.specs.Finishings.{finishNumber, finishEdition, finishCarries, finishingOf, IsFinished}
 use Rattle.golavimes.specs.declared.Head.{Head}
 
 -- A writer's answer: the value is the bytes written.
@@ -56,6 +59,11 @@ readingNumbers (edition.Refused f) = readNumber f ∷ 0 ∷ readCarries f ∷ 0 
 abbrev pub writingNumbers : Writing → List ℕ
 writingNumbers (writing.Written n) = 0 ∷ 0 ∷ 0 ∷ n ∷ []
 writingNumbers (writing.Refused f) = writeNumber f ∷ 0 ∷ writeCarries f ∷ 0 ∷ []
+
+-- A finished edition's answer: the bytes written.
+abbrev pub finishingNumbers : Finishing → List ℕ
+finishingNumbers (finishing.Finished n) = 0 ∷ 0 ∷ 0 ∷ n ∷ []
+finishingNumbers (finishing.Refused f) = finishNumber f ∷ finishEdition f ∷ finishCarries f ∷ 0 ∷ []
 
 -- The first three numbers of planning's answers: refusal, edition (0 none, 1 old, 2 new), carried number.
 abbrev pub refusedHead : PlanRefusal → Head
@@ -143,4 +151,10 @@ pub record BoardsOut (c : Conventions) (old new : List ℕ) (boxes : Boxes) (num
   pub told : answer′ ≡ boardsNumbers (editionsOf c old new boxes)
   pub boxes-after : BoxesAfter c (areBoth (editionsOf c old new boxes)) old new boxes boxes′
   pub numbers-after : numbers′ ≡ boardsAfter (editionsOf c old new boxes) c old new (length numbers)
+  pub returned : r ≡ getD answer′ 0 0
+
+-- The new edition is finished on a lent page, whatever was lent and whatever it held.
+pub record FinishOut (c : Conventions) (old new : List ℕ) (boxes : Boxes) (answers page : List ℕ) (boxes′ : Boxes) (page′ answer′ : List ℕ) (r : ℕ) : Type 0 where
+  pub told : answer′ ≡ finishingNumbers (finishingOf c old new boxes answers (length page))
+  pub lent-after : IsFinished c old new boxes answers page (finishingOf c old new boxes answers (length page)) boxes′ page′
   pub returned : r ≡ getD answer′ 0 0

@@ -8,3 +8,6 @@ pub mod Steps
 pub mod Items
 pub mod BoardTexts
 pub mod Writings
+pub mod Given
+pub mod GivenCards
+pub mod Finishings

@@ -1,7 +1,8 @@
-// Layer 4: an edition written.
+// Layer 4: an edition written, and finished.
 pub mod auction; // the data lines of an auction
 pub mod board; // the tags of a board
 pub mod deal; // the value of a Deal tag
+pub mod finish; // the new edition finished, every whole board with a table
 pub mod held; // words of cards and entries, and the bytes that they name
 pub mod names; // the search for a tag name
 pub mod notes; // the notes of an auction
