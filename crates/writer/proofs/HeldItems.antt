@@ -65,6 +65,12 @@ pub record SectionInside (cards : List ℕ) (k i : ℕ) : Type 0 where
   pub starts : cardWord cards k 0 ≤ cardWord cards k i - 1
   pub ends : cardWord cards k i - 1 + cardWord cards k (i + 1) ≤ cardWord cards k 0 + cardWord cards k 1
 
+-- What putting the board k needs of its entries: each is marked, each name is followed by its value, and the auction's are inside.
+pub record EntriesHeld (text cards entries : List ℕ) (k : ℕ) : Type 0 where
+  pub marked : MarkedItems 0 (itemsAt text entries (cardWord cards k 0) (cardWord cards k 1))
+  pub paired : arePaired (itemsAt text entries (cardWord cards k 0) (cardWord cards k 1)) ≡ true
+  pub auction-inside : (cardWord cards k 51 ≡ 0 → ⊥) → SectionInside cards k 51
+
 -- The board k: its plain board, and its entries.
 pub record HeldBoard (c : Conventions) (text cards entries : List ℕ) (k : ℕ) : Type 0 where
   pub record-text : List ℕ
@@ -72,9 +78,7 @@ pub record HeldBoard (c : Conventions) (text cards entries : List ℕ) (k : ℕ)
   pub items : itemsAt text entries (cardWord cards k 0) (cardWord cards k 1) ≡ itemsOf record-text (recordOut c record-text .entries)
   pub inside : cardWord cards k 0 + cardWord cards k 1 ≤ length (entriesOf c text)
   pub inside-lent : cardWord cards k 0 + cardWord cards k 1 ≤ length entries / 4
-  pub marked : MarkedItems 0 (itemsAt text entries (cardWord cards k 0) (cardWord cards k 1))
-  pub paired : arePaired (itemsAt text entries (cardWord cards k 0) (cardWord cards k 1)) ≡ true
-  pub auction-inside : (cardWord cards k 51 ≡ 0 → ⊥) → SectionInside cards k 51
+  pub entries-held : EntriesHeld text cards entries k
   pub play-inside : (cardWord cards k 55 ≡ 0 → ⊥) → SectionInside cards k 55
 
 section-inside : {K : ℕ → Type 0} {E : List (List ℕ)} (cards : List ℕ) (k i : ℕ) → WordPoints K E (cardWord cards k 0) (cardWord cards k 0 + cardWord cards k 1) (cardWord cards k i) (cardWord cards k (i + 1))
@@ -102,24 +106,26 @@ EveryHeldBoard c text cards entries t k h =
       items = own;
       inside = fit;
       inside-lent = omega (arith, fit, entries-long c text cards entries t);
-      marked = rw own (RecordMarked c r);
-      paired = rw own (RecordPaired c r);
-      auction-inside = λ z. section-inside {K = callKind} {E = entriesOf c text} cards k 51 (rw (e0, e1, word-is 51 (omega arith), word-is 52 (omega arith)) (p .auction)) z;
+      entries-held = record {
+        marked = rw own (RecordMarked c r);
+        paired = rw own (RecordPaired c r);
+        auction-inside = λ z. section-inside {K = callKind} {E = entriesOf c text} cards k 51 (rw (e0, e1, word-is 51 (omega arith), word-is 52 (omega arith)) (p .auction)) z;
+      };
       play-inside = λ z. section-inside {K = trickKind} {E = entriesOf c text} cards k 55 (rw (e0, e1, word-is 55 (omega arith), word-is 56 (omega arith)) (p .play)) z;
     }
 
 -- The board is one of its entries.
-pub held-of : {c : Conventions} {text cards entries : List ℕ} {k : ℕ} → HeldBoard c text cards entries k
+pub held-of : {text cards entries : List ℕ} {k : ℕ} → EntriesHeld text cards entries k
     → BoardOf (boardHeld text cards entries k) (itemsAt text entries (cardWord cards k 0) (cardWord cards k 1))
 unfolding boardHeld boardItems
 held-of f = record { tags-are = refl; directives-are = refl; blocks-are = refl; are-marked = f .marked }
 
 -- THEOREM. The tags behind the auction's first entry, found by their entries.
-pub NotesHeld : {c : Conventions} {text cards entries : List ℕ} {k : ℕ} → HeldBoard c text cards entries k → (cardWord cards k 51 ≡ 0 → ⊥)
+pub NotesHeld : {text cards entries : List ℕ} {k : ℕ} → EntriesHeld text cards entries k → (cardWord cards k 51 ≡ 0 → ⊥)
     → drop (length (tagsIn (itemsUpTo text cards entries k 51))) (tagsIn (boardItems text cards entries k))
     ≡ tagsAt text entries (cardWord cards k 51 - 1) (cardWord cards k 0 + cardWord cards k 1 - (cardWord cards k 51 - 1))
 unfolding boardItems itemsUpTo
-NotesHeld {c} {text} {cards} {entries} {k} f z =
+NotesHeld {text} {cards} {entries} {k} f z =
     let s = f .auction-inside z in
     let e = cardWord cards k 0 in
     let n = cardWord cards k 1 in

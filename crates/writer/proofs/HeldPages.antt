@@ -32,7 +32,7 @@ use Rattle.writer.proofs.SectionTexts.{AuctionText, PlayText}
 use Rattle.writer.proofs.ExtraTexts.{arePaired, dealIndex, EarlyText, LateText, ValueText}
 use Rattle.writer.proofs.BodyTexts.{auctionPart, tagsPart, BoardOf, LeadingText, BodyText}
 use Rattle.writer.proofs.HeldBoards.{Holds, HeldPage}
-use Rattle.writer.proofs.HeldItems.{HeldBoard, EveryHeldBoard, held-of, NotesHeld}
+use Rattle.writer.proofs.HeldItems.{EntriesHeld, EveryHeldBoard, held-of, NotesHeld}
 
 -- A tag without data lines.
 tagged-full : (n v : List ℕ) (is : List Item) → fullText (record { name = n; value = v; lines = [] }) is ≡ taggedText n v is
@@ -113,7 +113,7 @@ module _ (c : Conventions) (text cards entries : List ℕ) (k : ℕ) where
         calls = callsIn (sectionItems text cards entries k 51);
       }
 
-  auction-group : HeldBoard c text cards entries k → (is : List Item)
+  auction-group : EntriesHeld text cards entries k → (is : List Item)
       → biddingText c text cards entries k is ≡ auctionPart c (boardHeld text cards entries k .tags) (boardHeld text cards entries k .auction) is
   unfolding biddingText boardHeld auctionHeld fullText
   auction-group f is =
@@ -146,7 +146,7 @@ module _ (c : Conventions) (text cards entries : List ℕ) (k : ℕ) where
   unfolding playHeld
   play-there = by-cases (eqb (cardWord cards k 55) 0) (λ q. rw q) (λ q. rw q)
 
-  notes-there : HeldBoard c text cards entries k
+  notes-there : EntriesHeld text cards entries k
       → hasNotes (tagsIn (boardItems text cards entries k)) (auctionHeld text cards entries k) ≡ (not (eqb (cardWord cards k 51) 0) && isAny (noteTags text cards entries k))
   unfolding auctionHeld
   notes-there f =
@@ -154,7 +154,7 @@ module _ (c : Conventions) (text cards entries : List ℕ) (k : ℕ) where
       (λ q. rw q)
       (λ q. rw (q, NotesHeld f (eqb-false (cardWord cards k 51) 0 q)))
 
-  present-same : HeldBoard c text cards entries k → presentOf (boardHeld text cards entries k) ≡ presentHeld text cards entries k
+  present-same : EntriesHeld text cards entries k → presentOf (boardHeld text cards entries k) ≡ presentHeld text cards entries k
   unfolding presentOf presentHeld boardHeld valuesHeld
   present-same f = rw (value-there (cardWord cards k 39), value-there (cardWord cards k 49), value-there (cardWord cards k 50), auction-there, play-there, notes-there f)
 
@@ -173,23 +173,23 @@ module _ (c : Conventions) (text cards entries : List ℕ) (k : ℕ) where
   regroup : (r h e d a l b p x y : List ℕ) → (r ++ h ++ e ++ d ++ a) ++ (l ++ b ++ p ++ x ++ y) ≡ r ++ ((h ++ (e ++ ((d ++ a) ++ (l ++ (b ++ p))))) ++ (x ++ y))
   regroup r h e d a l b p x y = simp append-assoc
 
-  scoring : HeldBoard c text cards entries k
+  scoring : EntriesHeld text cards entries k
       → scoringAt text entries (cardWord cards k 0) (cardWord cards k 1) ≡ firstValue (ascii "Scoring") (boardHeld text cards entries k .tags)
   unfolding scoringAt boardHeld boardItems
   scoring f = sym (ValueText text entries (ascii "Scoring") (cardWord cards k 0) (cardWord cards k 1) (f .paired))
 
-  early-group : HeldBoard c text cards entries k → (is : List Item)
+  early-group : EntriesHeld text cards entries k → (is : List Item)
       → extrasText text entries (cardWord cards k 0) is (cardWord cards k 0) (early text cards entries k) ≡ groupText (earlyExtras (boardHeld text cards entries k .tags)) is
   unfolding dealPlace boardHeld boardItems
   early-group f is = EarlyText text entries (cardWord cards k 0) (cardWord cards k 1) (f .paired) is
 
-  late-group : HeldBoard c text cards entries k → (is : List Item)
+  late-group : EntriesHeld text cards entries k → (is : List Item)
       → extrasText text entries (cardWord cards k 0) is (cardWord cards k 0 + early text cards entries k) (cardWord cards k 1 - early text cards entries k)
       ≡ groupText (lateExtras (boardHeld text cards entries k .tags)) is
   unfolding dealPlace boardHeld boardItems
   late-group f is = LateText text entries (cardWord cards k 0) (cardWord cards k 1) (f .paired) is
 
-  board-whole : HeldBoard c text cards entries k → (is : List Item) → frontText c text cards entries k is ++ backText c text cards entries k is ≡ whole is
+  board-whole : EntriesHeld text cards entries k → (is : List Item) → frontText c text cards entries k is ++ backText c text cards entries k is ≡ whole is
   unfolding frontText backText
   board-whole f is =
       regroup
@@ -253,17 +253,17 @@ module _ (c : Conventions) (text cards entries : List ℕ) (k : ℕ) where
 
   -- ---- the lines of a board
 
-  lead-is : HeldBoard c text cards entries k → leadHeld text cards entries k ≡ linesText (leadingLines (boardHeld text cards entries k))
+  lead-is : EntriesHeld text cards entries k → leadHeld text cards entries k ≡ linesText (leadingLines (boardHeld text cards entries k))
   unfolding leadHeld
   lead-is f = scan-lead ∙ sym (LeadingText (boardHeld text cards entries k) (itemsAt text entries (cardWord cards k 0) (cardWord cards k 1)) (held-of f) [])
 
-  body-is : HeldBoard c text cards entries k → bodyHeld c text cards entries k ≡ bodyText c (boardHeld text cards entries k)
+  body-is : EntriesHeld text cards entries k → bodyHeld c text cards entries k ≡ bodyText c (boardHeld text cards entries k)
   unfolding bodyHeld
   body-is f =
       board-whole f (scanned text cards entries k (scanOf text cards entries k))
       ∙ (scan-whole ∙ sym (BodyText (boardHeld text cards entries k) (itemsAt text entries (cardWord cards k 0) (cardWord cards k 1)) (held-of f) [] c play))
 
-  next-is : HeldBoard c text cards entries k → nextHeld c text cards entries k ≡ nextPart c (boardHeld text cards entries k)
+  next-is : EntriesHeld text cards entries k → nextHeld c text cards entries k ≡ nextPart c (boardHeld text cards entries k)
   unfolding nextHeld nextPart
   next-is f = rw (lead-is f, body-is f)
 
@@ -284,12 +284,13 @@ header-is (l ∷ ls) =
     rw z
 
 module _ (c : Conventions) (text cards entries : List ℕ) where
-  parts-are : (b n : ℕ) → ((k : ℕ) → b ≤ k → k < b + n → HeldBoard c text cards entries k)
+  parts-are : (b n : ℕ) → ((k : ℕ) → b ≤ k → k < b + n → EntriesHeld text cards entries k)
       → partsHeld c text cards entries b n ≡ nextParts c (boardsHeld text cards entries b n)
   parts-are b zero f = refl
   parts-are b (suc n) f = rw (next-is c text cards entries b (f b (omega arith) (omega arith)), parts-are (b + 1) n (λ k u v. f k (omega arith) (omega arith)))
 
-  page-is : (n : ℕ) → ((k : ℕ) → k < n → HeldBoard c text cards entries k) → pageHeld c text cards entries n ≡ pageText c (boardsHeld text cards entries 0 n)
+  -- THEOREM. The page of boards whose entries are so held is that of the boards that the words hold.
+  pub page-is : (n : ℕ) → ((k : ℕ) → k < n → EntriesHeld text cards entries k) → pageHeld c text cards entries n ≡ pageText c (boardsHeld text cards entries 0 n)
   unfolding pageHeld firstPart
   page-is zero f = refl
   page-is (suc n) f =
@@ -300,4 +301,4 @@ module _ (c : Conventions) (text cards entries : List ℕ) where
 
   -- THEOREM. The page of boards that were just read is what the text is written as.
   pub PageHeld : Holds c text cards entries → pageHeld c text cards entries (length (cardsOf c text)) ≡ writtenText c text
-  PageHeld t = page-is (length (cardsOf c text)) (λ k h. EveryHeldBoard c text cards entries t k h) ∙ HeldPage c text cards entries t
+  PageHeld t = page-is (length (cardsOf c text)) (λ k h. EveryHeldBoard c text cards entries t k h .entries-held) ∙ HeldPage c text cards entries t
