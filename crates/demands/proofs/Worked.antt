@@ -13,8 +13,9 @@ use Rattle.planning.specs.Slips.{slipOf, slipsOf, totalsOf}
 use Rattle.planning.specs.Plans.{editionsOf, plannedOf, isListed, lent, boardsOf}
 use Rattle.planning.specs.Demands.{Among, here, there, Tabled, Some, AllSolved, OnlyInside}
 use Rattle.planning.proofs.FoundLaws.{among-cases}
+use Rattle.writer.specs.Given.{answerAt, tableOf, tablesOf}
 use Rattle.golavimes.specs.Answers.{planNumbers, PlanOut}
-use Rattle.demands.specs.Worked.{front, oldStretch, newStretch, back, old, new, dealA, dealB, dealD, boxes, slips, boxes′, slips′, answer′, WorkedPair}
+use Rattle.demands.specs.Worked.{front, oldStretch, newStretch, back, old, new, dealA, dealB, dealD, boxes, slips, boxes′, slips′, answer′, WorkedPair, answers, WorkedAnswers}
 use Rattle.demands.specs.Boards.{by-plan-old, by-plan-new}
 use Rattle.demands.specs.Demand3.{OutsideAlike}
 use Rattle.demands.proofs.ReadAlike.{outside-read-alike}
@@ -85,3 +86,13 @@ pub worked-inside : OnlyInside front newStretch dealB (cardsOf builtIn new)
 worked-inside =
     inside-alone builtIn front oldStretch newStretch back boxes slips boxes′ slips′ answer′
     (worked-pair .alike) (worked-pair .planned) (worked-pair .solved) dealB (worked-pair .listed)
+
+-- ---- the answers
+
+pub worked-answers : WorkedAnswers
+unfolding ones cardCount wholeHands handWords handsOfWords dealOf isWhole hasTable hasDeal fits firstWith stateOf judged totalsOf answerAt tableOf tablesOf
+worked-answers =
+    record {
+      answered = record { twenty-each = rw (old-cards, new-cards); possible = refl };
+      cells-given = rw (old-cards, new-cards);
+    }

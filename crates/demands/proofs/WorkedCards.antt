@@ -24,7 +24,7 @@ use Rattle.reader.proofs.Alike.{entriesIn}
 use Rattle.reader.proofs.Counts.{EntriesFew}
 use Rattle.reader.proofs.CardShape.{word-1}
 use Rattle.reader.proofs.Fellows.{entries-counted}
-use Rattle.demands.specs.Worked.{front, oldStretch, newStretch, back, old, new, dealA, dealB, dealD}
+use Rattle.demands.specs.Worked.{front, oldStretch, newStretch, back, old, new, dealA, dealB, dealD, ladder}
 
 -- A card with the entries before it and its own, the hands, the table with its cells, the event's entry, and a record from start to end.
 abbrev card : ℕ → ℕ → Hands → ℕ → List ℕ → ℕ → ℕ → ℕ → List ℕ
@@ -33,9 +33,6 @@ card n count h table cells event start end =
     ++ (cells
     ++ ((table ∷ 0 ∷ event ∷ replicate 10 0)
     ++ (0 ∷ 0 ∷ 4 ∷ 0 ∷ 0 ∷ 0 ∷ 4 ∷ 0 ∷ 4 ∷ start ∷ end ∷ 0 ∷ 0 ∷ [])))
-
-abbrev ladder : List ℕ
-ladder = 0 ∷ 1 ∷ 2 ∷ 3 ∷ 4 ∷ 5 ∷ 6 ∷ 7 ∷ 8 ∷ 9 ∷ 10 ∷ 11 ∷ 12 ∷ 13 ∷ 0 ∷ 1 ∷ 2 ∷ 3 ∷ 4 ∷ 5 ∷ []
 
 -- The boards of the front and of the old edition's back.
 abbrev pub frontCard : List ℕ

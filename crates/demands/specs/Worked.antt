@@ -1,8 +1,10 @@
 -- A worked pair of editions that meets every premise of demand 3: both are read, slips are enough, they are alike but for a stretch, each
--- whole deal of the old one has a table on some old board, solved deals stand in the front and in the back, and one deal is listed.
+-- whole deal of the old one has a table on some old board, solved deals stand in the front and in the back, one deal is listed, and it is
+-- answered.
 use Prim.Native.Nat.{ℕ}
+use mathlib.Core.Path.{_≡_}
 use mathlib.Core.Bool.{true}
-use mathlib.Core.List.{List, [], _∷_, _++_}
+use mathlib.Core.List.{List, [], _∷_, _++_, map}
 use lib.ListN.{getD, replicate}
 use Rattle.tables.specs.Text.{ascii}
 use Rattle.tables.specs.Letters.{builtIn}
@@ -11,7 +13,9 @@ use Rattle.reader.specs.Records.{AlikeBut}
 use Rattle.reader.specs.Editions.{cardsOf, entriesOf}
 use Rattle.planning.specs.Plans.{Boxes, lent}
 use Rattle.planning.specs.Demands.{Tabled, Some, ListedIn, InFront, InBack, AllSolved}
+use Rattle.writer.specs.Given.{tablesOf}
 use Rattle.golavimes.specs.Answers.{PlanOut}
+use Rattle.demands.specs.Finished.{Answered}
 
 -- The front: the deal a (N has the spades, E the hearts, S the diamonds, W the clubs) with a table. The back: the deal d, turned from S, with a
 -- table. The old stretch: a again, without a table. The new stretch: the deal b, turned from E.
@@ -75,3 +79,17 @@ pub record WorkedPair : Type 0 where
   pub solved-in-front : Some (λ x. Tabled dealA x × InFront front x) (cardsOf builtIn old)
   pub solved-in-back : Some (λ x. Tabled dealD x × InBack front oldStretch x) (cardsOf builtIn old)
   pub listed : ListedIn dealB (getD answer′ 9 0) slips′
+
+-- ---- the solver's answers for the one slip: seven tricks in every cell
+
+abbrev pub answers : List ℕ
+answers = replicate 20 7
+
+-- The cells of the table in the back.
+abbrev pub ladder : List ℕ
+ladder = 0 ∷ 1 ∷ 2 ∷ 3 ∷ 4 ∷ 5 ∷ 6 ∷ 7 ∷ 8 ∷ 9 ∷ 10 ∷ 11 ∷ 12 ∷ 13 ∷ 0 ∷ 1 ∷ 2 ∷ 3 ∷ 4 ∷ 5 ∷ []
+
+-- THEOREM (proofs/Worked.antt). They are let through; the first and the third board keep their own cells, the second gets the answers.
+pub record WorkedAnswers : Type 0 where
+  pub answered : Answered builtIn old new answers
+  pub cells-given : map (λ t. t .cells) (tablesOf builtIn old new answers) ≡ replicate 20 0 ∷ answers ∷ ladder ∷ []
