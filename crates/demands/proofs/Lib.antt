@@ -21,6 +21,7 @@ pub mod RemarksOrdered
 pub mod RemarksPlaced
 pub mod StatesMean
 pub mod TableRefusing
+pub mod TablesBack
 pub mod TextPins
 pub mod TotalsAdd
 pub mod TrimmedDirectives
