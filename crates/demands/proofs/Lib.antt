@@ -1,5 +1,6 @@
 pub mod BoardWritable
 pub mod Cases
+pub mod FinishedBack
 pub mod Inside
 pub mod LineBack
 pub mod LinesWritten
