@@ -39,7 +39,7 @@ use Rattle.demands.proofs.TotalsAdd.{totals-add-up, boards-all}
 
 -- ---- a slip and its hands
 
-slip-holds : (p : ℕ) (card : List ℕ) → Holds (handsOf card) (slipOf p card)
+pub slip-holds : (p : ℕ) (card : List ℕ) → Holds (handsOf card) (slipOf p card)
 unfolding slipOf
 slip-holds p card = record { north = refl; east = refl; south = refl; west = refl }
 
@@ -290,7 +290,7 @@ at-among xs zero o l = absurd (omega arith)
 at-among xs (suc i) o l = card-among xs i (omega arith)
 
 -- A solve board has no table.
-no-solve : (c : Conventions) (old new slip : List ℕ) → ((x : List ℕ) → Among x (cardsOf c new) → isWhole x ≡ true → hasTable x ≡ true)
+pub no-solve : (c : Conventions) (old new slip : List ℕ) → ((x : List ℕ) → Among x (cardsOf c new) → isWhole x ≡ true → hasTable x ≡ true)
     → OfSolve (boardsOf c old new) (cardsOf c new) slip → ⊥
 no-solve c old new slip all s =
     let f = states-mean c old new (s .position) (s .from-one) (s .is-there) Solve .0 (s .state) .0 in

@@ -186,7 +186,7 @@ headed-met c old new boxes answer values e =
     (λ f q. rw (e, q) (record { number-said = refl; edition-said = refl; carried-said = refl }))
     (λ m n q. nothing (rw (e, q) (record { number-said = refl; edition-said = refl; carried-said = refl })))
 
-boxes-zero : (c : Conventions) (well : Bool) (old new : List ℕ) (boxes boxes′ : Boxes) → well ≡ false → BoxesAfter c well old new boxes boxes′ → BoxesZero boxes boxes′
+pub boxes-zero : (c : Conventions) (well : Bool) (old new : List ℕ) (boxes boxes′ : Boxes) → well ≡ false → BoxesAfter c well old new boxes boxes′ → BoxesZero boxes boxes′
 boxes-zero c well old new boxes boxes′ w b =
     record {
       old-cards = b .old-cards ∙ rw w;
