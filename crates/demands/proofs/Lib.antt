@@ -1,6 +1,7 @@
 pub mod BoardWritable
 pub mod Cases
 pub mod FinishedBack
+pub mod FinishRefusing
 pub mod Inside
 pub mod LineBack
 pub mod LinesWritten
