@@ -2,6 +2,9 @@ pub mod BoardWritable
 pub mod Cases
 pub mod FinishedBack
 pub mod FinishRefusing
+pub mod FinishedSlips
+pub mod FinishedTables
+pub mod Finishing
 pub mod Inside
 pub mod LineBack
 pub mod LinesWritten

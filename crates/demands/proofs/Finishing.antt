@@ -1,0 +1,278 @@
+-- The finished edition: when there is one, what it holds, and that nothing is left to solve in it.
+use Prim.Native.Nat.{ℕ, suc, _+_, _-_, _*_, _<_}
+use mathlib.Core.Path.{_≡_, refl, sym, ap, _∙_}
+use mathlib.Core.Bool.{true, not}
+use mathlib.Core.List.{List, [], _∷_, _++_}
+use native.Mathlib.Omega.{arith}
+use lib.Dec.{ltb, leb, eqb}
+use lib.ListN.{length, getD, replicate}
+use lib.Seq.{take-at, take-all}
+use borrow.Author.Tests.{ltb-true, ltb-false, le-leb, eqb-true, ne-eqb}
+use Rattle.tables.specs.declared.letters.Conventions.{Conventions}
+use Rattle.tables.specs.Letters.{Accepted, every}
+use Rattle.tables.proofs.Laws.{by-cases}
+use Rattle.reader.specs.declared.deal.Hands.{Hands}
+use Rattle.reader.specs.Store.{flat, padded}
+use Rattle.reader.specs.Editions.{cardsOf}
+use Rattle.planning.specs.declared.editions.EditionsRefusal.the-variants.{Old, New}
+use Rattle.planning.specs.declared.editions.Editions.{Editions}
+use Rattle.planning.specs.declared.editions.Editions.the-variants.{Both}
+use Rattle.planning.specs.declared.editions.Editions.the-variants as editions
+use Rattle.planning.specs.declared.plan.Totals.{Totals}
+use Rattle.planning.specs.Cards.{isWhole, hasTable, cardHere}
+use Rattle.planning.specs.States.{Judged, stateNumber, fromOf, stateAt}
+use Rattle.planning.specs.Slips.{slipsOf, countOf, cardFrom}
+use Rattle.planning.specs.Plans.{Boxes, editionsOf, boardsOf, stateBy}
+use Rattle.planning.specs.Demands.{Among, WithDeal, slipHere}
+use Rattle.planning.proofs.AnswerLaws.{solve-sum}
+use Rattle.planning.proofs.CardLaws.{CardsHanded}
+use Rattle.planning.proofs.FoundLaws.{numbered}
+use Rattle.planning.proofs.SlipLaws.{slips-count}
+use Rattle.writer.specs.declared.finish.Finishing.{Finishing}
+use Rattle.writer.specs.declared.finish.Finishing.the-variants.{Finished, Refused}
+use Rattle.writer.specs.declared.finish.FinishRefusal.the-variants.{Edition, Answers, Impossible, PageFull}
+use Rattle.writer.specs.Given.{tablesOf, finishedText}
+use Rattle.writer.specs.Finishings.{firstAbove, finishedOn, finishedBy, finishingOf}
+use Rattle.golavimes.specs.Answers.{stateNumbers, finishingNumbers, PlanOut, FinishOut}
+use Rattle.demands.specs.Demand1.{solveIn, Begins, refusal}
+use Rattle.demands.specs.Demand3.{IsTaken, FinishedAt, finishedPart, FinishedRight, FinishedWhenAnswered, NothingLeft}
+use Rattle.demands.specs.Finished.{Answered, noTable, FinishedEdition, FinishedBack}
+use Rattle.demands.proofs.Listed.{told, all-listed, no-solve}
+use Rattle.demands.proofs.Listing.{read-number, promised, planned-when-taken}
+use Rattle.demands.proofs.ReadAlike.{cards-handed}
+use Rattle.demands.proofs.FinishRefusing.{finish-refuses}
+use Rattle.demands.proofs.FinishedTables.{whole-kind, own-cells, cells-from}
+
+-- ---- when it is finished
+
+-- An answer that begins with 0 names no edition.
+no-edition : (w : Finishing) → getD (finishingNumbers w) 0 0 ≡ 0 → getD (finishingNumbers w) 1 0 ≡ 0
+no-edition (Finished n) e = refl
+no-edition (Refused (Edition (Old f))) e = absurd (read-number f e)
+no-edition (Refused (Edition (New f))) e = absurd (read-number f e)
+no-edition (Refused (Answers n)) e = refl
+no-edition (Refused (Impossible n)) e = refl
+no-edition (Refused (PageFull n)) e = refl
+
+pub finished-when-answered : FinishedWhenAnswered
+finished-when-answered c old new boxes answers page boxes′ page′ answer′ r o =
+    let w = finishingOf c old new boxes answers (length page) in
+    let f = finish-refuses c old new boxes answers page boxes′ page′ answer′ r o .refused in
+    let none = f .1 .1 .1 .1 .1 .1 .1 .1 .1 .exactly in (
+      λ z.
+          let e : getD answer′ 0 0 ≡ 0 = sym (o .returned) ∙ z in
+          let b : Begins answer′ (refusal 0 0 0 (Unit {0})) =
+          record { number-is = e; edition-is = rw (o .told) (no-edition w (rw (o .told) at e)) } in
+          let n = none .0 b .0 in
+          record {
+            old-taken = record {
+              not-overlong = n .0 .0 .0 .0 .0 .0 .0 .0 .1;
+              box-not-full = n .0 .0 .0 .0 .0 .0 .0 .1;
+              list-not-full = n .0 .0 .0 .0 .0 .0 .1;
+            };
+            new-taken = record {
+              not-overlong = n .0 .0 .0 .0 .0 .1;
+              box-not-full = n .0 .0 .0 .0 .1;
+              list-not-full = n .0 .0 .0 .1;
+            };
+            twenty-each = n .0 .0 .1;
+            none-above = n .0 .1;
+            page-long = n .1;
+          },
+      λ p.
+          let a = p .old-taken in
+          let b = p .new-taken in
+          o .returned
+          ∙ none .1 (
+            (((((((((tt, a .not-overlong), a .box-not-full), a .list-not-full), b .not-overlong), b .box-not-full), b .list-not-full), p .twenty-each), p .none-above), p .page-long),
+            tt,
+          ) .number-is,
+    )
+
+-- ---- what is finished
+
+-- No byte is above 13 where the first such index is their number.
+none-above : (bs : List ℕ) → firstAbove bs ≡ length bs → every (λ n. leb n 13) bs ≡ true
+none-above [] e = refl
+none-above (b ∷ bs) e =
+    by-cases (ltb 13 b)
+    (λ t. let z = rw t at e in absurd (omega arith))
+    (λ t. let z = rw t at e in rw (le-leb b 13 (ltb-false 13 b t)) (none-above bs (omega arith)))
+
+-- An answer that begins with 0: 20 possible bytes for each slip, and n bytes are written.
+record IsDone (e : Editions) (solve : ℕ) (answers : List ℕ) (n m : ℕ) : Type 0 where
+  twenty : length answers ≡ 20 * solve
+  possible : firstAbove answers ≡ length answers
+  is : finishedBy e solve answers (finishedOn n m) ≡ Finished n
+
+is-done : (e : Editions) (solve : ℕ) (answers : List ℕ) (n m : ℕ)
+    → getD (finishingNumbers (finishedBy e solve answers (finishedOn n m))) 0 0 ≡ 0
+    → IsDone e solve answers n m
+is-done (Both a b) solve answers n m z =
+    by-cases (eqb (length answers) (20 * solve))
+    (λ t.
+    by-cases (eqb (firstAbove answers) (length answers))
+    (λ u.
+    by-cases (leb n m)
+    (λ v.
+    record {
+      twenty = eqb-true (length answers) (20 * solve) t;
+      possible = eqb-true (firstAbove answers) (length answers) u;
+      is = rw (t, u, v);
+    })
+    (λ v. let y = rw (t, u, v) at z in absurd (omega arith)))
+    (λ u. let y = rw (t, u) at z in absurd (omega arith)))
+    (λ t. let y = rw t at z in absurd (omega arith))
+is-done (editions.Refused (Old f)) solve answers n m z = absurd (read-number f z)
+is-done (editions.Refused (New f)) solve answers n m z = absurd (read-number f z)
+
+-- The answers were let through, and the finished edition is its text.
+record Done (c : Conventions) (old new answers page′ answer′ : List ℕ) : Type 0 where
+  answered : Answered c old new answers
+  part : finishedPart page′ answer′ ≡ finishedText c old new answers
+
+done : (c : Conventions) (old new : List ℕ) (boxes : Boxes) (answers page : List ℕ) (boxes′ : Boxes) (page′ answer′ : List ℕ)
+    → FinishOut c old new boxes answers page boxes′ page′ answer′ 0 → Done c old new answers page′ answer′
+unfolding finishingOf
+done c old new boxes answers page boxes′ page′ answer′ o =
+    let text = finishedText c old new answers in
+    let d =
+    is-done (editionsOf c old new boxes) (solveIn c old new) answers (length text) (length page)
+    (sym (ap (λ (l : List ℕ). getD l 0 0) (o .told)) ∙ sym (o .returned)) in
+    let a : answer′ ≡ 0 ∷ 0 ∷ 0 ∷ length text ∷ [] = o .told ∙ ap finishingNumbers (d .is) in
+    let p : page′ ≡ text ++ replicate (length page - length text) 0 = rw (d .is) at (o .lent-after .page-after) in
+    record {
+      answered = record { twenty-each = d .twenty; possible = none-above answers (d .possible) };
+      part = rw (a, p) (take-at text (replicate (length page - length text) 0) (length text) refl);
+    }
+
+-- ---- what golavimes_plan and golavimes_state answer
+
+-- As many slips as boards to solve, and zeros behind them.
+record Slipped (c : Conventions) (old new slips slips′ answer′ : List ℕ) : Type 0 where
+  solve-is : getD answer′ 9 0 ≡ countOf 5 (boardsOf c old new)
+  slips-are : slips′ ≡ padded (length slips) (flat (slipsOf (boardsOf c old new)))
+
+slipped : (c : Conventions) (old new : List ℕ) (boxes : Boxes) (slips : List ℕ) (boxes′ : Boxes) (slips′ answer′ : List ℕ)
+    → PlanOut c old new boxes slips boxes′ slips′ answer′ 0 → Slipped c old new slips slips′ answer′
+slipped c old new boxes slips boxes′ slips′ answer′ o =
+    let p = promised c old new boxes slips boxes′ slips′ answer′ o in
+    let t = told c old new boxes slips boxes′ slips′ (p .totals) (p .planned) .totals in
+    record {
+      solve-is = p .solve-told ∙ ap (λ (u : Totals). u .solve) t ∙ solve-sum (boardsOf c old new);
+      slips-are = p .planned .slips-after;
+    }
+
+state-told : (e : Editions) (js : List Judged) (p : ℕ) (answer : List ℕ) → answer ≡ stateNumbers e (stateBy e js p) → 0 ≡ getD answer 0 0
+    → (getD answer 3 0 ≡ stateNumber (stateAt js p)) × (getD answer 4 0 ≡ fromOf (stateAt js p))
+state-told (Both m n) js p answer e z = rw e (refl, refl)
+state-told (editions.Refused (Old f)) js p answer e z = absurd (read-number f (sym (rw e at z)))
+state-told (editions.Refused (New f)) js p answer e z = absurd (read-number f (sym (rw e at z)))
+
+-- ---- the boards of the finished edition
+
+module _ (c : Conventions) (old new answers finished : List ℕ) (e : FinishedEdition c old new answers finished) where
+  -- A whole board has a table.
+  has-table : (k : ℕ) → k < length (cardsOf c new) → isWhole (cardFrom (cardsOf c new) k) ≡ true
+      → hasTable (cardFrom (cardsOf c finished) k) ≡ true
+  has-table k l w =
+      let t = getD (tablesOf c old new answers) k noTable in
+      e .each k l .table ∙ rw (ne-eqb (t .kind) 0 (whole-kind c old new answers k l w))
+
+  all-tables : (x : List ℕ) → Among x (cardsOf c finished) → isWhole x ≡ true → hasTable x ≡ true
+  all-tables x a w =
+      let n = numbered a in
+      let k = n .number in
+      let l : k < length (cardsOf c new) = omega (arith, n .below, e .as-many) in
+      let v : isWhole (cardFrom (cardsOf c new) k) ≡ true = sym (e .each k l .whole) ∙ rw (n .is) w in
+      rw (n .is) at (has-table k l v)
+
+  -- The board number k, from 0, by the cards that the definitions read.
+  board-finished : (old-cards new-cards slips : List ℕ) (n : ℕ)
+      → ((j : ℕ) → j < length (cardsOf c old) → cardHere j old-cards ≡ cardFrom (cardsOf c old) j)
+      → ((j : ℕ) → j < length (cardsOf c new) → cardHere j new-cards ≡ cardFrom (cardsOf c new) j)
+      → length answers ≡ 20 * countOf 5 (boardsOf c old new)
+      → slips ≡ padded n (flat (slipsOf (boardsOf c old new)))
+      → (k : ℕ) → k < length (cardsOf c new)
+      → FinishedAt c old new old-cards new-cards (countOf 5 (boardsOf c old new)) slips answers k
+      (cardFrom (cardsOf c new) k) (cardFrom (cardsOf c finished) k)
+  board-finished old-cards new-cards slips n olds-are news-are twenty are k l =
+      let f = e .each k l in
+      let same : (h : Hands) → WithDeal h (cardFrom (cardsOf c new) k) → WithDeal h (cardFrom (cardsOf c finished) k) =
+      λ h d. record { whole = f .whole ∙ d .whole; hands = f .hands (d .whole) ∙ d .hands } in
+      record {
+        same-deal = same;
+        no-deal = λ w. f .whole ∙ w;
+        with-table = λ h d. record { deal = same h d; table = has-table k l (d .whole) };
+        own-cells = λ h t.
+            f .cells (whole-kind c old new answers k l (t .deal .whole)) ∙ own-cells c old new answers k l (t .deal .whole) (t .table);
+        given-cells = λ h d boxes boxes′ answer′ o.
+            let m : k + 1 ≡ suc k = omega arith in
+            let s = rw m at (state-told (editionsOf c old new boxes) (boardsOf c old new) (k + 1) answer′ (o .told) (o .returned)) in
+            rw (s .0, s .1, f .cells (whole-kind c old new answers k l (d .whole)), ← d .hands)
+            (cells-from c old new answers k l old-cards new-cards slips n olds-are news-are twenty are (d .whole));
+      }
+
+-- ---- nothing to solve
+
+-- Where every whole board of the new edition has a table no board is to be solved.
+none-to-solve : (c : Conventions) (old new : List ℕ) → ((x : List ℕ) → Among x (cardsOf c new) → isWhole x ≡ true → hasTable x ≡ true)
+    → countOf 5 (boardsOf c old new) ≡ 0
+none-to-solve c old new all =
+    let js = boardsOf c old new in
+    let slips = padded 0 (flat (slipsOf js)) in
+    let l = all-listed (cardsOf c old) (cardsOf c new) (CardsHanded c old) (CardsHanded c new) (countOf 5 js) 0 slips refl refl in
+    by-cases (ltb 0 (countOf 5 js))
+    (λ b. absurd (no-solve c old new (slipHere 0 slips) all (l .of-solve 0 (ltb-true 0 (countOf 5 js) b))))
+    (λ b. omega (arith, ltb-false 0 (countOf 5 js) b))
+
+-- Planning it then lists nothing, whatever slips are lent.
+lists-nothing : (c : Conventions) (old new : List ℕ) → ((x : List ℕ) → Among x (cardsOf c new) → isWhole x ≡ true → hasTable x ≡ true)
+    → (boxes : Boxes) (slips : List ℕ) (boxes′ : Boxes) (slips′ answer′ : List ℕ) (r : ℕ)
+    → PlanOut c old new boxes slips boxes′ slips′ answer′ r
+    → IsTaken c old (boxes .old-cards) (boxes .old-entries) → IsTaken c new (boxes .new-cards) (boxes .new-entries)
+    → (r ≡ 0) × (getD answer′ 9 0 ≡ 0) × (slips′ ≡ replicate (length slips) 0)
+lists-nothing c old new all boxes slips boxes′ slips′ answer′ r o to tn =
+    let js = boardsOf c old new in
+    let none = none-to-solve c old new all in
+    let z : r ≡ 0 =
+    planned-when-taken c old new boxes slips boxes′ slips′ answer′ r o .1
+    (record { old-taken = to; new-taken = tn; slips-enough = λ h. omega (arith, solve-sum js) }) in
+    let p = slipped c old new boxes slips boxes′ slips′ answer′ (rw z at o) in
+    let no-slips : slipsOf js ≡ [] = sym (take-all 0 (slipsOf js) (omega (arith, slips-count js))) in
+    let all-zero : length slips - 0 ≡ length slips = omega arith in (
+      z,
+      p .solve-is ∙ none,
+      p .slips-are ∙ rw (no-slips, all-zero),
+    )
+
+-- ---- the theorems, given that the text reads back
+
+module _ (back : FinishedBack) where
+  edition : (c : Conventions) → Accepted c → (old new answers page′ answer′ : List ℕ) → Done c old new answers page′ answer′
+      → FinishedEdition c old new answers (finishedPart page′ answer′)
+  edition c a old new answers page′ answer′ d = rw (d .part) (back c a old new answers (d .answered))
+
+  pub right : FinishedRight
+  right c a old new boxes answers page boxes′ page′ answer′ o lent slips lent′ slips′ plan po oc oe nc ne cards entries ho hn hf =
+      let d = done c old new boxes answers page boxes′ page′ answer′ o in
+      let finished = finishedPart page′ answer′ in
+      let e = edition c a old new answers page′ answer′ d in
+      let js = boardsOf c old new in
+      let p = slipped c old new lent slips lent′ slips′ plan po in
+      let twenty : length answers ≡ 20 * countOf 5 js = d .answered .twenty-each ∙ ap (λ (n : ℕ). 20 * n) (solve-sum js) in
+      let olds-are = cards-handed c old oc oe ho in
+      let news-are = cards-handed c new nc ne hn in
+      record {
+        as-many = e .as-many;
+        each = λ k l.
+            rw (p .solve-is, news-are k l, cards-handed c finished cards entries hf k (omega (arith, e .as-many)))
+            (board-finished c old new answers finished e oc nc slips′ (length slips) olds-are news-are twenty (p .slips-are) k l);
+      }
+
+  pub none-left : NothingLeft
+  none-left c a old new boxes answers page boxes′ page′ answer′ o other other-boxes slips other-boxes′ slips′ other-answer′ r po to tn =
+      let d = done c old new boxes answers page boxes′ page′ answer′ o in
+      let finished = finishedPart page′ answer′ in
+      lists-nothing c other finished (all-tables c old new answers finished (edition c a old new answers page′ answer′ d))
+      other-boxes slips other-boxes′ slips′ other-answer′ r po to tn
