@@ -1,27 +1,30 @@
 -- Demand 1 of golavimes_finish.
-use Prim.Native.Nat.{ℕ, _*_, _<_, _≤_}
+use Prim.Native.Nat.{ℕ, _*_, _≤_}
 use mathlib.Core.Path.{_≡_, refl, ap, _∙_}
 use mathlib.Core.Bool.{true, false, not}
 use mathlib.Core.List.{List, [], _∷_, _++_}
 use native.Mathlib.Omega.{arith}
-use lib.Dec.{ltb, eqb}
+use lib.Dec.{ltb, leb, eqb}
 use lib.ListN.{length, getD}
 use borrow.Author.Tests.{ltb-true, ltb-false, lt-leb, le-leb, eqb-true, eqb-false, eq-eqb, ne-eqb}
 use Rattle.tables.specs.declared.letters.Conventions.{Conventions}
 use Rattle.tables.proofs.Laws.{by-cases}
 use Rattle.tables.proofs.TextLaws.{front-few}
 use Rattle.planning.specs.declared.editions.EditionsRefusal.{EditionsRefusal}
+use Rattle.planning.specs.declared.editions.EditionsRefusal.the-variants.{Old, New}
+use Rattle.planning.specs.declared.editions.Editions.{Editions}
 use Rattle.planning.specs.declared.editions.Editions.the-variants.{Both}
 use Rattle.planning.specs.declared.editions.Editions.the-variants as editions
-use Rattle.planning.specs.Plans.{Boxes, editionsNumber, editionsCarries, editionRefused, editionsOf}
+use Rattle.planning.specs.Plans.{Boxes, editionsNumber, editionsCarries, editionRefused, editionsOf, areBoth}
 use Rattle.writer.specs.declared.finish.FinishRefusal.the-variants.{Edition, Answers, Impossible, PageFull}
 use Rattle.writer.specs.declared.finish.Finishing.{Finishing}
 use Rattle.writer.specs.declared.finish.Finishing.the-variants.{Finished, Refused}
 use Rattle.writer.specs.Given.{finishedText}
-use Rattle.writer.specs.Finishings.{firstAbove, finishingOf, isFinished}
+use Rattle.writer.specs.Finishings.{firstAbove, finishedOn, finishedBy, finishingOf, isFinished}
 use Rattle.golavimes.specs.Answers.{finishingNumbers}
 use Rattle.demands.specs.Demand1.{Refusal, refusal, ofEditions, solveIn, NotTwentyEach, possible, SomeAbove, NoValues, FinishRefuses}
 use Rattle.demands.specs.Demand1 as demand
+use Rattle.demands.proofs.Listing.{read-number}
 use Rattle.demands.proofs.Refusing.{Says, Met, nothing, this, later, met-by, met-below, editions-met, first-that-holds, boxes-zero}
 
 -- ---- the first byte above 13
@@ -114,3 +117,34 @@ finish-refuses c old new boxes answers page boxes′ page′ answer′ r o =
       page-zero = λ h. o .lent-after .page-after ∙ rw (refused h .0);
       no-values = λ h. rw (o .told) (refused h .1);
     }
+
+-- ---- no refusal
+
+-- An answer that begins with 0: both editions were taken, 20 possible bytes for each slip, and n bytes are written.
+pub record IsDone (e : Editions) (solve : ℕ) (answers : List ℕ) (n m : ℕ) : Type 0 where
+  pub taken : areBoth e ≡ true
+  pub twenty : length answers ≡ 20 * solve
+  pub possible : firstAbove answers ≡ length answers
+  pub is : finishedBy e solve answers (finishedOn n m) ≡ Finished n
+
+pub is-done : (e : Editions) (solve : ℕ) (answers : List ℕ) (n m : ℕ)
+    → getD (finishingNumbers (finishedBy e solve answers (finishedOn n m))) 0 0 ≡ 0
+    → IsDone e solve answers n m
+is-done (Both a b) solve answers n m z =
+    by-cases (eqb (length answers) (20 * solve))
+    (λ t.
+    by-cases (eqb (firstAbove answers) (length answers))
+    (λ u.
+    by-cases (leb n m)
+    (λ v.
+    record {
+      taken = refl;
+      twenty = eqb-true (length answers) (20 * solve) t;
+      possible = eqb-true (firstAbove answers) (length answers) u;
+      is = rw (t, u, v);
+    })
+    (λ v. let y = rw (t, u, v) at z in absurd (omega arith)))
+    (λ u. let y = rw (t, u) at z in absurd (omega arith)))
+    (λ t. let y = rw t at z in absurd (omega arith))
+is-done (editions.Refused (Old f)) solve answers n m z = absurd (read-number f z)
+is-done (editions.Refused (New f)) solve answers n m z = absurd (read-number f z)

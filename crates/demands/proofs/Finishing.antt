@@ -1,13 +1,13 @@
 -- The finished edition: when there is one, what it holds, and that nothing is left to solve in it.
 use Prim.Native.Nat.{ℕ, suc, _+_, _-_, _*_, _<_}
 use mathlib.Core.Path.{_≡_, refl, sym, ap, _∙_}
-use mathlib.Core.Bool.{true, not}
+use mathlib.Core.Bool.{true}
 use mathlib.Core.List.{List, [], _∷_, _++_}
 use native.Mathlib.Omega.{arith}
-use lib.Dec.{ltb, leb, eqb}
+use lib.Dec.{ltb, leb}
 use lib.ListN.{length, getD, replicate}
 use lib.Seq.{take-at, take-all}
-use borrow.Author.Tests.{ltb-true, ltb-false, le-leb, eqb-true, ne-eqb}
+use borrow.Author.Tests.{ltb-true, ltb-false, le-leb, ne-eqb}
 use Rattle.tables.specs.declared.letters.Conventions.{Conventions}
 use Rattle.tables.specs.Letters.{Accepted, every}
 use Rattle.tables.proofs.Laws.{by-cases}
@@ -32,7 +32,7 @@ use Rattle.writer.specs.declared.finish.Finishing.{Finishing}
 use Rattle.writer.specs.declared.finish.Finishing.the-variants.{Finished, Refused}
 use Rattle.writer.specs.declared.finish.FinishRefusal.the-variants.{Edition, Answers, Impossible, PageFull}
 use Rattle.writer.specs.Given.{tablesOf, finishedText}
-use Rattle.writer.specs.Finishings.{firstAbove, finishedOn, finishedBy, finishingOf}
+use Rattle.writer.specs.Finishings.{firstAbove, finishingOf}
 use Rattle.golavimes.specs.Answers.{stateNumbers, finishingNumbers, PlanOut, FinishOut}
 use Rattle.demands.specs.Demand1.{solveIn, Begins, refusal}
 use Rattle.demands.specs.Demand3.{IsTaken, FinishedAt, finishedPart, FinishedRight, FinishedWhenAnswered, NothingLeft}
@@ -40,7 +40,8 @@ use Rattle.demands.specs.Finished.{Answered, noTable, FinishedEdition, F
 use Rattle.demands.proofs.Listed.{told, all-listed, no-solve}
 use Rattle.demands.proofs.Listing.{read-number, promised, planned-when-taken}
 use Rattle.demands.proofs.ReadAlike.{cards-handed}
-use Rattle.demands.proofs.FinishRefusing.{finish-refuses}
+use Rattle.demands.proofs.FinishedBack.{finished-back}
+use Rattle.demands.proofs.FinishRefusing.{finish-refuses, is-done}
 use Rattle.demands.proofs.FinishedTables.{whole-kind, own-cells, cells-from}
 
 -- ---- when it is finished
@@ -98,33 +99,6 @@ none-above (b ∷ bs) e =
     by-cases (ltb 13 b)
     (λ t. let z = rw t at e in absurd (omega arith))
     (λ t. let z = rw t at e in rw (le-leb b 13 (ltb-false 13 b t)) (none-above bs (omega arith)))
-
--- An answer that begins with 0: 20 possible bytes for each slip, and n bytes are written.
-record IsDone (e : Editions) (solve : ℕ) (answers : List ℕ) (n m : ℕ) : Type 0 where
-  twenty : length answers ≡ 20 * solve
-  possible : firstAbove answers ≡ length answers
-  is : finishedBy e solve answers (finishedOn n m) ≡ Finished n
-
-is-done : (e : Editions) (solve : ℕ) (answers : List ℕ) (n m : ℕ)
-    → getD (finishingNumbers (finishedBy e solve answers (finishedOn n m))) 0 0 ≡ 0
-    → IsDone e solve answers n m
-is-done (Both a b) solve answers n m z =
-    by-cases (eqb (length answers) (20 * solve))
-    (λ t.
-    by-cases (eqb (firstAbove answers) (length answers))
-    (λ u.
-    by-cases (leb n m)
-    (λ v.
-    record {
-      twenty = eqb-true (length answers) (20 * solve) t;
-      possible = eqb-true (firstAbove answers) (length answers) u;
-      is = rw (t, u, v);
-    })
-    (λ v. let y = rw (t, u, v) at z in absurd (omega arith)))
-    (λ u. let y = rw (t, u) at z in absurd (omega arith)))
-    (λ t. let y = rw t at z in absurd (omega arith))
-is-done (editions.Refused (Old f)) solve answers n m z = absurd (read-number f z)
-is-done (editions.Refused (New f)) solve answers n m z = absurd (read-number f z)
 
 -- The answers were let through, and the finished edition is its text.
 record Done (c : Conventions) (old new answers page′ answer′ : List ℕ) : Type 0 where
@@ -276,3 +250,11 @@ module _ (back : FinishedBack) where
       let finished = finishedPart page′ answer′ in
       lists-nothing c other finished (all-tables c old new answers finished (edition c a old new answers page′ answer′ d))
       other-boxes slips other-boxes′ slips′ other-answer′ r po to tn
+
+-- ---- the two theorems
+
+pub finished-right : FinishedRight
+finished-right = right finished-back
+
+pub nothing-left : NothingLeft
+nothing-left = none-left finished-back

@@ -5,6 +5,7 @@ pub mod FinishRefusing
 pub mod FinishedSlips
 pub mod FinishedTables
 pub mod Finishing
+pub mod Handed
 pub mod Inside
 pub mod LineBack
 pub mod LinesWritten

@@ -9,16 +9,15 @@ use lib.ListN.{length, getD, drop, replicate, length-map}
 use lib.Seq.{take-at, drop-at}
 use borrow.Author.Tests.{ltb-true, ltb-false, eqb-true, ne-eqb, le-leb, lt-leb}
 use Rattle.tables.specs.declared.letters.Conventions.{Conventions}
-use Rattle.tables.proofs.Laws.{by-cases, clash}
+use Rattle.tables.proofs.Laws.{by-cases}
 use Rattle.reader.specs.declared.tag.Span.{Span}
 use Rattle.reader.specs.declared.edition.Reading.{Reading}
 use Rattle.reader.specs.declared.edition.Reading.the-variants.{Taken}
-use Rattle.reader.specs.declared.edition.Reading.the-variants as reading
-use Rattle.reader.specs.Store.{flat, padded, entryWords}
+use Rattle.reader.specs.Store.{flat, entryWords}
 use Rattle.reader.specs.Boards.{recordOut}
 use Rattle.reader.specs.Records.{recordsOf, spansFrom, spansOf, Filled, none, one, AlikeBut}
 use Rattle.reader.specs.declared.store.Entry.{Entry}
-use Rattle.reader.specs.Editions.{isTaken, readingOf, cardOf, cardsOf, entriesOf}
+use Rattle.reader.specs.Editions.{readingOf, cardOf, cardsOf, entriesOf}
 use Rattle.reader.specs.Editions as editions
 use Rattle.reader.specs.Fellows.{Stands, spanAt, BoardAt, Fellow, movedBy, CardMoved, movedEntry, Relocated}
 use Rattle.reader.proofs.StoreLaws.{Blocks, blocks-append, blocks-map, length-flat}
@@ -32,16 +31,15 @@ use Rattle.reader.proofs.Fellows.{EveryBoard, RecordEnds, AlikeOther, FellowsOf
 use Rattle.reader.proofs.Relocated.{RelocatedBoards}
 use Rattle.planning.specs.Cards.{cardHere, cardsIn}
 use Rattle.planning.specs.Slips.{cardFrom}
-use Rattle.planning.specs.Plans.{Boxes, oldReading, newReading, editionsOf, areBoth}
 use Rattle.planning.proofs.BoxLaws.{cards-back, card-nth, taken-fits}
-use Rattle.planning.proofs.BothLaws.{both-are-taken, taken-short}
 use Rattle.demands.proofs.Inside.{stands-card, starts-at, ends-at}
 use Rattle.demands.proofs.Listed.{told, totals-told}
 use Rattle.golavimes.specs.Answers.{readingNumbers}
 use Rattle.demands.specs.Demand1.{boardsIn}
-use Rattle.demands.specs.Boards.{HandedBack, by-read, by-plan-old, by-plan-new, Board, recordStart, entriesFrom, boardHere, isEntryPlace, isTextPlace, countedWord, countedEntry, ReadAlike}
+use Rattle.demands.specs.Boards.{Board, recordStart, entriesFrom, boardHere, isEntryPlace, isTextPlace, countedWord, countedEntry, ReadAlike}
 use Rattle.demands.specs.Demand3.{HasFellow, OutsideAlike, OutsideReadAlike, CardsHanded, CountsTold}
-use Rattle.demands.proofs.Listing.{read-number, promised}
+use Rattle.demands.proofs.Listing.{promised}
+use Rattle.demands.proofs.Handed.{Held, taken-as, reading-zero, handed}
 
 -- ---- read alike: one record's boards, moved
 
@@ -129,60 +127,7 @@ based c a n r m =
 alike : {x y z : Board} → ReadAlike x z → ReadAlike y z → ReadAlike x y
 alike f g = record { cards-agree = λ i h. f .cards-agree i h ∙ sym (g .cards-agree i h); entries-agree = f .entries-agree ∙ sym (g .entries-agree) }
 
--- ---- the words hold the boards
-
--- What an edition's words hold once it was taken.
-record Held (c : Conventions) (text cards entries : List ℕ) : Type 0 where
-  short : length text ≤ 16777215
-  lent-cards : ℕ
-  lent-entries : ℕ
-  cards-fit : 64 * length (cardsOf c text) ≤ lent-cards
-  cards-are : cards ≡ padded lent-cards (flat (cardsOf c text))
-  entries-are : entries ≡ padded lent-entries (flat (entriesOf c text))
-
--- An edition taken, with its answer.
-record TakenAs (r : Reading) : Type 0 where
-  boards : ℕ
-  count : ℕ
-  is : r ≡ Taken boards count
-
-taken-as : (r : Reading) → isTaken r ≡ true → TakenAs r
-taken-as (Taken m n) e = record { boards = m; count = n; is = refl }
-taken-as (reading.Refused f) e = clash e
-
-held : (c : Conventions) (text cards entries : List ℕ) (lc le : ℕ) → isTaken (readingOf c text lc le) ≡ true
-    → cards ≡ padded lc (flat (cardsOf c text)) → entries ≡ padded le (flat (entriesOf c text)) → Held c text cards entries
-held c text cards entries lc le t ec ee =
-    let a = taken-as (readingOf c text lc le) t in
-    record {
-      short = taken-short c text lc le t;
-      lent-cards = lc;
-      lent-entries = le;
-      cards-fit = taken-fits c text lc le (a .boards) (a .count) (a .is) .cards-fit;
-      cards-are = ec;
-      entries-are = ee;
-    }
-
-reading-zero : (r : Reading) → getD (readingNumbers r) 0 0 ≡ 0 → isTaken r ≡ true
-reading-zero (Taken m n) e = refl
-reading-zero (reading.Refused f) e = absurd (read-number f e)
-
-both-taken : (c : Conventions) (old new : List ℕ) (boxes : Boxes) → areBoth (editionsOf c old new boxes) ≡ true → (isTaken (oldReading c old boxes) ≡ true) × (isTaken (newReading c new boxes) ≡ true)
-unfolding editionsOf
-both-taken c old new boxes e = both-are-taken (oldReading c old boxes) (newReading c new boxes) e
-
-handed : (c : Conventions) (text cards entries : List ℕ) → HandedBack c text cards entries → Held c text cards entries
-handed c text cards′ entries′ (by-read {cards = cards} {entries = entries} o) =
-    let t = reading-zero (readingOf c text (length cards) (length entries)) (sym (ap (λ (a : List ℕ). getD a 0 0) (o .told)) ∙ sym (o .returned)) in
-    held c text cards′ entries′ (length cards) (length entries) t (o .cards-after ∙ rw t) (o .entries-after ∙ rw t)
-handed c text cards′ entries′ (by-plan-old {new = new} {boxes = boxes} {slips = slips} {boxes′ = boxes′} {slips′ = slips′} {answer′ = answer′} o) =
-    let p = promised c text new boxes slips boxes′ slips′ answer′ o in
-    let t = both-taken c text new boxes (told c text new boxes slips boxes′ slips′ (p .totals) (p .planned) .taken) in
-    held c text (boxes′ .old-cards) (boxes′ .old-entries) (length (boxes .old-cards)) (length (boxes .old-entries)) (t .0) (p .planned .boxes-after .old-cards) (p .planned .boxes-after .old-entries)
-handed c text cards′ entries′ (by-plan-new {old = old} {boxes = boxes} {slips = slips} {boxes′ = boxes′} {slips′ = slips′} {answer′ = answer′} o) =
-    let p = promised c old text boxes slips boxes′ slips′ answer′ o in
-    let t = both-taken c old text boxes (told c old text boxes slips boxes′ slips′ (p .totals) (p .planned) .taken) in
-    held c text (boxes′ .new-cards) (boxes′ .new-entries) (length (boxes .new-cards)) (length (boxes .new-entries)) (t .1) (p .planned .boxes-after .new-cards) (p .planned .boxes-after .new-entries)
+-- ---- cards
 
 card-held : (c : Conventions) (text cards entries : List ℕ) → Held c text cards entries → (k : ℕ) → k < boardsIn c text → cardHere k cards ≡ cardFrom (cardsOf c text) k
 card-held c text cards entries h k l =

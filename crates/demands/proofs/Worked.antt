@@ -16,7 +16,7 @@ use Rattle.planning.proofs.FoundLaws.{among-cases}
 use Rattle.writer.specs.Given.{answerAt, tableOf, tablesOf}
 use Rattle.golavimes.specs.Answers.{planNumbers, PlanOut}
 use Rattle.demands.specs.Worked.{front, oldStretch, newStretch, back, old, new, dealA, dealB, dealD, boxes, slips, boxes′, slips′, answer′, WorkedPair, answers, WorkedAnswers}
-use Rattle.demands.specs.Boards.{by-plan-old, by-plan-new}
+use Rattle.demands.specs.Boards.{by-plan, as-old, as-new}
 use Rattle.demands.specs.Demand3.{OutsideAlike}
 use Rattle.demands.proofs.ReadAlike.{outside-read-alike}
 use Rattle.demands.proofs.Listing.{inside-alone}
@@ -80,7 +80,7 @@ worked-pair =
 pub worked-alike : OutsideAlike builtIn front oldStretch newStretch back (boxes′ .old-cards) (boxes′ .old-entries) (boxes′ .new-cards) (boxes′ .new-entries)
 worked-alike =
     outside-read-alike builtIn front oldStretch newStretch back (boxes′ .old-cards) (boxes′ .old-entries) (boxes′ .new-cards) (boxes′ .new-entries)
-    (worked-pair .alike) (by-plan-old (worked-pair .planned)) (by-plan-new (worked-pair .planned)) .0
+    (worked-pair .alike) (as-old (by-plan (worked-pair .planned))) (as-new (by-plan (worked-pair .planned))) .0
 
 pub worked-inside : OnlyInside front newStretch dealB (cardsOf builtIn new)
 worked-inside =

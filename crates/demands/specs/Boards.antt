@@ -8,18 +8,30 @@ use lib.ListN.{getD, take, drop}
 use Rattle.tables.specs.declared.letters.Conventions.{Conventions}
 use Rattle.planning.specs.Cards.{cardHere}
 use Rattle.planning.specs.Plans.{Boxes}
-use Rattle.golavimes.specs.Answers.{EditionOut, PlanOut}
+use Rattle.golavimes.specs.Answers.{EditionOut, WritingOut, PlanOut, StateOut, BehindOut, BoardsOut, FinishOut}
 
 -- ---- an edition that was read without refusal
 
--- The words lent for a text's cards and entries, once golavimes_read has read it, or golavimes_plan as its old or its new edition, and
--- returned 0.
+-- The words lent for two editions, once golavimes_plan, golavimes_state, golavimes_record_behind, golavimes_boards or golavimes_finish has
+-- read both and returned 0.
+pub data BothBack (c : Conventions) (old new : List ℕ) : Boxes → Type 0 where
+  by-plan : {boxes : Boxes} {slips : List ℕ} {boxes′ : Boxes} {slips′ answer′ : List ℕ}
+      → PlanOut c old new boxes slips boxes′ slips′ answer′ 0 → BothBack c old new boxes′
+  by-state : {boxes boxes′ : Boxes} {p : ℕ} {answer′ : List ℕ} → StateOut c old new boxes boxes′ p answer′ 0 → BothBack c old new boxes′
+  by-record : {boxes boxes′ : Boxes} {p : ℕ} {answer′ : List ℕ} → BehindOut c old new boxes boxes′ p answer′ 0 → BothBack c old new boxes′
+  by-boards : {boxes : Boxes} {numbers : List ℕ} {boxes′ : Boxes} {numbers′ answer′ : List ℕ}
+      → BoardsOut c old new boxes numbers boxes′ numbers′ answer′ 0 → BothBack c old new boxes′
+  by-finish : {boxes : Boxes} {answers page : List ℕ} {boxes′ : Boxes} {page′ answer′ : List ℕ}
+      → FinishOut c old new boxes answers page boxes′ page′ answer′ 0 → BothBack c old new boxes′
+
+-- The words lent for a text's cards and entries, once golavimes_read or golavimes_write has read it and returned 0, or one of those has as
+-- its old or its new edition.
 pub data HandedBack (c : Conventions) (text : List ℕ) : List ℕ → List ℕ → Type 0 where
   by-read : {cards entries cards′ entries′ answer′ : List ℕ} → EditionOut c text cards entries cards′ entries′ answer′ 0 → HandedBack c text cards′ entries′
-  by-plan-old : {new : List ℕ} {boxes : Boxes} {slips : List ℕ} {boxes′ : Boxes} {slips′ answer′ : List ℕ}
-      → PlanOut c text new boxes slips boxes′ slips′ answer′ 0 → HandedBack c text (boxes′ .old-cards) (boxes′ .old-entries)
-  by-plan-new : {old : List ℕ} {boxes : Boxes} {slips : List ℕ} {boxes′ : Boxes} {slips′ answer′ : List ℕ}
-      → PlanOut c old text boxes slips boxes′ slips′ answer′ 0 → HandedBack c text (boxes′ .new-cards) (boxes′ .new-entries)
+  by-write : {cards entries page cards′ entries′ page′ answer′ : List ℕ}
+      → WritingOut c text cards entries page cards′ entries′ page′ answer′ 0 → HandedBack c text cards′ entries′
+  as-old : {new : List ℕ} {boxes′ : Boxes} → BothBack c text new boxes′ → HandedBack c text (boxes′ .old-cards) (boxes′ .old-entries)
+  as-new : {old : List ℕ} {boxes′ : Boxes} → BothBack c old text boxes′ → HandedBack c text (boxes′ .new-cards) (boxes′ .new-entries)
 
 -- ---- a board
 
