@@ -3,6 +3,7 @@ pub mod auction; // the data lines of an auction
 pub mod board; // the tags of a board
 pub mod deal; // the value of a Deal tag
 pub mod finish; // the new edition finished, every whole board with a table
+pub mod give; // the cells that each board of the new edition gets
 pub mod held; // words of cards and entries, and the bytes that they name
 pub mod names; // the search for a tag name
 pub mod notes; // the notes of an auction
