@@ -3,20 +3,25 @@ ghost use mathlib.Core.Path.{_≡_};
 ghost use mathlib.Core.Bool.{false};
 ghost use Prim.Native.Nat.{_+_, _*_, _≤_};
 ghost use lib.ListN.{length};
+ghost use Rattle.tables.specs.Letters.{builtIn};
 ghost use Rattle.reader.specs.Store.{zeros};
 ghost use Rattle.planning.specs.Steps.{Kept};
-ghost use Rattle.writer.specs.GivenCards.{marked, cleared, changedAt, changedAll, checkedOf, FinishEnded, FinishPut};
-ghost use Rattle.writer.specs.Finishings.{finishNumber, finishCarries, finishEdition, firstAbove};
+ghost use Rattle.writer.specs.GivenCards.{marked, cleared, changedAt, changedAll, checkedOf, FinishEnded, FinishPut, BoardsFinished};
+ghost use Rattle.writer.specs.Finishings.{finishNumber, finishCarries, finishEdition, firstAbove, IsFinished};
+use crate::give::give_tables;
 use crate::page::put_page;
 use planning::cards::has_table;
 use planning::cards::is_whole;
+use planning::editions::Editions;
 use planning::editions::EditionsRefusal;
 use planning::editions::edition_refused;
 use planning::editions::editions_carried;
 use planning::editions::editions_number;
+use planning::editions::read_both;
 use planning::plan::zero_boxes;
 use reader::store::copy_in;
 use tables::letters::Conventions;
+use tables::letters::built_in;
 
 // Refusals 1 to 3 of an edition; 5 answers of another number of bytes than 20 a slip, 6 a byte above 13, 7 the page is too short;
 // specs/Finishings.antt gives the numbers.
@@ -206,4 +211,105 @@ fn put_finished(
     let n = put_page(new, cards, entries, c, boards, page);
     clear_given(cards, boards);
     n
+}
+
+// Finishes the new edition, once both were read.
+fn finish_boards(
+    c: Conventions,
+    new: &[u8],
+    old_cards: &mut [u32],
+    old_entries: &mut [u32],
+    new_cards: &mut [u32],
+    new_entries: &mut [u32],
+    olds: usize,
+    news: usize,
+    answers: &[u8],
+    page: &mut [u8],
+) -> Finishing
+    requires { ⌜ (64 * olds ≤ length (now «old_cards»)) × (64 * news ≤ length (now «new_cards»)) ⌝ }
+    ensures { λ r. ⌜ BoardsFinished c (now (new .entry)) olds news
+        (record { old-cards = now («old_cards» .entry); old-entries = now («old_entries» .entry); new-cards = now («new_cards» .entry); new-entries = now («new_entries» .entry) })
+        (now (answers .entry)) (now (page .entry)) r
+        (record { old-cards = now («old_cards» .exit); old-entries = now («old_entries» .exit); new-cards = now («new_cards» .exit); new-entries = now («new_entries» .exit) })
+        (now (page .exit)) ⌝ }
+{
+    let solve = give_tables(old_cards, olds, new_cards, news, answers);
+    match check_answers(answers, solve) {
+        Checked::Right => {
+            let n = put_finished(new, new_cards, new_entries, c, news, page);
+            end_finishing(n, old_cards, old_entries, new_cards, new_entries, page)
+        }
+        Checked::Wrong(f) => {
+            zero_all(old_cards, old_entries, new_cards, new_entries, page);
+            Finishing::Refused(f)
+        }
+    }
+}
+
+// Finishes by the given conventions.
+pub fn finish_with(
+    c: Conventions,
+    old: &[u8],
+    new: &[u8],
+    old_cards: &mut [u32],
+    old_entries: &mut [u32],
+    new_cards: &mut [u32],
+    new_entries: &mut [u32],
+    answers: &[u8],
+    page: &mut [u8],
+) -> Finishing
+    ensures { λ r. ⌜ IsFinished c (now (old .entry)) (now (new .entry))
+        (record { old-cards = now («old_cards» .entry); old-entries = now («old_entries» .entry); new-cards = now («new_cards» .entry); new-entries = now («new_entries» .entry) })
+        (now (answers .entry)) (now (page .entry)) r
+        (record { old-cards = now («old_cards» .exit); old-entries = now («old_entries» .exit); new-cards = now («new_cards» .exit); new-entries = now («new_entries» .exit) })
+        (now (page .exit)) ⌝ }
+{
+    match read_both(c, old, new, old_cards, old_entries, new_cards, new_entries) {
+        Editions::Refused(f) => {
+            tables::page::finish(page, 0);
+            Finishing::Refused(FinishRefusal::Edition(f))
+        }
+        Editions::Both(olds, news) => finish_boards(
+            c,
+            new,
+            old_cards,
+            old_entries,
+            new_cards,
+            new_entries,
+            olds as usize,
+            news as usize,
+            answers,
+            page,
+        ),
+    }
+}
+
+// Finishes the new edition on a page, given an old one and the answers: every whole board has a table.
+pub fn finish(
+    old: &[u8],
+    new: &[u8],
+    old_cards: &mut [u32],
+    old_entries: &mut [u32],
+    new_cards: &mut [u32],
+    new_entries: &mut [u32],
+    answers: &[u8],
+    page: &mut [u8],
+) -> Finishing
+    ensures { λ r. ⌜ IsFinished builtIn (now (old .entry)) (now (new .entry))
+        (record { old-cards = now («old_cards» .entry); old-entries = now («old_entries» .entry); new-cards = now («new_cards» .entry); new-entries = now («new_entries» .entry) })
+        (now (answers .entry)) (now (page .entry)) r
+        (record { old-cards = now («old_cards» .exit); old-entries = now («old_entries» .exit); new-cards = now («new_cards» .exit); new-entries = now («new_entries» .exit) })
+        (now (page .exit)) ⌝ }
+{
+    finish_with(
+        built_in(),
+        old,
+        new,
+        old_cards,
+        old_entries,
+        new_cards,
+        new_entries,
+        answers,
+        page,
+    )
 }
