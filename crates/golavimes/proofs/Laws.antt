@@ -16,9 +16,11 @@ use Rattle.planning.specs.declared.editions.Editions.{Editions}
 use Rattle.planning.specs.declared.plan.Planned.{Planned}
 use Rattle.planning.specs.Slips.{slipsOf}
 use Rattle.planning.specs.Plans.{Boxes, editionsOf, areBoth, isListed, lent, boardsOf, stateBy, behindBy, boardsAfter, BoxesAfter, BothRead, IsPlanned, StateTold, BehindTold, BoardsTold}
-use Rattle.golavimes.specs.Answers.{writtenNumbers, decodedNumbers, readingNumbers, writingNumbers, planNumbers, stateNumbers, recordNumbers, boardsNumbers, WroteOut, ReadOut, EditionOut, WritingOut, PlanOut, StateOut, BehindOut, BoardsOut}
+use Rattle.golavimes.specs.Answers.{writtenNumbers, decodedNumbers, readingNumbers, writingNumbers, finishingNumbers, planNumbers, stateNumbers, recordNumbers, boardsNumbers, WroteOut, ReadOut, EditionOut, WritingOut, PlanOut, StateOut, BehindOut, BoardsOut, FinishOut}
 use Rattle.writer.specs.declared.write.Writing.{Writing}
 use Rattle.writer.specs.Writings.{writingOf, IsWritten}
+use Rattle.writer.specs.declared.finish.Finishing.{Finishing}
+use Rattle.writer.specs.Finishings.{IsFinished}
 
 pub wrote-out : {bs page page′ : List ℕ} {w : Written} {numbers : List ℕ} → Wrote bs page page′ w → numbers ≡ writtenNumbers w → WroteOut bs page page′ numbers (getD numbers 0 0)
 wrote-out a e = record { told = e ∙ ap writtenNumbers (a .told); page-after = a .page-after; returned = refl }
@@ -94,3 +96,7 @@ writing-out {c} {text} {cards} {entries} {page} a e =
       lent-after = rw (a .answer) at a;
       returned = refl;
     }
+
+pub finish-out : {c : Conventions} {old new : List ℕ} {boxes : Boxes} {answers page : List ℕ} {r : Finishing} {boxes′ : Boxes} {page′ numbers : List ℕ}
+    → IsFinished c old new boxes answers page r boxes′ page′ → numbers ≡ finishingNumbers r → FinishOut c old new boxes answers page boxes′ page′ numbers (getD numbers 0 0)
+finish-out a e = record { told = e ∙ ap finishingNumbers (a .answer); lent-after = rw (a .answer) at a; returned = refl }

@@ -2,7 +2,7 @@
 ghost use mathlib.Core.Path.{_≡_};
 ghost use Prim.Native.Nat.{_-_};
 ghost use lib.ListN.{getD};
-ghost use Rattle.golavimes.specs.Answers.{writtenNumbers, decodedNumbers, readingNumbers, writingNumbers, refusedHead, editionsHead, planNumbers, stateNumbers, recordNumbers, boardsNumbers, WroteOut, ReadOut, EditionOut, WritingOut, PlanOut, StateOut, BehindOut, BoardsOut};
+ghost use Rattle.golavimes.specs.Answers.{writtenNumbers, decodedNumbers, readingNumbers, writingNumbers, finishingNumbers, refusedHead, editionsHead, planNumbers, stateNumbers, recordNumbers, boardsNumbers, WroteOut, ReadOut, EditionOut, WritingOut, PlanOut, StateOut, BehindOut, BoardsOut, FinishOut};
 ghost use Rattle.tables.specs.Letters.{builtIn};
 ghost use Rattle.tables.specs.Tables.{digitsText, headerText, rowsText, tableOfDigits, tableOfRows};
 use planning::behind::Behind;
@@ -14,6 +14,7 @@ use reader::edition::Reading;
 use tables::dd::Decoded;
 use tables::dd::TableRead;
 use tables::page::Written;
+use writer::finish::Finishing;
 use writer::write::Writing;
 
 fn written_numbers(w: Written) -> [u64; 4]
@@ -404,6 +405,54 @@ pub extern "C" fn golavimes_boards(
         boards,
     );
     let numbers = boards_numbers(t);
+    *answer = numbers;
+    numbers[0]
+}
+
+fn finishing_numbers(w: Finishing) -> [u64; 4]
+    ensures { λ n. ⌜ n ≡ finishingNumbers w ⌝ }
+{
+    match w {
+        Finishing::Finished(n) => [0, 0, 0, n],
+        Finishing::Refused(f) => [
+            writer::finish::finish_number(f),
+            writer::finish::finish_edition(f),
+            writer::finish::finish_carried(f),
+            0,
+        ],
+    }
+}
+
+// Finishes the new edition on a page, given an old one and 20 answers for each board to solve.
+#[no_mangle]
+pub extern "C" fn golavimes_finish(
+    old: &[u8],
+    new: &[u8],
+    old_cards: &mut [u32],
+    old_entries: &mut [u32],
+    new_cards: &mut [u32],
+    new_entries: &mut [u32],
+    answers: &[u8],
+    page: &mut [u8],
+    answer: &mut [u64; 4],
+) -> u64
+    ensures { λ r. ⌜ FinishOut builtIn (now (old .entry)) (now (new .entry))
+        (record { old-cards = now («old_cards» .entry); old-entries = now («old_entries» .entry); new-cards = now («new_cards» .entry); new-entries = now («new_entries» .entry) })
+        (now (answers .entry)) (now (page .entry))
+        (record { old-cards = now («old_cards» .exit); old-entries = now («old_entries» .exit); new-cards = now («new_cards» .exit); new-entries = now («new_entries» .exit) })
+        (now (page .exit)) (now (answer .exit)) r ⌝ }
+{
+    let w = writer::finish::finish(
+        old,
+        new,
+        old_cards,
+        old_entries,
+        new_cards,
+        new_entries,
+        answers,
+        page,
+    );
+    let numbers = finishing_numbers(w);
     *answer = numbers;
     numbers[0]
 }
