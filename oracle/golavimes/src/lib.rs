@@ -57,72 +57,6 @@ mod c {
             entries_len: usize,
             answer: *mut u64,
         ) -> u64;
-        pub fn golavimes_plan(
-            old: *const u8,
-            old_len: usize,
-            new: *const u8,
-            new_len: usize,
-            old_cards: *mut u32,
-            old_cards_len: usize,
-            old_entries: *mut u32,
-            old_entries_len: usize,
-            new_cards: *mut u32,
-            new_cards_len: usize,
-            new_entries: *mut u32,
-            new_entries_len: usize,
-            slips: *mut u64,
-            slips_len: usize,
-            answer: *mut u64,
-        ) -> u64;
-        pub fn golavimes_state(
-            old: *const u8,
-            old_len: usize,
-            new: *const u8,
-            new_len: usize,
-            old_cards: *mut u32,
-            old_cards_len: usize,
-            old_entries: *mut u32,
-            old_entries_len: usize,
-            new_cards: *mut u32,
-            new_cards_len: usize,
-            new_entries: *mut u32,
-            new_entries_len: usize,
-            position: u64,
-            answer: *mut u64,
-        ) -> u64;
-        pub fn golavimes_record_behind(
-            old: *const u8,
-            old_len: usize,
-            new: *const u8,
-            new_len: usize,
-            old_cards: *mut u32,
-            old_cards_len: usize,
-            old_entries: *mut u32,
-            old_entries_len: usize,
-            new_cards: *mut u32,
-            new_cards_len: usize,
-            new_entries: *mut u32,
-            new_entries_len: usize,
-            position: u64,
-            answer: *mut u64,
-        ) -> u64;
-        pub fn golavimes_boards(
-            old: *const u8,
-            old_len: usize,
-            new: *const u8,
-            new_len: usize,
-            old_cards: *mut u32,
-            old_cards_len: usize,
-            old_entries: *mut u32,
-            old_entries_len: usize,
-            new_cards: *mut u32,
-            new_cards_len: usize,
-            new_entries: *mut u32,
-            new_entries_len: usize,
-            boards: *mut u64,
-            boards_len: usize,
-            answer: *mut u64,
-        ) -> u64;
         pub fn golavimes_write(
             text: *const u8,
             text_len: usize,
@@ -134,6 +68,39 @@ mod c {
             page_len: usize,
             answer: *mut u64,
         ) -> u64;
+    }
+
+    /// Declares functions over two editions: both texts, the four boxes, then what is
+    /// each one's own.
+    macro_rules! over_editions {
+        ($($function:ident($($own:ident: $type:ty),*);)*) => {
+            extern "C" {
+                $(
+                    pub fn $function(
+                        old: *const u8,
+                        old_len: usize,
+                        new: *const u8,
+                        new_len: usize,
+                        old_cards: *mut u32,
+                        old_cards_len: usize,
+                        old_entries: *mut u32,
+                        old_entries_len: usize,
+                        new_cards: *mut u32,
+                        new_cards_len: usize,
+                        new_entries: *mut u32,
+                        new_entries_len: usize,
+                        $($own: $type),*
+                    ) -> u64;
+                )*
+            }
+        };
+    }
+
+    over_editions! {
+        golavimes_plan(slips: *mut u64, slips_len: usize, answer: *mut u64);
+        golavimes_state(position: u64, answer: *mut u64);
+        golavimes_record_behind(position: u64, answer: *mut u64);
+        golavimes_boards(boards: *mut u64, boards_len: usize, answer: *mut u64);
     }
 }
 
@@ -207,20 +174,21 @@ pub fn optimum_result_table_from_rows(
     }
 }
 
+/// Memory that is lent to be written, taken as memory that nothing was stored in
+/// yet. Only for the C functions, which store into all of it.
+fn fresh<T>(lent: &mut [T]) -> &mut [MaybeUninit<T>] {
+    // SAFETY: the layouts are the same, and what is stored is a value of `T`.
+    unsafe { &mut *(lent as *mut [T] as *mut [MaybeUninit<T>]) }
+}
+
+fn fresh_answer<const N: usize>(answer: &mut [u64; N]) -> &mut [MaybeUninit<u64>; N] {
+    // SAFETY: as in fresh.
+    unsafe { &mut *(answer as *mut [u64; N]).cast() }
+}
+
 /// Reads an edition. A card is 64 words, an entry 4.
 pub fn read(text: &[u8], cards: &mut [u32], entries: &mut [u32], answer: &mut [u64; 5]) -> u64 {
-    // SAFETY: as in dd_table_to_pbn.
-    unsafe {
-        c::golavimes_read(
-            text.as_ptr(),
-            text.len(),
-            cards.as_mut_ptr(),
-            cards.len(),
-            entries.as_mut_ptr(),
-            entries.len(),
-            answer.as_mut_ptr(),
-        )
-    }
+    read_fresh(text, fresh(cards), fresh(entries), fresh_answer(answer))
 }
 
 /// Reads an edition into memory that nothing was stored in yet. The call stores
@@ -260,8 +228,9 @@ pub struct Boxes<'a> {
     pub new_entries: &'a mut [u32],
 }
 
-/// Calls a function of planning: both texts, the four boxes, then what is its own.
-macro_rules! planning {
+/// Calls a function over two editions: both texts, the four boxes, then what is its
+/// own.
+macro_rules! call_over_editions {
     ($function:ident, $editions:expr, $boxes:expr, $($own:expr),*) => {
         // SAFETY: as in dd_table_to_pbn.
         unsafe {
@@ -288,7 +257,7 @@ macro_rules! planning {
 /// blank, own, old, near, twin and solve. A slip is 5 numbers.
 pub fn plan(editions: Editions, boxes: Boxes, slips: &mut [u64], answer: &mut [u64; 10]) -> u64 {
     let (slips, length) = (slips.as_mut_ptr(), slips.len());
-    planning!(
+    call_over_editions!(
         golavimes_plan,
         editions,
         boxes,
@@ -301,7 +270,7 @@ pub fn plan(editions: Editions, boxes: Boxes, slips: &mut [u64], answer: &mut [u
 /// The state of the board at a position from 1. The answer goes on with the state
 /// (0 blank, 1 own, 2 old, 3 near, 4 twin, 5 solve) and `from`.
 pub fn state(editions: Editions, boxes: Boxes, position: u64, answer: &mut [u64; 5]) -> u64 {
-    planning!(
+    call_over_editions!(
         golavimes_state,
         editions,
         boxes,
@@ -318,7 +287,7 @@ pub fn record_behind(
     position: u64,
     answer: &mut [u64; 6],
 ) -> u64 {
-    planning!(
+    call_over_editions!(
         golavimes_record_behind,
         editions,
         boxes,
@@ -331,7 +300,7 @@ pub fn record_behind(
 /// end of the record behind it. The answer goes on with the number of boards.
 pub fn boards(editions: Editions, boxes: Boxes, boards: &mut [u64], answer: &mut [u64; 4]) -> u64 {
     let (boards, length) = (boards.as_mut_ptr(), boards.len());
-    planning!(
+    call_over_editions!(
         golavimes_boards,
         editions,
         boxes,
@@ -349,20 +318,8 @@ pub fn write(
     page: &mut [u8],
     answer: &mut [u64; 4],
 ) -> u64 {
-    // SAFETY: as in dd_table_to_pbn.
-    unsafe {
-        c::golavimes_write(
-            text.as_ptr(),
-            text.len(),
-            cards.as_mut_ptr(),
-            cards.len(),
-            entries.as_mut_ptr(),
-            entries.len(),
-            page.as_mut_ptr(),
-            page.len(),
-            answer.as_mut_ptr(),
-        )
-    }
+    let (cards, entries) = (fresh(cards), fresh(entries));
+    write_fresh(text, cards, entries, fresh(page), fresh_answer(answer))
 }
 
 /// Writes with memory that nothing was stored in yet. The call stores into all
