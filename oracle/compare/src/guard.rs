@@ -75,8 +75,11 @@ pub fn untouched(parts: &[(bool, &str)]) -> Result<(), String> {
     }
 }
 
-/// The returned number must be the first of the answer.
-pub fn told(returned: u64, answer: &[u64]) -> Result<(), String> {
+/// What stands around the answer must be untouched, and the returned number be the
+/// answer's first.
+pub fn answered(returned: u64, answer: &Guarded<u64>) -> Result<(), String> {
+    untouched(&[(answer.is_intact(), "numbers around the answer")])?;
+    let answer = answer.lent();
     if returned == answer[0] {
         Ok(())
     } else {

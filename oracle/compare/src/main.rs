@@ -1,6 +1,7 @@
 //! Compares the product, called through `libgolavimes.a`, with the original
 //! Rust, and records the Rust's answers.
 
+mod comparison;
 mod guard;
 mod model;
 mod plan;

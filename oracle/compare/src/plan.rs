@@ -2,23 +2,20 @@
 //! and from the boards that the unchanged `reader.rs` reads.
 
 pub mod bench;
-mod generate;
-mod judge;
-mod model;
-mod product;
+pub mod generate;
+pub mod judge;
+pub mod model;
+pub mod product;
 mod stretch;
 
-use crate::read::model::{CARD, ENTRY};
+use crate::comparison::{self, Comparison, Met, Refusal, Report};
 use crate::read::product::Lent as LentBoxes;
-use crate::read::{Checked, LONGEST};
+use crate::read::Checked;
 use crate::rng::Rng;
 use crate::room::{Room, ENOUGH, ROOMS};
-use crate::shrink::{shrink, Ways};
-use crate::tables::hex;
 use crate::tables::judge::text_in_domain;
 use model::{Plan, State, FIVE, STATES};
 use product::Product;
-use std::collections::BTreeMap;
 
 /// Which function is called, with the position that is asked for.
 #[derive(Clone, Copy, PartialEq, Eq, Debug)]
@@ -55,8 +52,7 @@ impl Call {
 /// boards.
 #[derive(Debug)]
 pub struct Lent {
-    old: LentBoxes,
-    new: LentBoxes,
+    boxes: [LentBoxes; 2],
     numbers: usize,
 }
 
@@ -64,16 +60,9 @@ pub struct Lent {
 type Rooms = [Room; 5];
 
 fn lent_by(plan: &Plan, call: Call, rooms: &Rooms) -> Lent {
-    let [old_cards, old_entries, new_cards, new_entries, numbers] = rooms;
+    let [boxes @ .., numbers] = *rooms;
     Lent {
-        old: LentBoxes {
-            cards: old_cards.words(plan.olds.boards(), CARD),
-            entries: old_entries.words(plan.olds.entry_count(), ENTRY),
-        },
-        new: LentBoxes {
-            cards: new_cards.words(plan.news.boards(), CARD),
-            entries: new_entries.words(plan.news.entry_count(), ENTRY),
-        },
+        boxes: plan.lent(boxes),
         numbers: call
             .numbered(plan)
             .map_or(0, |count| numbers.words(count, FIVE)),
@@ -91,18 +80,9 @@ enum Check {
     Call(Call, Rooms),
 }
 
-/// A pair that failed a check.
-struct Failure {
-    group: &'static str,
-    old: Vec<u8>,
-    new: Vec<u8>,
-    check: Check,
-    error: String,
-}
-
 /// One call, against the model: its answer and every lent word.
 fn compare_call(product: &mut Product, plan: &Plan, call: Call, lent: &Lent) -> Checked {
-    product.call(call, plan.old, plan.new, lent)?;
+    product.call(call, plan.editions(), lent)?;
     let wanted = plan.wanted(call, lent);
     if product.answer() != wanted.answer {
         return Err(format!(
@@ -124,26 +104,7 @@ fn compare_call(product: &mut Product, plan: &Plan, call: Call, lent: &Lent) -> 
             of(seen)
         ));
     }
-    let nothing = Vec::new();
-    let taken = wanted.answer[0] == 0;
-    let names = ["old cards", "old entries", "new cards", "new entries"];
-    let readings = [
-        &plan.olds.cards,
-        &plan.olds.entries,
-        &plan.news.cards,
-        &plan.news.entries,
-    ];
-    for ((name, seen), reading) in names.into_iter().zip(product.boxes()).zip(readings) {
-        let used = if taken { reading } else { &nothing };
-        if seen[..used.len()] != used[..] {
-            return Err(format!("{name}: not those of the model"));
-        }
-        if let Some(at) = seen[used.len()..].iter().position(|word| *word != 0) {
-            let word = seen[used.len() + at];
-            return Err(format!("{name}: unused word {at} is {word:x}"));
-        }
-    }
-    Ok(())
+    plan.compare_boxes(wanted.answer[0] == 0, product.boxes())
 }
 
 /// Positions at and around the ends, and in an edition of few boards each. The
@@ -174,32 +135,50 @@ const POSITIONS_EVERY: u64 = 5;
 /// What was met.
 #[derive(Default)]
 struct Counts {
-    groups: BTreeMap<&'static str, u64>,
-    by_rust: u64,
-    by_model: u64,
-    bytes: u64,
+    met: Met,
     boards: u64,
-    states: [u64; 6],
-    /// Near boards whose source stands before them, and after them.
-    near: [u64; 2],
-    calls: u64,
-    /// By refusal and edition.
-    refused: BTreeMap<(u64, u64), u64>,
+    states: StateCounts,
     sized: u64,
     alike: u64,
     tabled: u64,
     listing: u64,
 }
 
-/// Every refusal and the editions that it names.
-const REFUSALS: [(u64, u64, &str); 7] = [
+/// How many boards have each state.
+#[derive(Default)]
+pub struct StateCounts {
+    states: [u64; 6],
+    /// Near boards whose source stands before them, and after them.
+    near: [u64; 2],
+}
+
+impl StateCounts {
+    pub fn count(&mut self, states: &[State]) {
+        for (index, state) in states.iter().enumerate() {
+            self.states[state.number()] += 1;
+            if let State::Near(from) = state {
+                self.near[usize::from(*from > index + 1)] += 1;
+            }
+        }
+    }
+
+    pub fn print(&self, report: &mut Report) {
+        for (count, name) in self.states.into_iter().zip(STATES) {
+            report.line(count, format_args!("boards {name}"));
+        }
+        report.line(self.near[0], "near boards after their source");
+        report.line(self.near[1], "near boards before their source");
+    }
+}
+
+/// The refusals of editions, with the editions that they name.
+pub const OF_EDITIONS: [Refusal; 6] = [
     (1, 1, "overlong, old"),
     (2, 1, "box full, old"),
     (3, 1, "list full, old"),
     (1, 2, "overlong, new"),
     (2, 2, "box full, new"),
     (3, 2, "list full, new"),
-    (4, 0, "slips short"),
 ];
 
 struct Run {
@@ -213,46 +192,49 @@ impl Run {
         let lent = lent_by(plan, call, &rooms);
         compare_call(&mut self.product, plan, call, &lent)
             .map_err(|error| (Check::Call(call, rooms), error))?;
-        let answer = self.product.answer();
-        self.counts.calls += 1;
-        *self
-            .counts
-            .refused
-            .entry((answer[0], answer[1]))
-            .or_default() += 1;
+        self.counts.met.call(self.product.answer());
         Ok(())
     }
 
-    /// Compares one pair.
-    fn compare(
-        &mut self,
-        group: &'static str,
-        old: &[u8],
-        new: &[u8],
-    ) -> Result<(), (Check, String)> {
+    /// Each room for each two of the lent boxes, the others just large enough.
+    fn sizes(&mut self, plan: &Plan, call: Call) -> Result<(), (Check, String)> {
+        let boxes = if call.numbered(plan).is_some() { 5 } else { 4 };
+        for one in 0..boxes {
+            for other in 0..one {
+                for room in ROOMS {
+                    for other_room in ROOMS {
+                        let mut rooms = [Room::Exact; 5];
+                        rooms[one] = room;
+                        rooms[other] = other_room;
+                        self.call(plan, call, rooms)?;
+                    }
+                }
+            }
+        }
+        Ok(())
+    }
+}
+
+impl Comparison for Run {
+    const NAME: &'static str = "plan";
+    const TEXTS: &'static [&'static str] = &["old text", "new text"];
+    const LONG: &'static str = "texts of 16777215 bytes and one more";
+
+    type Check = Check;
+
+    fn compare(&mut self, group: &'static str, texts: &[&[u8]]) -> Result<(), (Check, String)> {
+        let [old, new] = pair(texts);
         let plan = Plan::new(old, new);
         let counts = &mut self.counts;
-        let count = counts.groups.entry(group).or_default();
-        *count += 1;
-        let number = *count;
-        counts.bytes += (old.len() + new.len()) as u64;
-        if let (Some(old), Some(new)) = (text_in_domain(old), text_in_domain(new)) {
-            counts.by_rust += 1;
-            judge::compare(&plan, old, new).map_err(|error| (Check::Rust, error))?;
-        } else {
-            counts.by_model += 1;
-        }
+        let number = counts.met.input(group, texts);
+        let by_rust = compare_rust(&plan).map_err(|error| (Check::Rust, error))?;
+        counts.met.judged(by_rust);
         let shown = stretch::compare(&plan).map_err(|error| (Check::Stretch, error))?;
         counts.alike += u64::from(shown.alike);
         counts.tabled += u64::from(shown.tabled);
         counts.listing += u64::from(shown.listed > 0);
         counts.boards += plan.boards() as u64;
-        for (index, state) in plan.states.iter().enumerate() {
-            counts.states[state.number()] += 1;
-            if let State::Near(from) = state {
-                counts.near[usize::from(*from > index + 1)] += 1;
-            }
-        }
+        counts.states.count(&plan.states);
 
         let enough = std::array::from_fn(|_| ENOUGH[self.rng.below(ENOUGH.len())]);
         self.call(&plan, Call::Plan, enough)?;
@@ -286,27 +268,42 @@ impl Run {
         Ok(())
     }
 
-    /// Each room for each two of the lent boxes, the others just large enough.
-    fn sizes(&mut self, plan: &Plan, call: Call) -> Result<(), (Check, String)> {
-        let boxes = if call.numbered(plan).is_some() { 5 } else { 4 };
-        for one in 0..boxes {
-            for other in 0..one {
-                for room in ROOMS {
-                    for other_room in ROOMS {
-                        let mut rooms = [Room::Exact; 5];
-                        rooms[one] = room;
-                        rooms[other] = other_room;
-                        self.call(plan, call, rooms)?;
+    fn again(&mut self, texts: &[&[u8]], check: Check) -> Checked {
+        let [old, new] = pair(texts);
+        let plan = Plan::new(old, new);
+        match check {
+            Check::Rust => compare_rust(&plan).map(|_| ()),
+            Check::Stretch => stretch::compare(&plan).map(|_| ()),
+            Check::Call(call, rooms) => {
+                // A call with a position is made with each.
+                let positions = positions(plan.boards(), &mut Rng::new(0));
+                let calls: Vec<Call> = match call {
+                    Call::Plan | Call::Boards => vec![call],
+                    Call::State(_) => positions.into_iter().map(Call::State).collect(),
+                    Call::RecordBehind(_) => {
+                        positions.into_iter().map(Call::RecordBehind).collect()
                     }
+                };
+                for call in calls {
+                    let lent = lent_by(&plan, call, &rooms);
+                    compare_call(&mut self.product, &plan, call, &lent)
+                        .map_err(|error| format!("{call:?}, {lent:?}: {error}"))?;
                 }
+                Ok(())
             }
         }
-        Ok(())
+    }
+
+    fn sides(check: Check) -> &'static str {
+        match check {
+            Check::Rust => "the model against reader.rs",
+            Check::Stretch => "the model against what is promised of a stretch",
+            Check::Call(..) => "golavimes against the model",
+        }
     }
 
     /// Editions as long as can be, and longer, on either side.
-    fn longest(&mut self, seed: u64) -> Result<u64, String> {
-        let before = self.counts.calls;
+    fn longest(&mut self, seed: u64) -> Checked {
         let (longest, few) = generate::longest(seed);
         let mut overlong = longest.clone();
         overlong.push(b'x');
@@ -322,9 +319,8 @@ impl Run {
             Call::Boards,
         ];
 
-        let text = |text| text_in_domain(text).expect("an edition of ASCII");
         let plan = Plan::new(&longest, &few);
-        judge::compare(&plan, text(&longest), text(&few))?;
+        assert!(compare_rust(&plan)?, "editions of ASCII");
         let is_late = |state: &&State| matches!(state, State::Old(from) if *from > 5000);
         let late = plan.states.iter().filter(is_late).count();
         assert!(late > 1, "the few boards are not the last of the longest");
@@ -351,184 +347,61 @@ impl Run {
                 }
             }
         }
-        Ok(self.counts.calls - before)
+        Ok(())
+    }
+
+    fn met(&self) -> &Met {
+        &self.counts.met
+    }
+
+    fn print(&self, report: &mut Report) {
+        let counts = &self.counts;
+        report.inputs(&counts.met, "pairs", "reader.rs");
+        report.say(format_args!(
+            "{} bytes, {} boards",
+            counts.met.bytes, counts.boards
+        ));
+        counts.states.print(report);
+        report.calls(&counts.met, &OF_EDITIONS);
+        report.refused(&counts.met, (4, 0, "slips short"));
+        let sized = "pairs with each two boxes around each boundary";
+        report.line(counts.sized, sized);
+        let alike = "pairs alike but for a stretch, with boards outside it";
+        report.line(counts.alike, alike);
+        report.line(counts.tabled, "of these with a table for each old deal");
+        report.line(counts.listing, "of these listing a deal");
+    }
+}
+
+/// The two texts of a pair.
+pub fn pair<'a>(texts: &[&'a [u8]]) -> [&'a [u8]; 2] {
+    texts.try_into().expect("a pair has two texts")
+}
+
+/// The model against the boards of the Rust, where both texts are in the domain.
+/// Returns whether they are.
+fn compare_rust(plan: &Plan) -> Result<bool, String> {
+    match (text_in_domain(plan.old), text_in_domain(plan.new)) {
+        (Some(old), Some(new)) => judge::compare(plan, old, new).map(|()| true),
+        _ => Ok(false),
     }
 }
 
 /// Compares every pair. Returns whether all agreed.
 pub fn run(seed: u64) -> bool {
-    let mut run = Run {
+    let run = Run {
         product: Product::new(),
         rng: Rng::new(seed ^ 0x706c_616e),
         counts: Counts::default(),
     };
-    let mut failed = None;
-    generate::all(seed, &mut |group, old, new| {
-        if let Err((check, error)) = run.compare(group, old, new) {
-            failed = Some(Failure {
-                group,
-                old: old.to_vec(),
-                new: new.to_vec(),
-                check,
-                error,
-            });
-        }
-        failed.is_none()
-    });
-    let long = match failed {
-        None => run.longest(seed),
-        Some(_) => Ok(0),
-    };
-    let unmet = print(&run.counts);
-    if let Some(failure) = failed {
-        println!("plan: DIFFERENCE, met in \"{}\"", failure.group);
-        show(&mut run.product, &failure);
-        return false;
-    }
-    match long {
-        Ok(calls) => println!("plan: {calls} calls with texts of {LONGEST} bytes and one more"),
-        Err(error) => {
-            println!("plan: DIFFERENCE, with the longest text or a longer one: {error}");
-            return false;
-        }
-    }
-    if unmet {
-        println!("plan: something above was never met, and so not compared");
-        return false;
-    }
-    println!("plan: no difference");
-    true
-}
-
-/// Prints what was met. Returns whether something was not that should have been.
-fn print(counts: &Counts) -> bool {
-    for (group, count) in &counts.groups {
-        println!("{count:>9}  {group}");
-    }
-    let mut unmet = false;
-    let mut line = |count: u64, what: String| {
-        println!("{count:>9}  {what}");
-        unmet |= count == 0;
-    };
-    println!(
-        "plan: {} pairs compared, {} with reader.rs, {} outside its domain with the model",
-        counts.by_rust + counts.by_model,
-        counts.by_rust,
-        counts.by_model
-    );
-    println!("plan: {} bytes, {} boards", counts.bytes, counts.boards);
-    for (count, name) in counts.states.into_iter().zip(STATES) {
-        line(count, format!("boards {name}"));
-    }
-    line(counts.near[0], "near boards after their source".into());
-    line(counts.near[1], "near boards before their source".into());
-    println!("plan: {} calls", counts.calls);
-    for (refusal, edition, name) in REFUSALS {
-        let count = counts.refused.get(&(refusal, edition)).copied();
-        line(
-            count.unwrap_or(0),
-            format!("calls refused with {refusal} {name}"),
-        );
-    }
-    line(
-        counts.sized,
-        "pairs with each two boxes around each boundary".into(),
-    );
-    line(
-        counts.alike,
-        "pairs alike but for a stretch, with boards outside it".into(),
-    );
-    line(
-        counts.tabled,
-        "of these with a table for each old deal".into(),
-    );
-    line(counts.listing, "of these listing a deal".into());
-    unmet
-}
-
-/// Does a check again. A call with a position is made with each.
-fn check_again(product: &mut Product, old: &[u8], new: &[u8], check: Check) -> Checked {
-    let plan = Plan::new(old, new);
-    match check {
-        Check::Rust => match (text_in_domain(old), text_in_domain(new)) {
-            (Some(old), Some(new)) => judge::compare(&plan, old, new),
-            _ => Ok(()),
-        },
-        Check::Stretch => stretch::compare(&plan).map(|_| ()),
-        Check::Call(call, rooms) => {
-            let positions = positions(plan.boards(), &mut Rng::new(0));
-            let calls: Vec<Call> = match call {
-                Call::Plan | Call::Boards => vec![call],
-                Call::State(_) => positions.into_iter().map(Call::State).collect(),
-                Call::RecordBehind(_) => positions.into_iter().map(Call::RecordBehind).collect(),
-            };
-            for call in calls {
-                let lent = lent_by(&plan, call, &rooms);
-                compare_call(product, &plan, call, &lent)
-                    .map_err(|error| format!("{call:?}, {lent:?}: {error}"))?;
-            }
-            Ok(())
-        }
-    }
-}
-
-/// Longer pairs are not made smaller, and not shown.
-const MOST_SHOWN: usize = 40_000;
-
-/// Prints the smallest pair found that still shows the difference.
-fn show(product: &mut Product, failure: &Failure) {
-    let check = failure.check;
-    match check {
-        Check::Rust => println!("the model against reader.rs"),
-        Check::Stretch => println!("the model against what is promised of a stretch"),
-        Check::Call(..) => println!("golavimes against the model"),
-    }
-    if failure.old.len() + failure.new.len() > MOST_SHOWN {
-        let (old, new) = (failure.old.len(), failure.new.len());
-        println!(
-            "texts of {old} and {new} bytes, {check:?}: {}",
-            failure.error
-        );
-        return;
-    }
-    let ways = Ways {
-        remove: true,
-        simpler: b"xN1 \n",
-    };
-    let (mut old, mut new) = (failure.old.clone(), failure.new.clone());
-    loop {
-        let (old_before, new_before) = (old.clone(), new.clone());
-        old = shrink(&old, &ways, &mut |candidate| {
-            check_again(product, candidate, &new, check).is_err()
-        });
-        new = shrink(&new, &ways, &mut |candidate| {
-            check_again(product, &old, candidate, check).is_err()
-        });
-        if old == old_before && new == new_before {
-            break;
-        }
-    }
-    for (name, text) in [("old", &old), ("new", &new)] {
-        println!("{name} text, {} bytes: {}", text.len(), hex(text));
-        println!("as text: \"{}\"", text.escape_ascii());
-    }
-    match check_again(product, &old, &new, check) {
-        Err(error) => println!("{error}"),
-        Ok(()) => println!("(the difference is gone when the check is made again)"),
-    }
-    if old != failure.old || new != failure.new {
-        println!("made smaller from");
-        for text in [&failure.old, &failure.new] {
-            println!("{} bytes: \"{}\"", text.len(), text.escape_ascii());
-        }
-        println!("there: {check:?}: {}", failure.error);
-    }
+    comparison::run(run, seed, |give| generate::all(seed, give))
 }
 
 #[cfg(test)]
 mod tests {
     use super::*;
     use crate::read::generate::DEAL;
+    use crate::read::model::CARD;
 
     const TABLE: &str = "[DoubleDummyTricks \"00000000000000000000\"]\n";
 

@@ -209,19 +209,27 @@ fn compare_answer(
     if seen != answer {
         return Err(format!("answer\n  wanted {answer:?}\n  golavimes {seen:?}"));
     }
-    let nothing = Vec::new();
     let taken = answer[0] == 0;
-    for (what, seen, wanted) in [
-        ("cards", cards, &wanted.cards),
-        ("entries", entries, &wanted.entries),
-    ] {
-        let used = if taken { wanted } else { &nothing };
-        if seen[..used.len()] != used[..] {
-            return Err(format!("{what} are not those of the model"));
-        }
-        if seen[used.len()..].iter().any(|word| *word != 0) {
-            return Err(format!("unused {what} are not zero"));
-        }
+    compare_box("cards", cards, if taken { &wanted.cards } else { &[] })?;
+    compare_box(
+        "entries",
+        entries,
+        if taken { &wanted.entries } else { &[] },
+    )
+}
+
+/// What a lent box holds, against the words that the model has for it and zeros
+/// after them.
+pub fn compare_box(what: &str, seen: &[u32], used: &[u32]) -> Checked {
+    let (seen, rest) = seen.split_at(used.len());
+    if let Some(at) = seen.iter().zip(used).position(|(a, b)| a != b) {
+        return Err(format!(
+            "{what}: word {at} is {} and not {}",
+            seen[at], used[at]
+        ));
+    }
+    if let Some(at) = rest.iter().position(|word| *word != 0) {
+        return Err(format!("{what}: unused word {at} is {:x}", rest[at]));
     }
     Ok(())
 }

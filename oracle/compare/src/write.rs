@@ -3,24 +3,22 @@
 
 pub mod bench;
 mod chosen;
-mod generate;
-mod model;
+pub mod generate;
+pub mod model;
 pub mod outside;
-mod product;
+pub mod product;
 mod read_back;
 pub mod record;
 
+use crate::comparison::{self, Comparison, Met, Refusal, Report};
 use crate::read::model::{self as reading, Reading, CARD, ENTRY};
 use crate::read::product::Lent as LentBoxes;
-use crate::read::{read_rust, Checked, LONGEST};
+use crate::read::{compare_box, read_rust, Checked, LONGEST};
 use crate::rng::Rng;
 use crate::room::{Room, ENOUGH, ROOMS};
-use crate::shrink::{shrink, Ways};
-use crate::tables::hex;
 use crate::tables::judge::text_in_domain;
 use bridge_encodings::pbn::write_pbn;
 use product::Product;
-use std::collections::BTreeMap;
 
 /// How many words are lent for cards and entries, and how many bytes as page.
 #[derive(Clone, Copy, PartialEq, Eq, Debug)]
@@ -40,7 +38,7 @@ struct Edition<'a> {
 type Rooms = [Room; 3];
 
 /// How far "one more" and "one less" are from the page's boundary.
-const PAGE_STEP: usize = 33;
+pub const PAGE_STEP: usize = 33;
 
 impl<'a> Edition<'a> {
     fn new(text: &'a [u8]) -> Self {
@@ -85,16 +83,13 @@ fn rust_page(text: &str) -> Result<Vec<u8>, String> {
 /// The model's page against the Rust's.
 fn compare_rust(edition: &Edition, text: &str) -> Checked {
     let rust = rust_page(text)?;
-    match page_differs("writer.rs", &rust, "the model", &edition.page) {
-        Some(error) => Err(error),
-        None => Ok(()),
-    }
+    same_page("writer.rs", &rust, "the model", &edition.page)
 }
 
-/// The first line in which two pages differ, with both.
-fn page_differs(name: &str, wanted: &[u8], other: &str, seen: &[u8]) -> Option<String> {
+/// Two pages. An error shows the first line in which they differ.
+pub fn same_page(name: &str, wanted: &[u8], other: &str, seen: &[u8]) -> Checked {
     if wanted == seen {
-        return None;
+        return Ok(());
     }
     let at = wanted.iter().zip(seen).position(|(a, b)| a != b);
     let at = at.unwrap_or(wanted.len().min(seen.len()));
@@ -110,7 +105,7 @@ fn page_differs(name: &str, wanted: &[u8], other: &str, seen: &[u8]) -> Option<S
         let end = end.map_or(rest.len(), |lf| at - start + lf + 1).min(300);
         rest[..end].escape_ascii().to_string()
     };
-    Some(format!(
+    Err(format!(
         "page, line {line} from 0, byte {at} of {} and {}\n  {name}: \"{}\"\n  {other}: \"{}\"",
         wanted.len(),
         seen.len(),
@@ -130,43 +125,38 @@ pub struct Left<'a> {
 /// What a call left, against the model.
 fn compare_left(edition: &Edition, lent: &Lent, left: &Left) -> Checked {
     let wanted = edition.answer(lent);
-    if left.answer != wanted {
-        let mut error = format!(
-            "answer\n  the model: {wanted:?}\n  golavimes: {:?}",
-            left.answer
-        );
-        // Where both wrote, the first difference tells more.
-        if let ([0, ..], [0, _, _, length]) = (wanted, left.answer) {
-            let page = left.page.get(..*length as usize).unwrap_or(left.page);
-            let differs = page_differs("the model", &edition.page, "golavimes", page);
-            error += &differs.map_or(String::new(), |page| format!("\n{page}"));
-        }
-        return Err(error);
-    }
+    compare_written(wanted, &edition.page, left.answer, left.page)?;
     let taken = wanted[0] == 0;
     let reading = &edition.reading;
     for (what, seen, wanted) in [
         ("cards", left.cards, &reading.cards),
         ("entries", left.entries, &reading.entries),
     ] {
-        let used = if taken { &wanted[..] } else { &[] };
-        let (seen, rest) = seen.split_at(used.len());
-        if seen != used {
-            return Err(format!("{what}: not those of the model"));
-        }
-        if let Some(at) = rest.iter().position(|word| *word != 0) {
-            return Err(format!("{what}: unused word {at} is {:x}", rest[at]));
-        }
-    }
-    let used = if taken { &edition.page[..] } else { &[] };
-    let (seen, rest) = left.page.split_at(used.len());
-    if let Some(error) = page_differs("the model", used, "golavimes", seen) {
-        return Err(error);
-    }
-    if let Some(at) = rest.iter().position(|byte| *byte != 0) {
-        return Err(format!("page: unused byte {at} is {:x}", rest[at]));
+        compare_box(what, seen, if taken { wanted } else { &[] })?;
     }
     Ok(())
+}
+
+/// The answer and the page that a call left, against the model's: the text and
+/// then zeros, or zeros alone after a refusal.
+pub fn compare_written(wanted: [u64; 4], text: &[u8], answer: &[u64], page: &[u8]) -> Checked {
+    if answer != wanted {
+        let mut error = format!("answer\n  the model: {wanted:?}\n  golavimes: {answer:?}");
+        // Where both wrote, the first difference tells more.
+        if let ([0, ..], [0, _, _, length]) = (wanted, answer) {
+            let page = page.get(..*length as usize).unwrap_or(page);
+            let same = same_page("the model", text, "golavimes", page);
+            error += &same.map_or_else(|page| format!("\n{page}"), |()| String::new());
+        }
+        return Err(error);
+    }
+    let used = if wanted[0] == 0 { text } else { &[] };
+    let (seen, rest) = page.split_at(used.len());
+    same_page("the model", used, "golavimes", seen)?;
+    match rest.iter().position(|byte| *byte != 0) {
+        Some(at) => Err(format!("page: unused byte {at} is {:x}", rest[at])),
+        None => Ok(()),
+    }
 }
 
 /// One call, against the model.
@@ -186,30 +176,17 @@ enum Check {
     Call(Rooms),
 }
 
-/// A text that failed a check.
-struct Failure {
-    group: &'static str,
-    text: Vec<u8>,
-    check: Check,
-    error: String,
-}
-
 /// Every so many texts the rooms around each boundary are tried.
 const SIZES_EVERY: u64 = 499;
 
 /// What was met.
 #[derive(Default)]
 struct Counts {
-    groups: BTreeMap<&'static str, u64>,
-    by_rust: u64,
-    by_model: u64,
-    bytes: u64,
+    met: Met,
     written: u64,
     boards: u64,
     /// By what `HELD` names.
     held: [u64; HELD.len()],
-    calls: u64,
-    refused: BTreeMap<u64, u64>,
     sized: u64,
 }
 
@@ -241,12 +218,11 @@ fn has(edition: &Edition, start: &[u8]) -> bool {
 }
 
 /// Every refusal.
-const REFUSALS: [(u64, &str); 5] = [
-    (0, "not refused"),
-    (1, "refused with 1 overlong"),
-    (2, "refused with 2 box full"),
-    (3, "refused with 3 list full"),
-    (7, "refused with 7 page full"),
+const REFUSALS: [Refusal; 4] = [
+    (1, 0, "overlong"),
+    (2, 0, "box full"),
+    (3, 0, "list full"),
+    (7, 0, "page full"),
 ];
 
 struct Run {
@@ -265,29 +241,65 @@ impl Run {
     }
 
     fn count_call(&mut self) {
-        let refusal = self.product.left().answer[0];
-        self.counts.calls += 1;
-        *self.counts.refused.entry(refusal).or_default() += 1;
+        self.counts.met.call(self.product.left().answer);
     }
 
-    /// Compares one text.
-    fn compare(&mut self, group: &'static str, text: &[u8]) -> Result<(), (Check, String)> {
+    /// A text whose page is too long to be lent: it must be refused, with the
+    /// bytes that the model counts.
+    fn too_long_to_lend(&mut self, text: &[u8]) -> Checked {
+        let reading = reading::read(text);
+        let need = model::need(text, &reading);
+        for page in [0, 1, 100_000] {
+            let lent = Lent {
+                boxes: LentBoxes {
+                    cards: reading.cards.len(),
+                    entries: reading.entries.len(),
+                },
+                page,
+            };
+            self.product.call(text, &lent)?;
+            let wanted = answer_for(text.len(), &lent, &reading, need);
+            let left = self.product.left();
+            if left.answer != wanted {
+                return Err(format!(
+                    "needing {need} bytes\n  the model: {wanted:?}\n  golavimes: {:?}",
+                    left.answer
+                ));
+            }
+            let words = left.cards.iter().chain(left.entries);
+            if words.into_iter().any(|word| *word != 0) {
+                return Err("words that are not zero after page full".into());
+            }
+            if left.page.iter().any(|byte| *byte != 0) {
+                return Err("a page that is not zero after page full".into());
+            }
+            self.count_call();
+        }
+        Ok(())
+    }
+}
+
+impl Comparison for Run {
+    const NAME: &'static str = "write";
+    const TEXTS: &'static [&'static str] = &["text"];
+    const LONG: &'static str = "texts of 16777215 bytes and more, and with pages too long to lend";
+
+    type Check = Check;
+
+    fn compare(&mut self, group: &'static str, texts: &[&[u8]]) -> Result<(), (Check, String)> {
+        let text = texts[0];
         let edition = Edition::new(text);
         let counts = &mut self.counts;
-        let count = counts.groups.entry(group).or_default();
-        *count += 1;
-        let number = *count;
-        counts.bytes += text.len() as u64;
+        let number = counts.met.input(group, texts);
         counts.written += edition.page.len() as u64;
         counts.boards += edition.reading.boards() as u64;
         for (count, (_, holds)) in counts.held.iter_mut().zip(HELD) {
             *count += u64::from(holds(&edition));
         }
-        if let Some(text) = text_in_domain(text) {
-            counts.by_rust += 1;
+        let in_domain = text_in_domain(text);
+        counts.met.judged(in_domain.is_some());
+        if let Some(text) = in_domain {
             compare_rust(&edition, text).map_err(|error| (Check::Rust, error))?;
-        } else {
-            counts.by_model += 1;
         }
         read_back::check(&edition).map_err(|error| (Check::ReadBack, error))?;
 
@@ -313,9 +325,32 @@ impl Run {
         Ok(())
     }
 
+    fn again(&mut self, texts: &[&[u8]], check: Check) -> Checked {
+        let edition = Edition::new(texts[0]);
+        match check {
+            Check::Rust => match text_in_domain(edition.text) {
+                Some(text) => compare_rust(&edition, text),
+                None => Ok(()),
+            },
+            Check::ReadBack => read_back::check(&edition),
+            Check::Call(rooms) => {
+                let lent = edition.lent(rooms);
+                compare_call(&mut self.product, &edition, &lent)
+                    .map_err(|error| format!("{lent:?}: {error}"))
+            }
+        }
+    }
+
+    fn sides(check: Check) -> &'static str {
+        match check {
+            Check::Rust => "the model against writer.rs",
+            Check::ReadBack => "the model against what its page reads back as",
+            Check::Call(_) => "golavimes against the model",
+        }
+    }
+
     /// Editions as long as can be, and longer; pages longer than can be lent.
-    fn longest(&mut self, seed: u64) -> Result<u64, String> {
-        let before = self.counts.calls;
+    fn longest(&mut self, seed: u64) -> Checked {
         let mut text = crate::read::generate::plain_edition(seed, LONGEST);
         let edition = Edition::new(&text);
         let in_domain = text_in_domain(&text).expect("an edition of ASCII");
@@ -354,173 +389,39 @@ impl Run {
         for text in generate::needing_most() {
             self.too_long_to_lend(&text)?;
         }
-        Ok(self.counts.calls - before)
+        Ok(())
     }
 
-    /// A text whose page is too long to be lent: it must be refused, with the
-    /// bytes that the model counts.
-    fn too_long_to_lend(&mut self, text: &[u8]) -> Checked {
-        let reading = reading::read(text);
-        let need = model::need(text, &reading);
-        for page in [0, 1, 100_000] {
-            let lent = Lent {
-                boxes: LentBoxes {
-                    cards: reading.cards.len(),
-                    entries: reading.entries.len(),
-                },
-                page,
-            };
-            self.product.call(text, &lent)?;
-            let wanted = answer_for(text.len(), &lent, &reading, need);
-            let left = self.product.left();
-            if left.answer != wanted {
-                return Err(format!(
-                    "needing {need} bytes\n  the model: {wanted:?}\n  golavimes: {:?}",
-                    left.answer
-                ));
-            }
-            let words = left.cards.iter().chain(left.entries);
-            if words.into_iter().any(|word| *word != 0) {
-                return Err("words that are not zero after page full".into());
-            }
-            if left.page.iter().any(|byte| *byte != 0) {
-                return Err("a page that is not zero after page full".into());
-            }
-            self.count_call();
+    fn met(&self) -> &Met {
+        &self.counts.met
+    }
+
+    fn print(&self, report: &mut Report) {
+        let counts = &self.counts;
+        report.inputs(&counts.met, "texts", "writer.rs");
+        report.say(format_args!(
+            "{} bytes read, {} boards, {} bytes written",
+            counts.met.bytes, counts.boards, counts.written
+        ));
+        for (count, (name, _)) in counts.held.into_iter().zip(HELD) {
+            report.line(count, format_args!("editions with {name}"));
         }
-        Ok(())
+        report.calls(&counts.met, &REFUSALS);
+        let sized = "texts with each room for cards, entries and page";
+        report.line(counts.sized, sized);
     }
 }
 
 /// Compares every text. Returns whether all agreed.
 pub fn run(seed: u64) -> bool {
-    let mut run = Run {
+    let run = Run {
         product: Product::new(),
         rng: Rng::new(seed ^ 0x7772_6974),
         counts: Counts::default(),
     };
-    let mut failed = None;
-    generate::all(seed, &mut |group, text| {
-        if let Err((check, error)) = run.compare(group, text) {
-            failed = Some(Failure {
-                group,
-                text: text.to_vec(),
-                check,
-                error,
-            });
-        }
-        failed.is_none()
-    });
-    let long = match failed {
-        None => run.longest(seed),
-        Some(_) => Ok(0),
-    };
-    let unmet = print(&run.counts);
-    if let Some(failure) = failed {
-        println!("write: DIFFERENCE, met in \"{}\"", failure.group);
-        show(&mut run.product, &failure);
-        return false;
-    }
-    match long {
-        Ok(calls) => println!("write: {calls} calls with texts of {LONGEST} bytes and more, and with pages too long to lend"),
-        Err(error) => {
-            println!("write: DIFFERENCE, with a longest text or page: {error}");
-            return false;
-        }
-    }
-    if unmet {
-        println!("write: something above was never met, and so not compared");
-        return false;
-    }
-    println!("write: no difference");
-    true
-}
-
-/// Prints what was met. Returns whether something was not that should have been.
-fn print(counts: &Counts) -> bool {
-    for (group, count) in &counts.groups {
-        println!("{count:>9}  {group}");
-    }
-    let mut unmet = false;
-    let mut line = |count: u64, what: &str| {
-        println!("{count:>9}  {what}");
-        unmet |= count == 0;
-    };
-    println!(
-        "write: {} texts compared, {} with writer.rs, {} outside its domain with the model",
-        counts.by_rust + counts.by_model,
-        counts.by_rust,
-        counts.by_model
-    );
-    println!(
-        "write: {} bytes read, {} boards, {} bytes written",
-        counts.bytes, counts.boards, counts.written
-    );
-    for (count, (name, _)) in counts.held.into_iter().zip(HELD) {
-        line(count, &format!("editions with {name}"));
-    }
-    println!("write: {} calls", counts.calls);
-    for (refusal, name) in REFUSALS {
-        let count = counts.refused.get(&refusal).copied();
-        line(count.unwrap_or(0), &format!("calls {name}"));
-    }
-    line(
-        counts.sized,
-        "texts with each room for cards, entries and page",
-    );
-    unmet
-}
-
-fn check_again(product: &mut Product, text: &[u8], check: Check) -> Checked {
-    let edition = Edition::new(text);
-    match check {
-        Check::Rust => match text_in_domain(text) {
-            Some(text) => compare_rust(&edition, text),
-            None => Ok(()),
-        },
-        Check::ReadBack => read_back::check(&edition),
-        Check::Call(rooms) => {
-            let lent = edition.lent(rooms);
-            compare_call(product, &edition, &lent).map_err(|error| format!("{lent:?}: {error}"))
-        }
-    }
-}
-
-/// Longer texts are not made smaller, and not shown.
-const MOST_SHOWN: usize = 40_000;
-
-/// Prints the smallest text found that still shows the difference.
-fn show(product: &mut Product, failure: &Failure) {
-    let check = failure.check;
-    match check {
-        Check::Rust => println!("the model against writer.rs"),
-        Check::ReadBack => println!("the model against what its page reads back as"),
-        Check::Call(_) => println!("golavimes against the model"),
-    }
-    let text = &failure.text;
-    if text.len() > MOST_SHOWN {
-        let length = text.len();
-        println!("a text of {length} bytes, {check:?}: {}", failure.error);
-        return;
-    }
-    let ways = Ways {
-        remove: true,
-        simpler: b"xN1 \n",
-    };
-    let small = shrink(text, &ways, &mut |candidate| {
-        check_again(product, candidate, check).is_err()
-    });
-    println!("text, {} bytes: {}", small.len(), hex(&small));
-    println!("as text: \"{}\"", small.escape_ascii());
-    match check_again(product, &small, check) {
-        Err(error) => println!("{error}"),
-        Ok(()) => println!("(the difference is gone when the check is made again)"),
-    }
-    if small != *text {
-        println!("made smaller from {} bytes", text.len());
-        println!("as text: \"{}\"", text.escape_ascii());
-        println!("there: {check:?}: {}", failure.error);
-    }
+    comparison::run(run, seed, |give| {
+        generate::all(seed, &mut |group, text| give(group, &[text]))
+    })
 }
 
 #[cfg(test)]

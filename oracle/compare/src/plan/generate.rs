@@ -2,15 +2,12 @@
 //! tables, so that most of them stand there more than once; copies with a stretch
 //! of their own; damaged pairs; pairs of any editions.
 
+use crate::comparison::Give;
 use crate::read::generate::{
     damage, edition as any_edition, optimum, plain_edition, put_outside, DEAL,
 };
 use crate::read::LONGEST;
 use crate::rng::Rng;
-
-/// Takes a pair, old and new, with the name of its group, and says whether it
-/// wants more.
-type Give<'a> = dyn FnMut(&'static str, &[u8], &[u8]) -> bool + 'a;
 
 /// Gives pairs as long as they are wanted.
 struct Out<'a> {
@@ -22,7 +19,7 @@ struct Out<'a> {
 impl Out<'_> {
     fn pair(&mut self, old: impl AsRef<[u8]>, new: impl AsRef<[u8]>) {
         if self.open {
-            self.open = (self.give)(self.group, old.as_ref(), new.as_ref());
+            self.open = (self.give)(self.group, &[old.as_ref(), new.as_ref()]);
         }
     }
 }

@@ -6,9 +6,11 @@
 //! (`judge.rs`).
 
 use super::{Call, Lent};
-use crate::read::answer_for;
-use crate::read::model::{self, Reading, CARD};
-use crate::read::LONGEST;
+use crate::read::model::{self, Reading, CARD, ENTRY};
+use crate::read::product::Lent as LentBoxes;
+use crate::read::{answer_for, compare_box, Checked, LONGEST};
+use crate::room::Room;
+use golavimes::Editions;
 
 /// The numbers of a slip, and those that `golavimes_boards` gives a board.
 pub const FIVE: usize = 5;
@@ -193,21 +195,60 @@ impl<'a> Plan<'a> {
         }
     }
 
-    /// Refusal, edition and carried number.
-    fn refusal(&self, call: Call, lent: &Lent) -> [u64; 3] {
+    pub fn editions(&self) -> Editions<'a> {
+        Editions {
+            old: self.old,
+            new: self.new,
+        }
+    }
+
+    /// What is lent of the four boxes: cards and entries of the old edition, then
+    /// those of the new one.
+    pub fn lent(&self, rooms: [Room; 4]) -> [LentBoxes; 2] {
+        let [old_cards, old_entries, new_cards, new_entries] = rooms;
+        let by = |reading: &Reading, cards: Room, entries: Room| LentBoxes {
+            cards: cards.words(reading.boards(), CARD),
+            entries: entries.words(reading.entry_count(), ENTRY),
+        };
+        [
+            by(&self.olds, old_cards, old_entries),
+            by(&self.news, new_cards, new_entries),
+        ]
+    }
+
+    /// Refusals 1 to 3, with the edition and the carried number; zeros for none.
+    pub fn edition_refusal(&self, lent: [LentBoxes; 2]) -> [u64; 3] {
         for (edition, text, lent, reading) in [
-            (1, self.old, lent.old, &self.olds),
-            (2, self.new, lent.new, &self.news),
+            (1, self.old, lent[0], &self.olds),
+            (2, self.new, lent[1], &self.news),
         ] {
             let [refusal, _, carried, ..] = answer_for(text.len(), lent, reading);
             if refusal != 0 {
                 return [refusal, edition, carried];
             }
         }
-        if call == Call::Plan && lent.numbers / FIVE < self.slips.len() {
-            return [4, 0, self.slips.len() as u64];
-        }
         [0, 0, 0]
+    }
+
+    /// Refusal, edition and carried number.
+    fn refusal(&self, call: Call, lent: &Lent) -> [u64; 3] {
+        match self.edition_refusal(lent.boxes) {
+            [0, ..] if call == Call::Plan && lent.numbers / FIVE < self.slips.len() => {
+                [4, 0, self.slips.len() as u64]
+            }
+            refusal => refusal,
+        }
+    }
+
+    /// The four boxes against the readings, or against zeros after a refusal.
+    pub fn compare_boxes(&self, taken: bool, boxes: [&[u32]; 4]) -> Checked {
+        let names = ["old cards", "old entries", "new cards", "new entries"];
+        let (olds, news) = (&self.olds, &self.news);
+        let readings = [&olds.cards, &olds.entries, &news.cards, &news.entries];
+        for ((name, seen), reading) in names.into_iter().zip(boxes).zip(readings) {
+            compare_box(name, seen, if taken { reading } else { &[] })?;
+        }
+        Ok(())
     }
 
     /// What the call must leave.
