@@ -2,6 +2,7 @@
 //! Rust, and records the Rust's answers.
 
 mod comparison;
+mod finish;
 mod guard;
 mod model;
 mod plan;
@@ -20,6 +21,7 @@ usage: compare tables [--seed N]
        compare read [--seed N]
        compare plan [--seed N]
        compare write [--seed N]
+       compare finish [--seed N]
        compare bench [--seed N]
        compare outside [--seed N]
        compare record tables PATH [--seed N]
@@ -41,6 +43,7 @@ fn main() -> ExitCode {
         ["read"] => exit(read::run(seed)),
         ["plan"] => exit(plan::run(seed)),
         ["write"] => exit(write::run(seed)),
+        ["finish"] => exit(finish::run(seed)),
         ["bench"] => {
             read::bench::run(seed);
             println!();
@@ -49,7 +52,9 @@ fn main() -> ExitCode {
             write::bench::run(seed);
             ExitCode::SUCCESS
         }
-        ["outside"] => exit(read::outside::run(seed) && write::outside::run(seed)),
+        ["outside"] => exit(
+            read::outside::run(seed) && write::outside::run(seed) && finish::outside::run(seed),
+        ),
         ["record", "tables", path] => recorded(path, tables::record::run(seed, path.as_ref())),
         ["record", "read", path] => recorded(path, read::record::run(seed, path.as_ref())),
         ["record", "write", path] => recorded(path, write::record::run(seed, path.as_ref())),

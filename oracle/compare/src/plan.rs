@@ -14,7 +14,7 @@ use crate::read::Checked;
 use crate::rng::Rng;
 use crate::room::{Room, ENOUGH, ROOMS};
 use crate::tables::judge::text_in_domain;
-use model::{Plan, State, FIVE, STATES};
+use model::{Plan, State, FIVE, NEAR, STATES};
 use product::Product;
 
 /// Which function is called, with the position that is asked for.
@@ -153,12 +153,17 @@ pub struct StateCounts {
 }
 
 impl StateCounts {
-    pub fn count(&mut self, states: &[State]) {
+    /// Counts the board at an index, by the numbers of its state and its source.
+    pub fn count(&mut self, index: usize, state: usize, from: usize) {
+        self.states[state] += 1;
+        if state == NEAR {
+            self.near[usize::from(from > index + 1)] += 1;
+        }
+    }
+
+    pub fn count_all(&mut self, states: &[State]) {
         for (index, state) in states.iter().enumerate() {
-            self.states[state.number()] += 1;
-            if let State::Near(from) = state {
-                self.near[usize::from(*from > index + 1)] += 1;
-            }
+            self.count(index, state.number(), state.from());
         }
     }
 
@@ -234,7 +239,7 @@ impl Comparison for Run {
         counts.tabled += u64::from(shown.tabled);
         counts.listing += u64::from(shown.listed > 0);
         counts.boards += plan.boards() as u64;
-        counts.states.count(&plan.states);
+        counts.states.count_all(&plan.states);
 
         let enough = std::array::from_fn(|_| ENOUGH[self.rng.below(ENOUGH.len())]);
         self.call(&plan, Call::Plan, enough)?;
@@ -398,7 +403,7 @@ pub fn run(seed: u64) -> bool {
 }
 
 #[cfg(test)]
-mod tests {
+pub mod tests {
     use super::*;
     use crate::read::generate::DEAL;
     use crate::read::model::CARD;
@@ -410,7 +415,7 @@ mod tests {
     }
 
     /// The example of the listing program.
-    fn example() -> (String, String) {
+    pub fn example() -> (String, String) {
         let (a, b) = (deal("N"), deal("E"));
         let old = format!("{a}{TABLE}");
         (old, format!("{a}\n{b}\n{b}\n[Event \"x\"]\n"))

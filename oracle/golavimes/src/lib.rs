@@ -3,10 +3,10 @@
 //! Every function fills the answer array and returns its first number:
 //! `answer[0]` is the refusal (0 none), `answer[1]` the edition (1 old, 2 new, 0
 //! neither), `answer[2]` the number a refusal carries; a writer, of tables or of
-//! editions, adds `answer[3]`, the bytes written, and the reader of editions `answer[3]` and `answer[4]`, its
-//! boards and entries. What the functions of planning add stands at each. Slices
-//! and arrays of the right length are all that the C functions ask for, so
-//! nothing here needs a test before the call.
+//! editions, and finishing add `answer[3]`, the bytes written, and the reader of
+//! editions `answer[3]` and `answer[4]`, its boards and entries. What the functions
+//! of planning add stands at each. Slices and arrays of the right length are all
+//! that the C functions ask for, so nothing here needs a test before the call.
 //!
 //! Nothing checks these declarations against the library: keep them in step
 //! with its sources.
@@ -101,6 +101,13 @@ mod c {
         golavimes_state(position: u64, answer: *mut u64);
         golavimes_record_behind(position: u64, answer: *mut u64);
         golavimes_boards(boards: *mut u64, boards_len: usize, answer: *mut u64);
+        golavimes_finish(
+            answers: *const u8,
+            answers_len: usize,
+            page: *mut u8,
+            page_len: usize,
+            answer: *mut u64
+        );
     }
 }
 
@@ -221,11 +228,11 @@ pub struct Editions<'a> {
 }
 
 /// What is lent for the cards and entries of both.
-pub struct Boxes<'a> {
-    pub old_cards: &'a mut [u32],
-    pub old_entries: &'a mut [u32],
-    pub new_cards: &'a mut [u32],
-    pub new_entries: &'a mut [u32],
+pub struct Boxes<'a, Word = u32> {
+    pub old_cards: &'a mut [Word],
+    pub old_entries: &'a mut [Word],
+    pub new_cards: &'a mut [Word],
+    pub new_entries: &'a mut [Word],
 }
 
 /// Calls a function over two editions: both texts, the four boxes, then what is its
@@ -239,13 +246,13 @@ macro_rules! call_over_editions {
                 $editions.old.len(),
                 $editions.new.as_ptr(),
                 $editions.new.len(),
-                $boxes.old_cards.as_mut_ptr(),
+                $boxes.old_cards.as_mut_ptr().cast(),
                 $boxes.old_cards.len(),
-                $boxes.old_entries.as_mut_ptr(),
+                $boxes.old_entries.as_mut_ptr().cast(),
                 $boxes.old_entries.len(),
-                $boxes.new_cards.as_mut_ptr(),
+                $boxes.new_cards.as_mut_ptr().cast(),
                 $boxes.new_cards.len(),
-                $boxes.new_entries.as_mut_ptr(),
+                $boxes.new_entries.as_mut_ptr().cast(),
                 $boxes.new_entries.len(),
                 $($own),*
             )
@@ -345,4 +352,43 @@ pub fn write_fresh(
             answer.as_mut_ptr().cast(),
         )
     }
+}
+
+/// Reads both editions and writes the new one, each whole board with a table. The
+/// answers are 20 bytes for each slip of `plan`, in their order.
+pub fn finish(
+    editions: Editions,
+    boxes: Boxes,
+    answers: &[u8],
+    page: &mut [u8],
+    answer: &mut [u64; 4],
+) -> u64 {
+    let boxes = Boxes {
+        old_cards: fresh(boxes.old_cards),
+        old_entries: fresh(boxes.old_entries),
+        new_cards: fresh(boxes.new_cards),
+        new_entries: fresh(boxes.new_entries),
+    };
+    finish_fresh(editions, boxes, answers, fresh(page), fresh_answer(answer))
+}
+
+/// Finishes with memory that nothing was stored in yet. The call stores into all
+/// of it.
+pub fn finish_fresh(
+    editions: Editions,
+    boxes: Boxes<MaybeUninit<u32>>,
+    answers: &[u8],
+    page: &mut [MaybeUninit<u8>],
+    answer: &mut [MaybeUninit<u64>; 4],
+) -> u64 {
+    call_over_editions!(
+        golavimes_finish,
+        editions,
+        boxes,
+        answers.as_ptr(),
+        answers.len(),
+        page.as_mut_ptr().cast(),
+        page.len(),
+        answer.as_mut_ptr().cast()
+    )
 }

@@ -27,7 +27,7 @@ impl Out<'_> {
 /// A group's name and what gives its pairs.
 type Group = (&'static str, fn(&mut Rng, &mut Out));
 
-const GROUPS: [Group; 8] = [
+const GROUPS: [Group; 9] = [
     ("named pairs", named),
     ("all short: boards", short),
     ("few deals", few_deals),
@@ -36,6 +36,7 @@ const GROUPS: [Group; 8] = [
     ("any editions", any),
     ("outside the domain", outside),
     ("many boards", many),
+    ("many slips", many_slips),
 ];
 
 /// Gives every pair. Each group has its own random numbers, so that a change in
@@ -554,6 +555,34 @@ fn many(rng: &mut Rng, out: &mut Out) {
     .concat();
     out.pair(&old, &new);
     out.pair(&new, &old);
+}
+
+/// Several deals to be solved, most of them on more than one board.
+fn many_slips(rng: &mut Rng, out: &mut Out) {
+    for _ in 0..24_000 {
+        let mut pool: Vec<Hands> = (0..2 + rng.below(4)).map(|_| random_deal(rng)).collect();
+        for at in 0..pool.len() {
+            if rng.once_in(2) {
+                let near = near_deal(rng, &pool[at]);
+                pool.push(near);
+            }
+        }
+        let boards = |rng: &mut Rng, most: usize, tables: usize| -> String {
+            let count = 1 + rng.below(most);
+            let board = |_| {
+                if rng.once_in(12) {
+                    return board(rng, &pool, 1) + "\n";
+                }
+                let hands = one_of(rng, &pool);
+                let table = rng.below(12) < tables;
+                closed_board(rng, hands, table)
+            };
+            (0..count).map(board).collect()
+        };
+        let old = boards(rng, 3, 4);
+        let new = boards(rng, 16, 1);
+        out.pair(&old, &new);
+    }
 }
 
 /// The longest edition, and another with the deals of its last boards.

@@ -38,7 +38,7 @@ fn has_table(board: &Board) -> bool {
     board.double_dummy_tricks.is_some()
 }
 
-fn states(old: &[Board], new: &[Board]) -> Vec<State> {
+pub fn states(old: &[Board], new: &[Board]) -> Vec<State> {
     let in_old = firsts(old, has_table);
     let in_new = firsts(new, has_table);
     let any = firsts(new, |_| true);

@@ -27,14 +27,16 @@ pub enum State {
 
 /// The states' names, by their numbers.
 pub const STATES: [&str; 6] = ["blank", "own", "old", "near", "twin", "solve"];
+pub const OLD: usize = 2;
+pub const NEAR: usize = 3;
 
 impl State {
     pub fn number(self) -> usize {
         match self {
             State::Blank => 0,
             State::Own => 1,
-            State::Old(_) => 2,
-            State::Near(_) => 3,
+            State::Old(_) => OLD,
+            State::Near(_) => NEAR,
             State::Twin(_) => 4,
             State::Solve => 5,
         }

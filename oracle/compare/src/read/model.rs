@@ -11,7 +11,7 @@ pub const CARD: usize = 64;
 pub const ENTRY: usize = 4;
 
 /// The words of an edition's cards and entries.
-#[derive(Default)]
+#[derive(Clone, Default)]
 pub struct Reading {
     pub cards: Vec<u32>,
     pub entries: Vec<u32>,
