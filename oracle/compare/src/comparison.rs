@@ -94,18 +94,21 @@ pub struct Report {
 }
 
 impl Report {
-    /// The groups, and how many inputs were compared with which judge.
-    pub fn inputs(&self, met: &Met, inputs: &str, judge: &str) {
+    pub fn groups(&self, met: &Met) {
         for (group, count) in &met.groups {
             println!("{count:>9}  {group}");
         }
-        println!(
-            "{}: {} {inputs} compared, {} with {judge}, {} outside its domain with the model",
-            self.name,
+    }
+
+    /// The groups, and how many inputs were compared with which judge.
+    pub fn inputs(&self, met: &Met, inputs: &str, judge: &str) {
+        self.groups(met);
+        self.say(format_args!(
+            "{} {inputs} compared, {} with {judge}, {} outside its domain with the model",
             met.by_rust + met.by_model,
             met.by_rust,
             met.by_model
-        );
+        ));
     }
 
     pub fn say(&self, what: impl Display) {

@@ -6,6 +6,7 @@ mod finish;
 mod guard;
 mod model;
 mod plan;
+mod promise;
 mod read;
 mod rng;
 mod room;
@@ -22,6 +23,7 @@ usage: compare tables [--seed N]
        compare plan [--seed N]
        compare write [--seed N]
        compare finish [--seed N]
+       compare promise [--seed N]
        compare bench [--seed N]
        compare outside [--seed N]
        compare record tables PATH [--seed N]
@@ -44,6 +46,7 @@ fn main() -> ExitCode {
         ["plan"] => exit(plan::run(seed)),
         ["write"] => exit(write::run(seed)),
         ["finish"] => exit(finish::run(seed)),
+        ["promise"] => exit(promise::run(seed)),
         ["bench"] => {
             read::bench::run(seed);
             println!();

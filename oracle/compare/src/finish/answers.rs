@@ -94,14 +94,15 @@ impl Answers {
         }
     }
 
+    /// Answers to so many slips, none of them above 13.
+    pub fn tables(self, slips: usize) -> Vec<u8> {
+        good(&mut Rng::new(self.seed), TABLE * slips)
+    }
+
     pub fn bytes(self, plan: &Plan) -> Vec<u8> {
         let mut rng = Rng::new(self.seed);
         let length = self.length(plan);
-        let most = [14, 14, 14, 10, 1][rng.below(5)];
-        let mut bytes: Vec<u8> = (0..length).map(|_| rng.below(most) as u8).collect();
-        if rng.once_in(8) {
-            bytes.fill(13);
-        }
+        let mut bytes = good(&mut rng, length);
         if length == 0 {
             return bytes;
         }
@@ -117,4 +118,14 @@ impl Answers {
         }
         bytes
     }
+}
+
+/// So many bytes that a table takes: any, mostly; small ones, zeros or all 13.
+fn good(rng: &mut Rng, length: usize) -> Vec<u8> {
+    let most = [14, 14, 14, 14, 14, 10, 1, 0][rng.below(8)];
+    let cell = |_| match most {
+        0 => 13,
+        _ => rng.below(most) as u8,
+    };
+    (0..length).map(cell).collect()
 }
