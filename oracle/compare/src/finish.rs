@@ -2,6 +2,7 @@
 //! and by the unchanged `reader.rs` and `writer.rs` with the tables put in between.
 
 pub mod answers;
+pub mod bench;
 mod judge;
 mod model;
 pub mod outside;
@@ -335,21 +336,15 @@ impl Run {
     /// Answers whose length is right when it is cut to 32 bits.
     fn answers_too_long(&mut self, new: &[u8]) -> Checked {
         let plan = Plan::new(b"", new);
-        let [_, lent] = plan.lent([Room::Exact; 4]);
-        let (mut cards, mut entries) = (vec![1; lent.cards], vec![1; lent.entries]);
-        let boxes = Boxes {
-            old_cards: &mut [],
-            old_entries: &mut [],
-            new_cards: &mut cards,
-            new_entries: &mut entries,
-        };
+        let mut words = plan.boxes();
+        let boxes = Boxes::new(words.each_mut().map(|words| &mut words[..]));
         // Zeros take no memory as long as nothing is stored there.
         let answers = vec![0; (1 << 32) + TABLE * plan.slips.len()];
         let (mut page, mut answer) = ([1; 100], [0; 4]);
         golavimes::finish(plan.editions(), boxes, &answers, &mut page, &mut answer);
         let wanted = [5, 0, plan.slips.len() as u64, 0];
         compare_written(wanted, &[], &answer, &page)?;
-        plan.compare_boxes(false, [&[], &[], &cards, &entries])?;
+        plan.compare_boxes(false, words.each_ref().map(|words| &words[..]))?;
         self.counts.met.call(&answer);
         Ok(())
     }

@@ -1,6 +1,7 @@
 //! Compares the product, called through `libgolavimes.a`, with the original
 //! Rust, and records the Rust's answers.
 
+mod clock;
 mod comparison;
 mod finish;
 mod guard;
@@ -53,6 +54,8 @@ fn main() -> ExitCode {
             plan::bench::run(seed);
             println!();
             write::bench::run(seed);
+            println!();
+            finish::bench::run(seed);
             ExitCode::SUCCESS
         }
         ["outside"] => exit(

@@ -77,18 +77,14 @@ impl Both<'_> {
         let (old, new) = (self.old, self.new);
         let sizes = [&old.cards, &old.entries, &new.cards, &new.entries];
         let mut words = sizes.map(|words| vec![FILL; words.len()]);
-        let [old_cards, old_entries, new_cards, new_entries] = &mut words;
         let editions = Editions {
             old: old.text,
             new: new.text,
         };
-        let boxes = Boxes {
-            old_cards,
-            old_entries,
-            new_cards,
-            new_entries,
-        };
-        function(editions, boxes)
+        function(
+            editions,
+            Boxes::new(words.each_mut().map(|words| &mut words[..])),
+        )
     }
 
     fn plan(&self, slips: &mut [u64]) -> [u64; 10] {

@@ -235,6 +235,19 @@ pub struct Boxes<'a, Word = u32> {
     pub new_entries: &'a mut [Word],
 }
 
+impl<'a, Word> Boxes<'a, Word> {
+    /// The cards and entries of the old edition, then those of the new one.
+    pub fn new(words: [&'a mut [Word]; 4]) -> Self {
+        let [old_cards, old_entries, new_cards, new_entries] = words;
+        Boxes {
+            old_cards,
+            old_entries,
+            new_cards,
+            new_entries,
+        }
+    }
+}
+
 /// Calls a function over two editions: both texts, the four boxes, then what is its
 /// own.
 macro_rules! call_over_editions {
@@ -363,12 +376,13 @@ pub fn finish(
     page: &mut [u8],
     answer: &mut [u64; 4],
 ) -> u64 {
-    let boxes = Boxes {
-        old_cards: fresh(boxes.old_cards),
-        old_entries: fresh(boxes.old_entries),
-        new_cards: fresh(boxes.new_cards),
-        new_entries: fresh(boxes.new_entries),
-    };
+    let cards_and_entries = [
+        boxes.old_cards,
+        boxes.old_entries,
+        boxes.new_cards,
+        boxes.new_entries,
+    ];
+    let boxes = Boxes::new(cards_and_entries.map(fresh));
     finish_fresh(editions, boxes, answers, fresh(page), fresh_answer(answer))
 }
 

@@ -69,13 +69,7 @@ fn call(pair: &Pair, answers: &[u8], lent: &Lent) -> Result<u64, String> {
         new_lent.entries,
     ];
     let mut words = words.map(Box::<[u32]>::new_uninit_slice);
-    let [old_cards, old_entries, new_cards, new_entries] = &mut words;
-    let boxes = Boxes {
-        old_cards,
-        old_entries,
-        new_cards,
-        new_entries,
-    };
+    let boxes = Boxes::new(words.each_mut().map(|words| &mut words[..]));
     let mut page = Box::new_uninit_slice(lent.page);
     let mut answer = Box::new([MaybeUninit::uninit(); 4]);
     let editions = Editions { old, new };

@@ -2,41 +2,45 @@
 
 use super::generate::{deal_of, random_deal};
 use super::model::{Plan, FIVE};
+use crate::clock::{milliseconds, Clock};
+use crate::read::bench::RUNS;
 use crate::read::generate::plain_board;
-use crate::read::model::{CARD, ENTRY};
 use crate::rng::Rng;
-use golavimes::{Boxes, Editions};
+use golavimes::Boxes;
 use std::hint::black_box;
-use std::time::{Duration, Instant};
 
 /// The boards of each edition.
-const BOARDS: usize = 2916;
-const RUNS: usize = 15;
+pub const BOARDS: usize = 2916;
 
-/// Boards as producers write them, with the deals that `deal` gives.
-fn edition(rng: &mut Rng, tables: bool, deal: &mut dyn FnMut(&mut Rng) -> String) -> String {
+/// A board as producers write it, with another deal and with its table or none.
+pub fn changed(board: &str, deal: &str, table: bool) -> String {
     let mut text = String::new();
-    for number in 0..BOARDS {
-        let board = plain_board(rng, number);
-        let mut in_rows = false;
-        for line in board.split_inclusive('\n') {
-            // Rows go on to the next line that is none.
-            in_rows &= !line.starts_with(['[', '{', '\n']);
-            in_rows |= line.starts_with("[OptimumResultTable");
-            if line.starts_with("[Deal ") {
-                text += &format!("[Deal \"{}\"]\n", deal(rng));
-            } else if tables || !(in_rows || line.starts_with("[DoubleDummyTricks")) {
-                text += line;
-            }
+    let mut in_rows = false;
+    for line in board.split_inclusive('\n') {
+        // Rows go on to the next line that is none.
+        in_rows &= !line.starts_with(['[', '{', '\n']);
+        in_rows |= line.starts_with("[OptimumResultTable");
+        if line.starts_with("[Deal ") {
+            text += &format!("[Deal \"{deal}\"]\n");
+        } else if table || !(in_rows || line.starts_with("[DoubleDummyTricks")) {
+            text += line;
         }
     }
     text
 }
 
-/// Prints a table of times.
-pub fn run(seed: u64) {
-    println!("| {BOARDS} boards against {BOARDS} | Bytes | To solve | golavimes_read of both, ms | golavimes_plan, ms | Ratio |");
-    println!("|---|---|---|---|---|---|");
+/// Boards as producers write them, with the deals that `deal` gives.
+fn edition(rng: &mut Rng, tables: bool, deal: &mut dyn FnMut(&mut Rng) -> String) -> String {
+    let board = |number| {
+        let board = plain_board(rng, number);
+        changed(&board, &deal(rng), tables)
+    };
+    (0..BOARDS).map(board).collect()
+}
+
+/// What is planned, with the old edition and the new one: deals that all differ, and
+/// deals that are all equal, with tables in the old edition and without.
+pub fn pairs(seed: u64) -> Vec<(&'static str, String, String)> {
     let mut rng = Rng::new(seed);
     let one = random_deal(&mut rng);
     let mut same = |_: &mut Rng| deal_of(&one);
@@ -47,10 +51,19 @@ pub fn run(seed: u64) {
         ("all deals equal, tables in the old", true, true),
         ("all deals equal, no tables", false, true),
     ];
-    for (name, tables, equal) in cases {
+    let pair = |(name, tables, equal)| {
         let deal: &mut dyn FnMut(&mut Rng) -> String = if equal { &mut same } else { &mut other };
         let old = edition(&mut rng, tables, deal);
-        let new = edition(&mut rng, false, deal);
+        (name, old, edition(&mut rng, false, deal))
+    };
+    cases.into_iter().map(pair).collect()
+}
+
+/// Prints a table of times.
+pub fn run(seed: u64) {
+    println!("| {BOARDS} boards against {BOARDS} | Bytes | To solve | golavimes_read of both, ms | golavimes_plan, ms | Ratio |");
+    println!("|---|---|---|---|---|---|");
+    for (name, old, new) in pairs(seed) {
         let plan = Plan::new(old.as_bytes(), new.as_bytes());
         assert_eq!((plan.olds.boards(), plan.boards()), (BOARDS, BOARDS));
         print(name, &plan);
@@ -60,57 +73,38 @@ pub fn run(seed: u64) {
 }
 
 fn print(name: &str, plan: &Plan) {
-    let mut old_cards = vec![0u32; plan.olds.boards() * CARD];
-    let mut old_entries = vec![0u32; plan.olds.entry_count() * ENTRY];
-    let mut new_cards = vec![0u32; plan.news.boards() * CARD];
-    let mut new_entries = vec![0u32; plan.news.entry_count() * ENTRY];
+    let mut words = plan.boxes();
     let mut slips = vec![0u64; plan.slips.len() * FIVE];
 
-    // In turn, so that a slow moment meets both alike.
-    let (mut reading, mut planning) = (Vec::new(), Vec::new());
+    let mut clock = Clock::new(1);
     for _ in 0..RUNS {
-        let start = Instant::now();
-        let mut answer = [0; 5];
-        for (text, cards, entries) in [
-            (plan.old, &mut old_cards, &mut old_entries),
-            (plan.new, &mut new_cards, &mut new_entries),
-        ] {
-            let refusal = golavimes::read(black_box(text), cards, entries, &mut answer);
-            assert_eq!(refusal, 0, "answer {answer:?}");
-            black_box((&cards, &entries));
-        }
-        reading.push(start.elapsed());
-        let editions = Editions {
-            old: black_box(plan.old),
-            new: black_box(plan.new),
-        };
-        let boxes = Boxes {
-            old_cards: &mut old_cards,
-            old_entries: &mut old_entries,
-            new_cards: &mut new_cards,
-            new_entries: &mut new_entries,
-        };
-        let mut answer = [0; 10];
-        let start = Instant::now();
-        let refusal = golavimes::plan(editions, boxes, &mut slips, &mut answer);
-        planning.push(start.elapsed());
-        assert_eq!(refusal, 0, "answer {answer:?}");
+        clock.run(0, || {
+            let [old_cards, old_entries, new_cards, new_entries] = &mut words;
+            for (text, cards, entries) in [
+                (plan.old, old_cards, old_entries),
+                (plan.new, new_cards, new_entries),
+            ] {
+                let refusal = golavimes::read(black_box(text), cards, entries, &mut [0; 5]);
+                assert_eq!(refusal, 0);
+                black_box((&cards, &entries));
+            }
+        });
+        clock.run(1, || {
+            let boxes = Boxes::new(words.each_mut().map(|words| &mut words[..]));
+            let editions = black_box(plan.editions());
+            let refusal = golavimes::plan(editions, boxes, &mut slips, &mut [0; 10]);
+            assert_eq!(refusal, 0);
+        });
         assert!(
             slips == plan.slips.concat(),
             "the slips are not the model's"
         );
     }
-    let (reading, planning) = (median(reading), median(planning));
+    let [reading, planning] = clock.medians().map(milliseconds);
     println!(
         "| {name} | {} | {} | {reading:.2} | {planning:.2} | {:.2} |",
         plan.old.len() + plan.new.len(),
         plan.slips.len(),
         planning / reading
     );
-}
-
-/// In milliseconds.
-fn median(mut runs: Vec<Duration>) -> f64 {
-    runs.sort();
-    runs[runs.len() / 2].as_secs_f64() * 1e3
 }

@@ -7,7 +7,7 @@
 
 use super::{Call, Lent};
 use crate::read::model::{self, Reading, CARD, ENTRY};
-use crate::read::product::Lent as LentBoxes;
+use crate::read::product::{Lent as LentBoxes, FILL};
 use crate::read::{answer_for, compare_box, Checked, LONGEST};
 use crate::room::Room;
 use golavimes::Editions;
@@ -216,6 +216,13 @@ impl<'a> Plan<'a> {
             by(&self.olds, old_cards, old_entries),
             by(&self.news, new_cards, new_entries),
         ]
+    }
+
+    /// Boxes of just the size, with something in them.
+    pub fn boxes(&self) -> [Vec<u32>; 4] {
+        let (olds, news) = (&self.olds, &self.news);
+        let sizes = [&olds.cards, &olds.entries, &news.cards, &news.entries];
+        sizes.map(|words| vec![FILL; words.len()])
     }
 
     /// Refusals 1 to 3, with the edition and the carried number; zeros for none.

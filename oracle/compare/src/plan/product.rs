@@ -25,12 +25,7 @@ impl GuardedPair {
         let [old_lent, new_lent] = lent;
         let (old, old_cards, old_entries) = self.old.lend(pair.old, old_lent);
         let (new, new_cards, new_entries) = self.new.lend(pair.new, new_lent);
-        let boxes = Boxes {
-            old_cards,
-            old_entries,
-            new_cards,
-            new_entries,
-        };
+        let boxes = Boxes::new([old_cards, old_entries, new_cards, new_entries]);
         (Editions { old, new }, boxes)
     }
 

@@ -4,18 +4,13 @@
 
 use super::generate::{called, noted, supplemental};
 use super::Edition;
+use crate::clock::{milliseconds, ratio, speed, Clock};
+use crate::read::bench::{LENGTHS, RUNS};
 use crate::read::generate::plain_edition;
 use bridge_encodings::pbn::{read_pbn, write_pbn};
 use std::hint::black_box;
-use std::time::{Duration, Instant};
+use std::time::Duration;
 
-/// The editions' lengths, and how often each is written in one of the runs.
-const LENGTHS: [(&str, usize, usize); 3] = [
-    ("1 KB", 1_000, 2_000),
-    ("100 KB", 100_000, 40),
-    ("10 MB", 10_000_000, 1),
-];
-const RUNS: usize = 15;
 const HOSTILE_RUNS: usize = 5;
 
 /// The times of what is measured, each for one edition.
@@ -26,37 +21,29 @@ struct Times {
     write: Duration,
 }
 
-/// Measures all in turn, so that a slow moment meets them alike. Of the sorted
-/// times of each, the one at `taken` counts.
-fn measure(edition: &Edition, runs: usize, times: usize, taken: usize) -> Times {
+/// Measures all in turn.
+fn measure(edition: &Edition, runs: usize, times: usize) -> Clock<4> {
     let text = std::str::from_utf8(edition.text).expect("an edition of UTF-8");
     let mut cards = vec![0u32; edition.reading.cards.len()];
     let mut entries = vec![0u32; edition.reading.entries.len()];
     let mut page = vec![0u8; edition.page.len()];
-    let mut measured: [Vec<Duration>; 4] = Default::default();
     let boards = read_pbn(text).expect("it never refuses");
+    let mut clock = Clock::new(times);
     for _ in 0..runs {
-        let mut clock = |which: usize, work: &mut dyn FnMut()| {
-            let start = Instant::now();
-            for _ in 0..times {
-                work();
-            }
-            measured[which].push(start.elapsed());
-        };
-        clock(0, &mut || {
+        clock.run(0, || {
             black_box(write_pbn(black_box(&boards)));
         });
-        clock(1, &mut || {
+        clock.run(1, || {
             let boards = read_pbn(black_box(text)).expect("it never refuses");
             black_box(write_pbn(&boards));
         });
-        clock(2, &mut || {
+        clock.run(2, || {
             let text = black_box(text.as_bytes());
             let refusal = golavimes::read(text, &mut cards, &mut entries, &mut [0; 5]);
             assert_eq!(refusal, 0);
             black_box((&cards, &entries));
         });
-        clock(3, &mut || {
+        clock.run(3, || {
             let text = black_box(text.as_bytes());
             let mut answer = [0; 4];
             let refusal = golavimes::write(text, &mut cards, &mut entries, &mut page, &mut answer);
@@ -65,15 +52,17 @@ fn measure(edition: &Edition, runs: usize, times: usize, taken: usize) -> Times 
         });
     }
     assert!(page == edition.page, "the page is not the model's");
-    let [write_rust, both_rust, read, write] = measured.map(|mut runs| {
-        runs.sort();
-        runs[taken] / times as u32
-    });
-    Times {
-        write_rust,
-        both_rust,
-        read,
-        write,
+    clock
+}
+
+impl Times {
+    fn of([write_rust, both_rust, read, write]: [Duration; 4]) -> Self {
+        Times {
+            write_rust,
+            both_rust,
+            read,
+            write,
+        }
     }
 }
 
@@ -84,10 +73,10 @@ pub fn run(seed: u64) {
     for (name, length, times) in LENGTHS {
         let text = plain_edition(seed, length);
         let edition = Edition::new(&text);
-        let took = measure(&edition, RUNS, times, RUNS / 2);
+        let took = Times::of(measure(&edition, RUNS, times).medians());
         // What the product takes beyond reading alone.
         let alone = took.write.saturating_sub(took.read);
-        let speed = |time: Duration| edition.text.len() as f64 / time.as_secs_f64() / 1e6;
+        let speed = |time: Duration| speed(text.len(), time);
         println!(
             "| {name} | {} | {} | {:.1} | {:.1} | {:.2} | {:.1} | {:.1} | {:.2} |",
             edition.text.len(),
@@ -104,10 +93,6 @@ pub fn run(seed: u64) {
     println!("Medians of {RUNS} runs, megabytes of the text that is read. A ratio above 1 means that golavimes_write is faster. It always reads: the last ratio takes what golavimes_read needs away from it.");
     println!();
     growth();
-}
-
-fn ratio(rust: Duration, product: Duration) -> f64 {
-    rust.as_secs_f64() / product.as_secs_f64()
 }
 
 /// A kind of record, by how many of something it has.
@@ -165,27 +150,26 @@ fn growth() {
         for count in counts {
             let text = text(count);
             let edition = Edition::new(text.as_bytes());
-            let took = measure(&edition, HOSTILE_RUNS, 1, 0);
+            let took = Times::of(measure(&edition, HOSTILE_RUNS, 1).least());
             let grown = |time: Duration, of: fn(&Times) -> Duration| match &before {
                 Some(before) => format!("{:.1}", ratio(time, of(before))),
                 None => String::new(),
             };
-            let ms = |time: Duration| time.as_secs_f64() * 1e3;
             println!(
                 "| {name} | {count} | {} | {} | {:.2} | {} | {:.2} | {} | {:.2} |",
                 edition.text.len(),
                 edition.page.len(),
-                ms(took.both_rust),
+                milliseconds(took.both_rust),
                 grown(took.both_rust, |t| t.both_rust),
-                ms(took.write),
+                milliseconds(took.write),
                 grown(took.write, |t| t.write),
-                ms(took.read),
+                milliseconds(took.read),
             );
             before = Some(took);
         }
     }
     println!();
     println!(
-        "Medians of 3 runs. The number doubles from line to line: growth 2 is linear, 4 quadratic."
+        "The least of {HOSTILE_RUNS} runs. The number doubles from line to line: growth 2 is linear, 4 quadratic."
     );
 }
