@@ -10,6 +10,8 @@
  *   - planning, what is left to be solved in a new edition when an old one is
  *     at hand: golavimes_plan, golavimes_boards, golavimes_state,
  *     golavimes_record_behind;
+ *   - finishing, the new edition written with a table for every deal:
+ *     golavimes_finish;
  *   - tables: five functions on double-dummy tables.
  *
  * Every function
@@ -26,18 +28,21 @@
  * What the caller sees to, since no function can test it:
  *   - Pointers are not null, also where the length is 0. With length 0 nothing
  *     is read or written there, so any aligned pointer that is not null will do.
- *   - The length of a text, a value or a page is a number of bytes; that of
- *     cards or entries is a number of uint32_t words, not of bytes and not of
- *     cards or entries; that of slips or boards is a number of uint64_t numbers,
- *     not of bytes and not of slips or boards. That many are there. A table has
- *     exactly 20 bytes, an answer 3 to 10 numbers as declared.
- *   - Answers, slips and boards are aligned as uint64_t is; cards and entries as
- *     uint32_t is, also where their length is 0. Bytes need no alignment.
+ *   - The length of a text, a value, a page or the answers to slips is a number
+ *     of bytes; that of cards or entries is a number of uint32_t words, not of
+ *     bytes and not of cards or entries; that of slips or boards is a number of
+ *     uint64_t numbers, not of bytes and not of slips or boards. That many are
+ *     there. A table has exactly 20 bytes, an answer array 3 to 10 numbers as
+ *     declared.
+ *   - An answer array, slips and boards are aligned as uint64_t is; cards and
+ *     entries as uint32_t is, also where their length is 0. Bytes, the answers to
+ *     slips too, need no alignment.
  *   - What is lent to be written (page, table, cards, entries, slips, boards,
  *     answer) overlaps nothing else that is lent to the same call, so the boxes
- *     of the old and of the new edition are apart. The two texts are only read
- *     and may be the same memory. No other thread reads or writes what is lent
- *     to be written, or writes what is lent to be read, until the call returns.
+ *     of the old and of the new edition are apart. The two texts and the answers
+ *     to slips are only read and may be the same memory. No other thread reads or
+ *     writes what is lent to be written, or writes what is lent to be read, until
+ *     the call returns.
  *
  * How Rattle's types are passed: a slice, `&[u8]` or `&mut [u32]`, is a pointer
  * and then its length, in elements, in two parameters; an array, `&[u8; 20]` or
@@ -49,8 +54,9 @@
  *
  * The answer array
  *   answer[0]  the refusal number, 0 for none
- *   answer[1]  the edition that the refusal is about: planning gives 1 for the
- *              old one and 2 for the new one with refusals 1 to 3; else 0
+ *   answer[1]  the edition that the refusal is about: planning and finishing
+ *              give 1 for the old one and 2 for the new one with refusals 1 to
+ *              3; else 0
  *   answer[2]  the number that the refusal carries, 0 without a refusal
  *   answer[3]  and what follows: what the function answers, as said at each
  *              function; 0 after a refusal
@@ -66,12 +72,14 @@ extern "C" {
 #endif
 
 /* Refusals, and what answer[2] then carries. Each is given on its condition
- * and on no other. The functions here do not use 5 and 6. */
+ * and on no other. */
 enum {
     GOLAVIMES_OVERLONG = 1,      /* the text has more than 16777215 bytes; its length */
     GOLAVIMES_BOX_FULL = 2,      /* it has more boards than cards were lent; all its boards */
     GOLAVIMES_LIST_FULL = 3,     /* it has more entries than were lent; all its entries */
     GOLAVIMES_SLIPS_SHORT = 4,   /* fewer slips were lent than there are deals to solve; those */
+    GOLAVIMES_ANSWERS = 5,       /* the answers are not 20 bytes a slip; the deals to solve */
+    GOLAVIMES_IMPOSSIBLE = 6,    /* a byte of the answers is above 13; the index of the first */
     GOLAVIMES_PAGE_FULL = 7,     /* the text is longer than the page; its length in bytes */
     GOLAVIMES_LENGTH = 8,        /* the trimmed value is not 20 characters; how many it is */
     GOLAVIMES_DIGIT = 9,         /* a character is no digit; the index of the first, from 0 */
@@ -490,6 +498,90 @@ uint64_t golavimes_record_behind(const uint8_t *old_text, size_t old_text_length
  *     free(slips);
  *
  * examples/host is a whole program, with texts of any length and a real solver.
+ */
+
+/*
+ * Finishing. An old and a new edition go in as text, with the answers to the
+ * slips of golavimes_plan. The new edition is written as golavimes_write writes
+ * it, once every board with a deal has a table. By its state, a board has
+ *   blank  what it has itself: its own table, or none
+ *   own    its own table
+ *   old    the cells of board `from` of the old edition
+ *   near   the cells of board `from` of the new edition
+ *   solve  the answer to its slip
+ *   twin   the answer to the slip of board `from`
+ * A table that is given is written as any table is, as a DoubleDummyTricks tag.
+ * Where no board wants one, the page is that of golavimes_write.
+ *
+ * The answers are 20 bytes for each slip that golavimes_plan lists for the same
+ * two texts, in the order of the slips, and 20 * answer[9] of golavimes_plan in
+ * all: answers[20 * k] to answers[20 * k + 19] are the cells of slip k, from 0,
+ * each from 0 to 13. Slips are not lent. Where there are none, answers_length is
+ * 0, and answers is any pointer that is not null.
+ *
+ * The finished text stands at the start of the page, with zeros after it to the
+ * page's end. It does not end in a zero byte: its length is answer[3], 0 after a
+ * refusal.
+ *
+ * The lengths of the four boxes are words, as for golavimes_plan, and nothing
+ * that stood in them is believed. After success they hold what golavimes_plan
+ * leaves: cards and entries as read, and zeros after them. The cards do not show
+ * the tables that were given: words 18 to 38 of such a board are 0. Read the page
+ * to have them.
+ *
+ * Refusals, in the order tested:
+ *   1, 2, 3  of the old edition, as golavimes_read gives them; answer[1] is 1
+ *   1, 2, 3  of the new edition; answer[1] is 2
+ *   5        answers_length is not 20 for each board with the state solve;
+ *            answer[2] is solve
+ *   6        a byte of the answers is above 13; answer[2] is the index of the
+ *            first, from 0
+ *   7        the finished text is longer than the page; answer[2] is its length
+ * With 5, 6 and 7 answer[1] is 0. After a refusal every byte of the page and every
+ * word of the four boxes is 0.
+ *
+ * How much to lend. The boxes need what golavimes_plan needs, so those that it
+ * took are enough. The page needs at most 475 bytes for each byte of the new
+ * edition, and 20. A host asks rather than lends that: with page_length 0 (and
+ * page any pointer that is not null) refusal 7 carries the need, since no finished
+ * text is empty. The need is the same whatever the answers are, and a page of that
+ * length is never refused.
+ *
+ * How long it takes. Each text is read once a call, each board without a table is
+ * sought as golavimes_plan seeks it, and the new edition is written once. A call
+ * that is refused with 7 does the same work as one that is not.
+ */
+uint64_t golavimes_finish(const uint8_t *old_text, size_t old_text_length,
+                          const uint8_t *new_text, size_t new_text_length,
+                          uint32_t *old_cards, size_t old_cards_length,
+                          uint32_t *old_entries, size_t old_entries_length,
+                          uint32_t *new_cards, size_t new_cards_length,
+                          uint32_t *new_entries, size_t new_entries_length,
+                          const uint8_t *answers, size_t answers_length,
+                          uint8_t *page, size_t page_length, uint64_t answer[4]);
+
+/*
+ * Example, in C: after golavimes_plan has taken the texts with these boxes, as
+ * above, and the tables of its slips stand in answers, the finished edition is
+ * written to standard output.
+ *
+ *     uint8_t none[1], *page;
+ *     uint64_t finished[4];
+ *     size_t answers_length = GOLAVIMES_TABLE * plan[4 + GOLAVIMES_STATE_SOLVE];
+ *     golavimes_finish(old_text, n, new_text, m, old_cards, 64 * n, old_entries, 16 * n, new_cards,
+ *                      64 * m, new_entries, 16 * m, answers, answers_length, none, 0, finished);
+ *     page = malloc(finished[2] + 1);
+ *     if (page == NULL) {
+ *         printf("no memory\n");
+ *     } else if (golavimes_finish(old_text, n, new_text, m, old_cards, 64 * n, old_entries, 16 * n,
+ *                                 new_cards, 64 * m, new_entries, 16 * m, answers, answers_length,
+ *                                 page, finished[2], finished)
+ *                != 0) {
+ *         printf("refusal %d, %lu\n", (int)finished[0], (unsigned long)finished[2]);
+ *     } else {
+ *         fwrite(page, 1, finished[3], stdout);
+ *     }
+ *     free(page);
  */
 
 /*
