@@ -14,7 +14,7 @@ use Rattle.planning.specs.Slips.{slipOf, slipsOf, countOf, cardFrom}
 use Rattle.planning.specs.Demands.{slipHere}
 use Rattle.planning.proofs.SlipLaws.{fives-here, slips-five, slips-count}
 use Rattle.writer.specs.Given.{slipIndex, answerAt}
-use Rattle.demands.specs.Demand3.{Answers}
+use Rattle.demands.specs.Demand3.{AnswersOf}
 use Rattle.demands.proofs.Listed.{slip-holds}
 
 -- ---- the slip of a board
@@ -57,7 +57,7 @@ module _ (olds news : List (List ℕ)) (answers slips : List ℕ) (n : ℕ) (twe
     (are : slips ≡ padded n (flat (slipsOf (judged olds news)))) where
   -- Of the slips handed back, one holds the hands of a solve board, and the answers for its board are those for that slip.
   pub slip-answers : (i : ℕ) → i < length news → stateAt (judged olds news) (suc i) ≡ Solve
-      → Answers (handsOf (cardFrom news i)) (countOf 5 (judged olds news)) slips answers
+      → AnswersOf (handsOf (cardFrom news i)) (countOf 5 (judged olds news)) slips answers
       (answerAt answers (slipIndex (judged olds news) (suc i)))
   unfolding judged
   slip-answers i h e =

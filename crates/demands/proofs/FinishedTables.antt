@@ -21,7 +21,7 @@ use Rattle.planning.specs.Demands.{StateIs}
 use Rattle.planning.proofs.FoundLaws.{take-card}
 use Rattle.writer.specs.Given.{cellsOf, tableFor, tableOf, tablesOf}
 use Rattle.demands.specs.Demand1.{boardsIn}
-use Rattle.demands.specs.Demand3.{Answers, CellsFrom}
+use Rattle.demands.specs.Demand3.{AnswersOf, CellsFrom}
 use Rattle.demands.specs.Demand3 as cells
 use Rattle.demands.specs.Finished.{noTable}
 use Rattle.demands.proofs.StatesMean.{states-mean, twins-of-solve}
@@ -99,7 +99,7 @@ module _ (c : Conventions) (old new answers : List ℕ) (k : ℕ) (below : k < l
         (stateNumber s) (fromOf s) (tableHere c old new answers k s .cells)
 
     from-slip : (j : ℕ) → j < length (cardsOf c new) → stateAt (boardsOf c old new) (suc j) ≡ Solve
-        → Answers (handsOf (cardFrom (cardsOf c new) j)) (countOf 5 (boardsOf c old new)) slips answers
+        → AnswersOf (handsOf (cardFrom (cardsOf c new) j)) (countOf 5 (boardsOf c old new)) slips answers
         (tableHere c old new answers j Solve .cells)
     from-slip j l e = slip-answers (cardsOf c old) (cardsOf c new) answers slips n twenty are j l e
 
@@ -109,11 +109,13 @@ module _ (c : Conventions) (old new answers : List ℕ) (k : ℕ) (below : k < l
     cells-of (Old zero) q e w = absurd (omega (arith, e .1 .from-one))
     cells-of (Old (suc j)) q e w =
         let m : suc j - 1 ≡ j = omega arith in
-        cells.old refl (rw (m, olds-are j (omega (arith, e .1 .is-there))))
+        let l : j < boardsIn c old = omega (arith, e .1 .is-there) in
+        cells.old refl (record { from-one = e .1 .from-one; tabled = rw (m, olds-are j l) (e .1 .holds); cells-are = rw (m, olds-are j l) })
     cells-of (Near zero) q e w = absurd (omega (arith, e .2 .from-one))
     cells-of (Near (suc j)) q e w =
         let m : suc j - 1 ≡ j = omega arith in
-        cells.near refl (rw (m, news-are j (omega (arith, e .2 .is-there))))
+        let l : j < boardsIn c new = omega (arith, e .2 .is-there) in
+        cells.near refl (record { from-one = e .2 .from-one; tabled = rw (m, news-are j l) (e .2 .holds); cells-are = rw (m, news-are j l) })
     cells-of (Twin zero) q e w = absurd (omega (arith, e .3 .from-one))
     cells-of (Twin (suc j)) q e w =
         let t = twins-of-solve c old new (suc k) (suc j) q in

@@ -180,7 +180,7 @@ module _ (c : Conventions) (old new answers finished : List ℕ) (e : FinishedEd
         with-table = λ h d. record { deal = same h d; table = has-table k l (d .whole) };
         own-cells = λ h t.
             f .cells (whole-kind c old new answers k l (t .deal .whole)) ∙ own-cells c old new answers k l (t .deal .whole) (t .table);
-        given-cells = λ h d boxes boxes′ answer′ o.
+        cells-from = λ h d boxes boxes′ answer′ o.
             let m : k + 1 ≡ suc k = omega arith in
             let s = rw m at (state-told (editionsOf c old new boxes) (boardsOf c old new) (k + 1) answer′ (o .told) (o .returned)) in
             rw (s .0, s .1, f .cells (whole-kind c old new answers k l (d .whole)), ← d .hands)

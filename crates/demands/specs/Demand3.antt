@@ -4,7 +4,7 @@
 -- the slips handed back, answer[9] of them, holds its four hands (`ListedIn`). The statements hold for every set of letters c; the C
 -- functions read with the built-in ones. The file of proofs/ that proves each is named beside it; proofs/Worked.antt has a pair of
 -- editions that meets every premise.
-use Prim.Native.Nat.{ℕ, _+_, _-_, _*_, _<_}
+use Prim.Native.Nat.{ℕ, _+_, _-_, _*_, _≤_, _<_}
 use mathlib.Core.Path.{_≡_}
 use mathlib.Core.Logic.{_↔_}
 use mathlib.Core.Bool.{true, false}
@@ -141,38 +141,46 @@ finishedPart page answer = take (getD answer 3 0) page
 abbrev pub cells : List ℕ → List ℕ
 cells card = take 20 (drop 18 card)
 
--- A slip, one of those handed back, holds the hands h; the cells are the answers for that slip, 20 bytes, in cell order.
-pub record Answers (h : Hands) (solve : ℕ) (slips answers table : List ℕ) : Type 0 where
+-- The source board, number from from 1 of the cards handed back for its edition, has the deal h and a table, and the cells are its.
+pub record SourceOf (h : Hands) (cards : List ℕ) (from : ℕ) (table : List ℕ) : Type 0 where
+  pub from-one : 1 ≤ from
+  pub tabled : Tabled h (cardHere (from - 1) cards)
+  pub cells-are : table ≡ cells (cardHere (from - 1) cards)
+
+-- A slip, one of those listed, holds the hands h; the cells are the answers for that slip, 20 bytes, in cell order.
+pub record AnswersOf (h : Hands) (listed : ℕ) (slips answers table : List ℕ) : Type 0 where
   pub slip : ℕ
-  pub below : slip < solve
+  pub below : slip < listed
   pub holds : Holds h (slipHere slip slips)
   pub answered : table ≡ take 20 (drop (20 * slip) answers)
 
 -- Where the cells of a finished board with the deal h come from, by what golavimes_state answers for its position, state and source board
 -- from 1: its own (1, card is the board of the new edition), the old source's (2), the new source's (3); for twin (4) and solve (5) the
--- answers for the slip that holds its hands.
-pub data CellsFrom (h : Hands) (card old-cards new-cards : List ℕ) (solve : ℕ) (slips answers : List ℕ) (state from : ℕ) (table : List ℕ) : Type 0 where
-  own : state ≡ 1 → table ≡ cells card → CellsFrom h card old-cards new-cards solve slips answers state from table
-  old : state ≡ 2 → table ≡ cells (cardHere (from - 1) old-cards) → CellsFrom h card old-cards new-cards solve slips answers state from table
-  near : state ≡ 3 → table ≡ cells (cardHere (from - 1) new-cards) → CellsFrom h card old-cards new-cards solve slips answers state from table
-  twin : state ≡ 4 → Answers h solve slips answers table → CellsFrom h card old-cards new-cards solve slips answers state from table
-  solve : state ≡ 5 → Answers h solve slips answers table → CellsFrom h card old-cards new-cards solve slips answers state from table
+-- answers for the slip that holds its hands. So many slips are listed.
+pub data CellsFrom (h : Hands) (card old-cards new-cards : List ℕ) (listed : ℕ) (slips answers : List ℕ) (state from : ℕ) (table : List ℕ) : Type 0 where
+  own : state ≡ 1 → table ≡ cells card → CellsFrom h card old-cards new-cards listed slips answers state from table
+  old : state ≡ 2 → SourceOf h old-cards from table → CellsFrom h card old-cards new-cards listed slips answers state from table
+  near : state ≡ 3 → SourceOf h new-cards from table → CellsFrom h card old-cards new-cards listed slips answers state from table
+  twin : state ≡ 4 → AnswersOf h listed slips answers table → CellsFrom h card old-cards new-cards listed slips answers state from table
+  solve : state ≡ 5 → AnswersOf h listed slips answers table → CellsFrom h card old-cards new-cards listed slips answers state from table
 
 -- The board at the index k, from 0, card in the new edition, finished in the finished one: the same whole deal with a table, or none.
-pub record FinishedAt (c : Conventions) (old new old-cards new-cards : List ℕ) (solve : ℕ) (slips answers : List ℕ) (k : ℕ) (card finished : List ℕ) : Type 0 where
+pub record FinishedAt (c : Conventions) (old new old-cards new-cards : List ℕ) (listed : ℕ) (slips answers : List ℕ) (k : ℕ) (card finished : List ℕ) : Type 0 where
   pub same-deal : (h : Hands) → WithDeal h card → WithDeal h finished
   pub no-deal : isWhole card ≡ false → isWhole finished ≡ false
   pub with-table : (h : Hands) → WithDeal h card → Tabled h finished
   pub own-cells : (h : Hands) → Tabled h card → cells finished ≡ cells card
-  pub given-cells : (h : Hands) → WithDeal h card → (boxes boxes′ : Boxes) (answer′ : List ℕ) → StateOut c old new boxes boxes′ (k + 1) answer′ 0
-      → CellsFrom h card old-cards new-cards solve slips answers (getD answer′ 3 0) (getD answer′ 4 0) (cells finished)
+  pub cells-from : (h : Hands) → WithDeal h card → (boxes boxes′ : Boxes) (answer′ : List ℕ) → StateOut c old new boxes boxes′ (k + 1) answer′ 0
+      → CellsFrom h card old-cards new-cards listed slips answers (getD answer′ 3 0) (getD answer′ 4 0) (cells finished)
+
+-- The finished edition page-text beside the new one: as many boards, and each finished. old-cards and new-cards are the cards of both
+-- editions as handed back, cards those of page-text.
+pub record AllFinished (c : Conventions) (old new old-cards new-cards : List ℕ) (listed : ℕ) (slips answers page-text cards : List ℕ) : Type 0 where
+  pub as-many : boardsIn c page-text ≡ boardsIn c new
+  pub each : (k : ℕ) → k < boardsIn c new → FinishedAt c old new old-cards new-cards listed slips answers k (cardHere k new-cards) (cardHere k cards)
 
 -- THEOREM (proofs/Finishing.antt). golavimes_finish and golavimes_plan returned 0 for the same editions, each with any boxes, and slips were
--- enough; old-cards and new-cards are the cards of both editions as handed back, cards those of the finished one.
-pub record AllFinished (c : Conventions) (old new old-cards new-cards : List ℕ) (solve : ℕ) (slips answers finished cards : List ℕ) : Type 0 where
-  pub as-many : boardsIn c finished ≡ boardsIn c new
-  pub each : (k : ℕ) → k < boardsIn c new → FinishedAt c old new old-cards new-cards solve slips answers k (cardHere k new-cards) (cardHere k cards)
-
+-- enough; each of the three editions was read without refusal.
 abbrev pub FinishedRight : Type 0
 FinishedRight =
     (c : Conventions) → Accepted c → (old new : List ℕ) (boxes : Boxes) (answers page : List ℕ) (boxes′ : Boxes) (page′ answer′ : List ℕ)
@@ -185,8 +193,8 @@ FinishedRight =
     → HandedBack c (finishedPart page′ answer′) cards entries
     → AllFinished c old new old-cards new-cards (getD plan-answer′ 9 0) slips′ answers (finishedPart page′ answer′) cards
 
--- THEOREM (proofs/Finishing.antt). It is finished exactly when both editions are read without refusal, every listed deal has its answer, 20
--- bytes for each board to solve and none above 13, and the page is long enough.
+-- Both editions are read without refusal, every listed deal has its answer, 20 bytes for each board to solve and none above 13, and the page
+-- is long enough.
 pub record Finishable (c : Conventions) (old new : List ℕ) (boxes : Boxes) (answers page : List ℕ) : Type 0 where
   pub old-taken : IsTaken c old (boxes .old-cards) (boxes .old-entries)
   pub new-taken : IsTaken c new (boxes .new-cards) (boxes .new-entries)
@@ -194,6 +202,7 @@ pub record Finishable (c : Conventions) (old new : List ℕ) (boxes : Boxes) (an
   pub none-above : SomeAbove answers → ⊥
   pub page-long : PageFull (finishedText c old new answers) page → ⊥
 
+-- THEOREM (proofs/Finishing.antt). It is finished exactly then.
 abbrev pub FinishedWhenAnswered : Type 0
 FinishedWhenAnswered =
     (c : Conventions) (old new : List ℕ) (boxes : Boxes) (answers page : List ℕ) (boxes′ : Boxes) (page′ answer′ : List ℕ) (r : ℕ)
