@@ -1,9 +1,10 @@
 -- The table of each board of the finished edition, by the state of the board of the new one.
 use Prim.Native.Nat.{ℕ, zero, suc, _+_, _-_, _*_, _<_}
 use mathlib.Core.Path.{_≡_, refl, sym, _∙_, ap}
-use mathlib.Core.Bool.{true}
+use mathlib.Core.Bool.{true, false, not}
 use mathlib.Core.List.{List, [], _∷_, _++_, map}
 use native.Mathlib.Omega.{arith}
+use lib.Dec.{eqb}
 use lib.ListN.{length, getD, take}
 use borrow.Author.Tests.{eq-eqb}
 use Rattle.tables.specs.declared.letters.Conventions.{Conventions}
@@ -19,7 +20,7 @@ use Rattle.planning.specs.Slips.{countOf, slipsOf, cardFrom}
 use Rattle.planning.specs.Plans.{boardsOf}
 use Rattle.planning.specs.Demands.{StateIs}
 use Rattle.planning.proofs.FoundLaws.{take-card}
-use Rattle.writer.specs.Given.{cellsOf, tableFor, tableOf, tablesOf}
+use Rattle.writer.specs.Given.{cellsOf, ownTable, tableFor, tableOf, tablesOf}
 use Rattle.demands.specs.Demand1.{boardsIn}
 use Rattle.demands.specs.Demand3.{AnswersOf, CellsFrom}
 use Rattle.demands.specs.Demand3 as cells
@@ -87,6 +88,22 @@ module _ (c : Conventions) (old new answers : List ℕ) (k : ℕ) (below : k < l
   pub own-cells : isWhole card ≡ true → hasTable card ≡ true → getD (tablesOf c old new answers) k noTable .cells ≡ cellsOf card
   own-cells w t =
       ap (λ (x : TableCard). x .cells) (table-at c old new answers k below ∙ ap (tableHere c old new answers k) (own-state w t))
+
+  -- A board that is not whole keeps what it has.
+  blank-table : isWhole card ≡ false → getD (tablesOf c old new answers) k noTable ≡ ownTable card
+  blank-table w =
+      table-at c old new answers k below
+      ∙ ap (tableHere c old new answers k) (states-mean c old new (suc k) (omega arith) (omega arith) Blank .1 w)
+
+  pub blank-has : isWhole card ≡ false → not (eqb (getD (tablesOf c old new answers) k noTable .kind) 0) ≡ hasTable card
+  unfolding hasTable
+  blank-has w = rw (blank-table w)
+
+  pub blank-kind : isWhole card ≡ false → hasTable card ≡ true → getD (tablesOf c old new answers) k noTable .kind ≡ 0 → ⊥
+  blank-kind w t z = clash (rw (eq-eqb (getD (tablesOf c old new answers) k noTable .kind) 0 z) at (blank-has w ∙ t))
+
+  pub blank-cells : isWhole card ≡ false → getD (tablesOf c old new answers) k noTable .cells ≡ cellsOf card
+  blank-cells w = ap (λ (x : TableCard). x .cells) (blank-table w)
 
   module _ (old-cards new-cards slips : List ℕ) (n : ℕ)
       (olds-are : (j : ℕ) → j < boardsIn c old → cardHere j old-cards ≡ cardFrom (cardsOf c old) j)

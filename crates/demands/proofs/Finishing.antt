@@ -42,7 +42,7 @@ use Rattle.demands.proofs.Listing.{read-number, promised, planned-when-
 use Rattle.demands.proofs.ReadAlike.{cards-handed}
 use Rattle.demands.proofs.FinishedBack.{finished-back}
 use Rattle.demands.proofs.FinishRefusing.{finish-refuses, is-done}
-use Rattle.demands.proofs.FinishedTables.{whole-kind, own-cells, cells-from}
+use Rattle.demands.proofs.FinishedTables.{whole-kind, own-cells, blank-has, blank-kind, blank-cells, cells-from}
 
 -- ---- when it is finished
 
@@ -177,6 +177,8 @@ module _ (c : Conventions) (old new answers finished : List ℕ) (e : FinishedEd
       record {
         same-deal = same;
         no-deal = λ w. f .whole ∙ w;
+        no-deal-table = λ w. f .table ∙ blank-has c old new answers k l w;
+        no-deal-cells = λ w t. f .cells (blank-kind c old new answers k l w t) ∙ blank-cells c old new answers k l w;
         with-table = λ h d. record { deal = same h d; table = has-table k l (d .whole) };
         own-cells = λ h t.
             f .cells (whole-kind c old new answers k l (t .deal .whole)) ∙ own-cells c old new answers k l (t .deal .whole) (t .table);

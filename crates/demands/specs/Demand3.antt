@@ -15,7 +15,7 @@ use Rattle.tables.specs.Letters.{Accepted}
 use Rattle.reader.specs.declared.deal.Hands.{Hands}
 use Rattle.reader.specs.Records.{AlikeBut}
 use Rattle.reader.specs.Editions.{cardsOf}
-use Rattle.planning.specs.Cards.{isWhole, cardHere}
+use Rattle.planning.specs.Cards.{isWhole, hasTable, cardHere}
 use Rattle.planning.specs.Plans.{Boxes}
 use Rattle.planning.specs.Demands.{WithDeal, Tabled, slipHere, Holds, ListedIn, Unsolved, InFront, InBack, AllSolved, OnlyInside}
 use Rattle.writer.specs.Given.{finishedText}
@@ -164,10 +164,13 @@ pub data CellsFrom (h : Hands) (card old-cards new-cards : List ℕ) (listed : �
   twin : state ≡ 4 → AnswersOf h listed slips answers table → CellsFrom h card old-cards new-cards listed slips answers state from table
   solve : state ≡ 5 → AnswersOf h listed slips answers table → CellsFrom h card old-cards new-cards listed slips answers state from table
 
--- The board at the index k, from 0, card in the new edition, finished in the finished one: the same whole deal with a table, or none.
+-- The board at the index k, from 0, card in the new edition, finished in the finished one: the same whole deal with a table, or none. A
+-- board without a whole deal keeps the table that it has, or has none.
 pub record FinishedAt (c : Conventions) (old new old-cards new-cards : List ℕ) (listed : ℕ) (slips answers : List ℕ) (k : ℕ) (card finished : List ℕ) : Type 0 where
   pub same-deal : (h : Hands) → WithDeal h card → WithDeal h finished
   pub no-deal : isWhole card ≡ false → isWhole finished ≡ false
+  pub no-deal-table : isWhole card ≡ false → hasTable finished ≡ hasTable card
+  pub no-deal-cells : isWhole card ≡ false → hasTable card ≡ true → cells finished ≡ cells card
   pub with-table : (h : Hands) → WithDeal h card → Tabled h finished
   pub own-cells : (h : Hands) → Tabled h card → cells finished ≡ cells card
   pub cells-from : (h : Hands) → WithDeal h card → (boxes boxes′ : Boxes) (answer′ : List ℕ) → StateOut c old new boxes boxes′ (k + 1) answer′ 0
