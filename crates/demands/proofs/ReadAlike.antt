@@ -29,6 +29,7 @@ use Rattle.reader.proofs.CardShape.{word-0, word-1}
 use Rattle.reader.proofs.CardLength.{CardsWhole}
 use Rattle.reader.proofs.Fellows.{EveryBoard, RecordEnds, AlikeOther, FellowsOf}
 use Rattle.reader.proofs.Relocated.{RelocatedBoards}
+use Rattle.planning.specs.declared.plan.Totals.{Totals}
 use Rattle.planning.specs.Cards.{cardHere, cardsIn}
 use Rattle.planning.specs.Slips.{cardFrom}
 use Rattle.planning.proofs.BoxLaws.{cards-back, card-nth, taken-fits}
@@ -315,5 +316,8 @@ counts-told =
           rw (o .told) (read-counts q (length (cardsOf c text)) (length (entriesOf c text)) (t .boards) (t .count) (t .is) (f .boards-are) (f .entries-are));
       by-plan = λ c old new boxes slips boxes′ slips′ answer′ o.
           let p = promised c old new boxes slips boxes′ slips′ answer′ o in
-          p .boards-told ∙ totals-told c old new boxes slips boxes′ slips′ (p .totals) (p .planned) .0;
+          let t = told c old new boxes slips boxes′ slips′ (p .totals) (p .planned) .totals in (
+            p .boards-told ∙ totals-told c old new boxes slips boxes′ slips′ (p .totals) (p .planned) .0,
+            p .solve-told ∙ ap (λ (u : Totals). u .solve) t,
+          );
     }

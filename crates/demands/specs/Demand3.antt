@@ -20,7 +20,7 @@ use Rattle.planning.specs.Plans.{Boxes}
 use Rattle.planning.specs.Demands.{WithDeal, Tabled, slipHere, Holds, ListedIn, Unsolved, InFront, InBack, AllSolved, OnlyInside}
 use Rattle.writer.specs.Given.{finishedText}
 use Rattle.golavimes.specs.Answers.{EditionOut, PlanOut, StateOut, FinishOut}
-use Rattle.demands.specs.Demand1.{boardsIn, entriesIn, Overlong, BoxFull, ListFull, SlipsShort, NotTwentyEach, SomeAbove, PageFull}
+use Rattle.demands.specs.Demand1.{boardsIn, entriesIn, solveIn, Overlong, BoxFull, ListFull, SlipsShort, NotTwentyEach, SomeAbove, PageFull}
 use Rattle.demands.specs.Boards.{HandedBack, Board, recordStart, boardHere, ReadAlike}
 
 -- ---- "Whatever two editions hold, if both are read without refusal and slips are enough, .."
@@ -108,13 +108,13 @@ CardsHanded =
     → (k : ℕ) → k < boardsIn c text → cardHere k cards ≡ getD (cardsOf c text) k []
 
 -- THEOREM (proofs/ReadAlike.antt). There are as many as the answer says: answer[3] of the text read, of the new edition when planning;
--- golavimes_read tells the entries too.
+-- golavimes_read tells the entries too. golavimes_plan tells the boards to solve, which refusals 4 and 5 carry: as many as slips handed back.
 pub record CountsTold : Type 0 where
   pub by-read : (c : Conventions) (text cards entries cards′ entries′ answer′ : List ℕ) → EditionOut c text cards entries cards′ entries′ answer′ 0
       → (getD answer′ 3 0 ≡ boardsIn c text) × (getD answer′ 4 0 ≡ entriesIn c text)
   pub by-plan : (c : Conventions) (old new : List ℕ) (boxes : Boxes) (slips : List ℕ) (boxes′ : Boxes) (slips′ answer′ : List ℕ)
       → PlanOut c old new boxes slips boxes′ slips′ answer′ 0
-      → getD answer′ 3 0 ≡ boardsIn c new
+      → (getD answer′ 3 0 ≡ boardsIn c new) × (getD answer′ 9 0 ≡ solveIn c old new)
 
 -- ---- "If, besides, each whole deal of the old one has a table on some old board, each listed deal belongs to a board of the new one inside
 -- the stretch, and to none outside."
