@@ -1,4 +1,4 @@
--- The finished edition: when there is one, what it holds, and that nothing is left to solve in it.
+-- The finished edition: when there is one, what it holds, that nothing is left to solve in it, and that no deal of it is listed again.
 use Prim.Native.Nat.{ℕ, suc, _+_, _-_, _*_, _<_}
 use mathlib.Core.Path.{_≡_, refl, sym, ap, _∙_}
 use mathlib.Core.Bool.{true}
@@ -23,10 +23,10 @@ use Rattle.planning.specs.Cards.{isWhole, hasTable, cardHere}
 use Rattle.planning.specs.States.{Judged, stateNumber, fromOf, stateAt}
 use Rattle.planning.specs.Slips.{slipsOf, countOf, cardFrom}
 use Rattle.planning.specs.Plans.{Boxes, editionsOf, boardsOf, stateBy}
-use Rattle.planning.specs.Demands.{Among, WithDeal, slipHere}
+use Rattle.planning.specs.Demands.{Among, WithDeal, Tabled, Some, slipHere}
 use Rattle.planning.proofs.AnswerLaws.{solve-sum}
 use Rattle.planning.proofs.CardLaws.{CardsHanded}
-use Rattle.planning.proofs.FoundLaws.{numbered}
+use Rattle.planning.proofs.FoundLaws.{card-among, numbered}
 use Rattle.planning.proofs.SlipLaws.{slips-count}
 use Rattle.writer.specs.declared.finish.Finishing.{Finishing}
 use Rattle.writer.specs.declared.finish.Finishing.the-variants.{Finished, Refused}
@@ -35,10 +35,10 @@ use Rattle.writer.specs.Given.{tablesOf, finishedText}
 use Rattle.writer.specs.Finishings.{firstAbove, finishingOf}
 use Rattle.golavimes.specs.Answers.{stateNumbers, finishingNumbers, PlanOut, FinishOut}
 use Rattle.demands.specs.Demand1.{solveIn, Begins, refusal}
-use Rattle.demands.specs.Demand3.{IsTaken, FinishedAt, finishedPart, FinishedRight, FinishedWhenAnswered, NothingLeft}
-use Rattle.demands.specs.Finished.{Answered, noTable, FinishedEdition, FinishedBack}
+use Rattle.demands.specs.Demand3.{IsTaken, FinishedAt, finishedPart, FinishedRight, FinishedWhenAnswered, NothingLeft, NeverTwice}
+use Rattle.demands.specs.Finished.{Answered, noTable, FinishedEdition}
 use Rattle.demands.proofs.Listed.{told, all-listed, no-solve}
-use Rattle.demands.proofs.Listing.{read-number, promised, planned-when-taken}
+use Rattle.demands.proofs.Listing.{read-number, promised, planned-when-taken, listed-exactly}
 use Rattle.demands.proofs.ReadAlike.{cards-handed}
 use Rattle.demands.proofs.FinishedBack.{finished-back}
 use Rattle.demands.proofs.FinishRefusing.{finish-refuses, is-done}
@@ -161,6 +161,26 @@ module _ (c : Conventions) (old new answers finished : List ℕ) (e : FinishedEd
       let v : isWhole (cardFrom (cardsOf c new) k) ≡ true = sym (e .each k l .whole) ∙ rw (n .is) w in
       rw (n .is) at (has-table k l v)
 
+  -- A board with a deal has it in the finished edition, and a table.
+  same-deal : (k : ℕ) → k < length (cardsOf c new) → (h : Hands) → WithDeal h (cardFrom (cardsOf c new) k)
+      → WithDeal h (cardFrom (cardsOf c finished) k)
+  same-deal k l h d =
+      record { whole = e .each k l .whole ∙ d .whole; hands = e .each k l .hands (d .whole) ∙ d .hands }
+
+  tabled : (k : ℕ) → k < length (cardsOf c new) → (h : Hands) → WithDeal h (cardFrom (cardsOf c new) k)
+      → Tabled h (cardFrom (cardsOf c finished) k)
+  tabled k l h d = record { deal = same-deal k l h d; table = has-table k l (d .whole) }
+
+  some-tabled : (h : Hands) → Some (WithDeal h) (cardsOf c new) → Some (Tabled h) (cardsOf c finished)
+  some-tabled h s =
+      let n = numbered (s .among) in
+      let k = n .number in
+      record {
+        card = cardFrom (cardsOf c finished) k;
+        among = card-among (cardsOf c finished) k (omega (arith, n .below, e .as-many));
+        holds = tabled k (n .below) h (rw (n .is) (s .holds));
+      }
+
   -- The board number k, from 0, by the cards that the definitions read.
   board-finished : (old-cards new-cards slips : List ℕ) (n : ℕ)
       → ((j : ℕ) → j < length (cardsOf c old) → cardHere j old-cards ≡ cardFrom (cardsOf c old) j)
@@ -172,14 +192,12 @@ module _ (c : Conventions) (old new answers finished : List ℕ) (e : FinishedEd
       (cardFrom (cardsOf c new) k) (cardFrom (cardsOf c finished) k)
   board-finished old-cards new-cards slips n olds-are news-are twenty are k l =
       let f = e .each k l in
-      let same : (h : Hands) → WithDeal h (cardFrom (cardsOf c new) k) → WithDeal h (cardFrom (cardsOf c finished) k) =
-      λ h d. record { whole = f .whole ∙ d .whole; hands = f .hands (d .whole) ∙ d .hands } in
       record {
-        same-deal = same;
+        same-deal = same-deal k l;
         no-deal = λ w. f .whole ∙ w;
         no-deal-table = λ w. f .table ∙ blank-has c old new answers k l w;
         no-deal-cells = λ w t. f .cells (blank-kind c old new answers k l w t) ∙ blank-cells c old new answers k l w;
-        with-table = λ h d. record { deal = same h d; table = has-table k l (d .whole) };
+        with-table = tabled k l;
         own-cells = λ h t.
             f .cells (whole-kind c old new answers k l (t .deal .whole)) ∙ own-cells c old new answers k l (t .deal .whole) (t .table);
         cells-from = λ h d boxes boxes′ answer′ o.
@@ -222,41 +240,39 @@ lists-nothing c old new all boxes slips boxes′ slips′ answer′ r o to tn =
       p .slips-are ∙ rw (no-slips, all-zero),
     )
 
--- ---- the theorems, given that the text reads back
+-- ---- the theorems
 
-module _ (back : FinishedBack) where
-  edition : (c : Conventions) → Accepted c → (old new answers page′ answer′ : List ℕ) → Done c old new answers page′ answer′
-      → FinishedEdition c old new answers (finishedPart page′ answer′)
-  edition c a old new answers page′ answer′ d = rw (d .part) (back c a old new answers (d .answered))
-
-  pub right : FinishedRight
-  right c a old new boxes answers page boxes′ page′ answer′ o lent slips lent′ slips′ plan po oc oe nc ne cards entries ho hn hf =
-      let d = done c old new boxes answers page boxes′ page′ answer′ o in
-      let finished = finishedPart page′ answer′ in
-      let e = edition c a old new answers page′ answer′ d in
-      let js = boardsOf c old new in
-      let p = slipped c old new lent slips lent′ slips′ plan po in
-      let twenty : length answers ≡ 20 * countOf 5 js = d .answered .twenty-each ∙ ap (λ (n : ℕ). 20 * n) (solve-sum js) in
-      let olds-are = cards-handed c old oc oe ho in
-      let news-are = cards-handed c new nc ne hn in
-      record {
-        as-many = e .as-many;
-        each = λ k l.
-            rw (p .solve-is, news-are k l, cards-handed c finished cards entries hf k (omega (arith, e .as-many)))
-            (board-finished c old new answers finished e oc nc slips′ (length slips) olds-are news-are twenty (p .slips-are) k l);
-      }
-
-  pub none-left : NothingLeft
-  none-left c a old new boxes answers page boxes′ page′ answer′ o other other-boxes slips other-boxes′ slips′ other-answer′ r po to tn =
-      let d = done c old new boxes answers page boxes′ page′ answer′ o in
-      let finished = finishedPart page′ answer′ in
-      lists-nothing c other finished (all-tables c old new answers finished (edition c a old new answers page′ answer′ d))
-      other-boxes slips other-boxes′ slips′ other-answer′ r po to tn
-
--- ---- the two theorems
+edition : (c : Conventions) → Accepted c → (old new answers page′ answer′ : List ℕ) → Done c old new answers page′ answer′
+    → FinishedEdition c old new answers (finishedPart page′ answer′)
+edition c a old new answers page′ answer′ d = rw (d .part) (finished-back c a old new answers (d .answered))
 
 pub finished-right : FinishedRight
-finished-right = right finished-back
+finished-right c a old new boxes answers page boxes′ page′ answer′ o lent slips lent′ slips′ plan po oc oe nc ne cards entries ho hn hf =
+    let d = done c old new boxes answers page boxes′ page′ answer′ o in
+    let finished = finishedPart page′ answer′ in
+    let e = edition c a old new answers page′ answer′ d in
+    let js = boardsOf c old new in
+    let p = slipped c old new lent slips lent′ slips′ plan po in
+    let twenty : length answers ≡ 20 * countOf 5 js = d .answered .twenty-each ∙ ap (λ (n : ℕ). 20 * n) (solve-sum js) in
+    let olds-are = cards-handed c old oc oe ho in
+    let news-are = cards-handed c new nc ne hn in
+    record {
+      as-many = e .as-many;
+      each = λ k l.
+          rw (p .solve-is, news-are k l, cards-handed c finished cards entries hf k (omega (arith, e .as-many)))
+          (board-finished c old new answers finished e oc nc slips′ (length slips) olds-are news-are twenty (p .slips-are) k l);
+    }
 
 pub nothing-left : NothingLeft
-nothing-left = none-left finished-back
+nothing-left c a old new boxes answers page boxes′ page′ answer′ o other other-boxes slips other-boxes′ slips′ other-answer′ r po to tn =
+    let d = done c old new boxes answers page boxes′ page′ answer′ o in
+    let finished = finishedPart page′ answer′ in
+    lists-nothing c other finished (all-tables c old new answers finished (edition c a old new answers page′ answer′ d))
+    other-boxes slips other-boxes′ slips′ other-answer′ r po to tn
+
+pub never-twice : NeverTwice
+never-twice c a old new boxes answers page boxes′ page′ answer′ o later later-boxes slips later-boxes′ slips′ later-answer′ po h s l =
+    let d = done c old new boxes answers page boxes′ page′ answer′ o in
+    let finished = finishedPart page′ answer′ in
+    let t = some-tabled c old new answers finished (edition c a old new answers page′ answer′ d) h s in
+    listed-exactly c finished later later-boxes slips later-boxes′ slips′ later-answer′ po h .0 l .none-old (t .card) (t .among) (t .holds)

@@ -17,7 +17,7 @@ use Rattle.reader.specs.Records.{AlikeBut}
 use Rattle.reader.specs.Editions.{cardsOf}
 use Rattle.planning.specs.Cards.{isWhole, hasTable, cardHere}
 use Rattle.planning.specs.Plans.{Boxes}
-use Rattle.planning.specs.Demands.{WithDeal, Tabled, slipHere, Holds, ListedIn, Unsolved, InFront, InBack, AllSolved, OnlyInside}
+use Rattle.planning.specs.Demands.{WithDeal, Tabled, Some, slipHere, Holds, ListedIn, Unsolved, InFront, InBack, AllSolved, OnlyInside}
 use Rattle.writer.specs.Given.{finishedText}
 use Rattle.golavimes.specs.Answers.{EditionOut, PlanOut, StateOut, FinishOut}
 use Rattle.demands.specs.Demand1.{boardsIn, entriesIn, solveIn, Overlong, BoxFull, ListFull, SlipsShort, NotTwentyEach, SomeAbove, PageFull}
@@ -224,3 +224,15 @@ NothingLeft =
     → IsTaken c other (other-boxes .old-cards) (other-boxes .old-entries)
     → IsTaken c (finishedPart page′ answer′) (other-boxes .new-cards) (other-boxes .new-entries)
     → (r ≡ 0) × (getD other-answer′ 9 0 ≡ 0) × (slips′ ≡ replicate (length slips) 0)
+
+-- ---- The manual's promise: "an unchanged deal is never solved twice."
+
+-- THEOREM (proofs/Finishing.antt). The finished edition is kept, and planned as the old one beside any later edition: no deal that a board of
+-- the edition finished has is listed.
+abbrev pub NeverTwice : Type 0
+NeverTwice =
+    (c : Conventions) → Accepted c → (old new : List ℕ) (boxes : Boxes) (answers page : List ℕ) (boxes′ : Boxes) (page′ answer′ : List ℕ)
+    → FinishOut c old new boxes answers page boxes′ page′ answer′ 0
+    → (later : List ℕ) (later-boxes : Boxes) (slips : List ℕ) (later-boxes′ : Boxes) (slips′ later-answer′ : List ℕ)
+    → PlanOut c (finishedPart page′ answer′) later later-boxes slips later-boxes′ slips′ later-answer′ 0
+    → (h : Hands) → Some (WithDeal h) (cardsOf c new) → ListedIn h (getD later-answer′ 9 0) slips′ → ⊥
