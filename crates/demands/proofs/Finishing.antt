@@ -10,10 +10,10 @@ use lib.Seq.{take-at, take-all}
 use borrow.Author.Tests.{ltb-true, ltb-false, le-leb, ne-eqb}
 use Rattle.tables.specs.declared.letters.Conventions.{Conventions}
 use Rattle.tables.specs.Letters.{Accepted, every}
-use Rattle.tables.proofs.Laws.{by-cases}
+use Rattle.tables.proofs.Laws.{by-cases, clash}
 use Rattle.reader.specs.declared.deal.Hands.{Hands}
 use Rattle.reader.specs.Store.{flat, padded}
-use Rattle.reader.specs.Editions.{cardsOf}
+use Rattle.reader.specs.Editions.{readingOf, cardsOf, entriesOf}
 use Rattle.planning.specs.declared.editions.EditionsRefusal.the-variants.{Old, New}
 use Rattle.planning.specs.declared.editions.Editions.{Editions}
 use Rattle.planning.specs.declared.editions.Editions.the-variants.{Both}
@@ -22,7 +22,7 @@ use Rattle.planning.specs.declared.plan.Totals.{Totals}
 use Rattle.planning.specs.Cards.{isWhole, hasTable, cardHere}
 use Rattle.planning.specs.States.{Judged, stateNumber, fromOf, stateAt}
 use Rattle.planning.specs.Slips.{slipsOf, countOf, cardFrom}
-use Rattle.planning.specs.Plans.{Boxes, editionsOf, boardsOf, stateBy}
+use Rattle.planning.specs.Plans.{Boxes, editionsOf, areBoth, lent, boardsOf, stateBy}
 use Rattle.planning.specs.Demands.{Among, WithDeal, Tabled, Some, slipHere}
 use Rattle.planning.proofs.AnswerLaws.{solve-sum}
 use Rattle.planning.proofs.CardLaws.{CardsHanded}
@@ -31,16 +31,19 @@ use Rattle.planning.proofs.SlipLaws.{slips-count}
 use Rattle.writer.specs.declared.finish.Finishing.{Finishing}
 use Rattle.writer.specs.declared.finish.Finishing.the-variants.{Finished, Refused}
 use Rattle.writer.specs.declared.finish.FinishRefusal.the-variants.{Edition, Answers, Impossible, PageFull}
+use Rattle.writer.specs.Pages.{writtenText}
+use Rattle.writer.specs.Writings.{writingOf}
 use Rattle.writer.specs.Given.{tablesOf, finishedText}
 use Rattle.writer.specs.Finishings.{firstAbove, finishingOf}
-use Rattle.golavimes.specs.Answers.{stateNumbers, finishingNumbers, PlanOut, FinishOut}
+use Rattle.golavimes.specs.Answers.{stateNumbers, writingNumbers, finishingNumbers, WritingOut, PlanOut, FinishOut}
 use Rattle.demands.specs.Demand1.{solveIn, Begins, refusal}
-use Rattle.demands.specs.Demand3.{IsTaken, FinishedAt, finishedPart, FinishedRight, FinishedWhenAnswered, NothingLeft, NeverTwice}
+use Rattle.demands.specs.Demand3.{IsTaken, FinishedAt, finishedPart, FinishedRight, FinishedWhenAnswered, NothingLeft, NeverTwice, WrittenWhenNoneWanted}
 use Rattle.demands.specs.Finished.{Answered, noTable, FinishedEdition}
 use Rattle.demands.proofs.Listed.{told, all-listed, no-solve}
 use Rattle.demands.proofs.Listing.{read-number, promised, planned-when-taken, listed-exactly}
+use Rattle.demands.proofs.Handed.{writing-zero}
 use Rattle.demands.proofs.ReadAlike.{cards-handed}
-use Rattle.demands.proofs.FinishedBack.{finished-back}
+use Rattle.demands.proofs.FinishedBack.{finished-back, none-wanted}
 use Rattle.demands.proofs.FinishRefusing.{finish-refuses, is-done}
 use Rattle.demands.proofs.FinishedTables.{whole-kind, own-cells, blank-has, blank-kind, blank-cells, cells-from}
 
@@ -100,13 +103,14 @@ none-above (b ∷ bs) e =
     (λ t. let z = rw t at e in absurd (omega arith))
     (λ t. let z = rw t at e in rw (le-leb b 13 (ltb-false 13 b t)) (none-above bs (omega arith)))
 
--- The answers were let through, and the finished edition is its text.
-record Done (c : Conventions) (old new answers page′ answer′ : List ℕ) : Type 0 where
+-- Both editions were taken, the answers were let through, and the finished edition is its text.
+record Done (c : Conventions) (old new : List ℕ) (boxes : Boxes) (answers page′ answer′ : List ℕ) : Type 0 where
+  both-taken : areBoth (editionsOf c old new boxes) ≡ true
   answered : Answered c old new answers
   part : finishedPart page′ answer′ ≡ finishedText c old new answers
 
 done : (c : Conventions) (old new : List ℕ) (boxes : Boxes) (answers page : List ℕ) (boxes′ : Boxes) (page′ answer′ : List ℕ)
-    → FinishOut c old new boxes answers page boxes′ page′ answer′ 0 → Done c old new answers page′ answer′
+    → FinishOut c old new boxes answers page boxes′ page′ answer′ 0 → Done c old new boxes answers page′ answer′
 unfolding finishingOf
 done c old new boxes answers page boxes′ page′ answer′ o =
     let text = finishedText c old new answers in
@@ -116,6 +120,7 @@ done c old new boxes answers page boxes′ page′ answer′ o =
     let a : answer′ ≡ 0 ∷ 0 ∷ 0 ∷ length text ∷ [] = o .told ∙ ap finishingNumbers (d .is) in
     let p : page′ ≡ text ++ replicate (length page - length text) 0 = rw (d .is) at (o .lent-after .page-after) in
     record {
+      both-taken = d .taken;
       answered = record { twenty-each = d .twenty; possible = none-above answers (d .possible) };
       part = rw (a, p) (take-at text (replicate (length page - length text) 0) (length text) refl);
     }
@@ -242,15 +247,15 @@ lists-nothing c old new all boxes slips boxes′ slips′ answer′ r o to tn =
 
 -- ---- the theorems
 
-edition : (c : Conventions) → Accepted c → (old new answers page′ answer′ : List ℕ) → Done c old new answers page′ answer′
+edition : (c : Conventions) → Accepted c → (old new : List ℕ) (boxes : Boxes) (answers page′ answer′ : List ℕ) → Done c old new boxes answers page′ answer′
     → FinishedEdition c old new answers (finishedPart page′ answer′)
-edition c a old new answers page′ answer′ d = rw (d .part) (finished-back c a old new answers (d .answered))
+edition c a old new boxes answers page′ answer′ d = rw (d .part) (finished-back c a old new answers (d .answered))
 
 pub finished-right : FinishedRight
 finished-right c a old new boxes answers page boxes′ page′ answer′ o lent slips lent′ slips′ plan po oc oe nc ne cards entries ho hn hf =
     let d = done c old new boxes answers page boxes′ page′ answer′ o in
     let finished = finishedPart page′ answer′ in
-    let e = edition c a old new answers page′ answer′ d in
+    let e = edition c a old new boxes answers page′ answer′ d in
     let js = boardsOf c old new in
     let p = slipped c old new lent slips lent′ slips′ plan po in
     let twenty : length answers ≡ 20 * countOf 5 js = d .answered .twenty-each ∙ ap (λ (n : ℕ). 20 * n) (solve-sum js) in
@@ -267,12 +272,57 @@ pub nothing-left : NothingLeft
 nothing-left c a old new boxes answers page boxes′ page′ answer′ o other other-boxes slips other-boxes′ slips′ other-answer′ r po to tn =
     let d = done c old new boxes answers page boxes′ page′ answer′ o in
     let finished = finishedPart page′ answer′ in
-    lists-nothing c other finished (all-tables c old new answers finished (edition c a old new answers page′ answer′ d))
+    lists-nothing c other finished (all-tables c old new answers finished (edition c a old new boxes answers page′ answer′ d))
     other-boxes slips other-boxes′ slips′ other-answer′ r po to tn
 
 pub never-twice : NeverTwice
 never-twice c a old new boxes answers page boxes′ page′ answer′ o later later-boxes slips later-boxes′ slips′ later-answer′ po h s l =
     let d = done c old new boxes answers page boxes′ page′ answer′ o in
     let finished = finishedPart page′ answer′ in
-    let t = some-tabled c old new answers finished (edition c a old new answers page′ answer′ d) h s in
+    let t = some-tabled c old new answers finished (edition c a old new boxes answers page′ answer′ d) h s in
     listed-exactly c finished later later-boxes slips later-boxes′ slips′ later-answer′ po h .0 l .none-old (t .card) (t .among) (t .holds)
+
+-- ---- where no board gets a table
+
+-- golavimes_state can be asked once both editions were taken.
+asked : (e : Editions) (js : List Judged) (p : ℕ) → areBoth e ≡ true
+    → (0 ≡ getD (stateNumbers e (stateBy e js p)) 0 0) × (getD (stateNumbers e (stateBy e js p)) 3 0 ≡ stateNumber (stateAt js p))
+asked (Both m n) js p t = (refl, refl)
+asked (editions.Refused f) js p t = clash t
+
+-- What golavimes_write puts on the page.
+written-part : (c : Conventions) (text cards entries page cards′ entries′ page′ answer′ : List ℕ)
+    → WritingOut c text cards entries page cards′ entries′ page′ answer′ 0 → finishedPart page′ answer′ ≡ writtenText c text
+unfolding writingOf
+written-part c text cards entries page cards′ entries′ page′ answer′ o =
+    let bs = writtenText c text in
+    let w =
+    writing-zero bs (length page) (readingOf c text (length cards) (length entries))
+    (sym (ap (λ (l : List ℕ). getD l 0 0) (o .told)) ∙ sym (o .returned)) .1 in
+    let a : answer′ ≡ 0 ∷ 0 ∷ 0 ∷ length bs ∷ [] = o .told ∙ ap writingNumbers w in
+    let p : page′ ≡ bs ++ replicate (length page - length bs) 0 = rw w at (o .lent-after .page-after) in
+    rw (a, p) (take-at bs (replicate (length page - length bs) 0) (length bs) refl)
+
+pub written-when-none-wanted : WrittenWhenNoneWanted
+written-when-none-wanted c old new boxes answers page boxes′ page′ answer′ o cards entries w-page cards′ entries′ w-page′ w-answer′ wo h =
+    let d = done c old new boxes answers page boxes′ page′ answer′ o in
+    let e = editionsOf c old new boxes in
+    let js = boardsOf c old new in
+    let after : Boxes =
+    record {
+      old-cards = lent (areBoth e) (length (boxes .old-cards)) (cardsOf c old);
+      old-entries = lent (areBoth e) (length (boxes .old-entries)) (entriesOf c old);
+      new-cards = lent (areBoth e) (length (boxes .new-cards)) (cardsOf c new);
+      new-entries = lent (areBoth e) (length (boxes .new-entries)) (entriesOf c new);
+    } in
+    let low : (p : ℕ) → stateNumber (stateAt js p) < 2 =
+    λ p.
+    let s = asked e js p (d .both-taken) in
+    let l = h p boxes after (stateNumbers e (stateBy e js p))
+    (record {
+      told = refl;
+      boxes-after = record { old-cards = refl; old-entries = refl; new-cards = refl; new-entries = refl };
+      returned = s .0;
+    }) in
+    rw (s .1) at l in
+    d .part ∙ none-wanted c old new answers low ∙ sym (written-part c new cards entries w-page cards′ entries′ w-page′ w-answer′ wo)

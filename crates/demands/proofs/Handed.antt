@@ -20,6 +20,7 @@ use Rattle.planning.specs.declared.editions.Editions.the-variants as editions
 use Rattle.planning.specs.Plans.{Boxes, oldReading, newReading, editionsOf, areBoth, BoxesAfter}
 use Rattle.planning.proofs.BoxLaws.{taken-fits}
 use Rattle.planning.proofs.BothLaws.{both-are-taken, taken-short}
+use Rattle.writer.specs.declared.write.Writing.the-variants.{Written}
 use Rattle.writer.specs.Pages.{writtenText}
 use Rattle.writer.specs.Writings.{writtenBy, writingOf, isOut}
 use Rattle.writer.specs.Given.{finishedText}
@@ -70,8 +71,8 @@ reading-zero (Taken m n) e = refl
 reading-zero (reading.Refused f) e = absurd (read-number f e)
 
 -- A writing that begins with 0: the edition was taken, and the page was long enough.
-writing-zero : (bs : List ℕ) (m : ℕ) (r : Reading) → getD (writingNumbers (writtenBy bs m r)) 0 0 ≡ 0
-    → (isTaken r ≡ true) × (isOut (writtenBy bs m r) ≡ true)
+pub writing-zero : (bs : List ℕ) (m : ℕ) (r : Reading) → getD (writingNumbers (writtenBy bs m r)) 0 0 ≡ 0
+    → (isTaken r ≡ true) × (writtenBy bs m r ≡ Written (length bs))
 writing-zero bs m (Taken boards entries) e =
     by-cases (leb (length bs) m)
     (λ t. (refl, rw t))
@@ -139,8 +140,9 @@ write-held c text cards entries page cards′ entries′ page′ answer′ o =
     let t =
     writing-zero (writtenText c text) (length page) (readingOf c text (length cards) (length entries))
     (sym (ap (λ (l : List ℕ). getD l 0 0) (o .told)) ∙ sym (o .returned)) in
+    let out = ap isOut (t .1) in
     held c text cards′ entries′ (length cards) (length entries) (t .0)
-    (o .lent-after .cards-after ∙ rw (t .1)) (o .lent-after .entries-after ∙ rw (t .1))
+    (o .lent-after .cards-after ∙ rw out) (o .lent-after .entries-after ∙ rw out)
 
 pub handed : (c : Conventions) (text cards entries : List ℕ) → HandedBack c text cards entries → Held c text cards entries
 handed c text cards″ entries″ (by-read {cards = cards} {entries = entries} {cards′ = cards′} {entries′ = entries′} o) =

@@ -19,7 +19,7 @@ use Rattle.planning.specs.Cards.{isWhole, hasTable, cardHere}
 use Rattle.planning.specs.Plans.{Boxes}
 use Rattle.planning.specs.Demands.{WithDeal, Tabled, Some, slipHere, Holds, ListedIn, Unsolved, InFront, InBack, AllSolved, OnlyInside}
 use Rattle.writer.specs.Given.{finishedText}
-use Rattle.golavimes.specs.Answers.{EditionOut, PlanOut, StateOut, FinishOut}
+use Rattle.golavimes.specs.Answers.{EditionOut, WritingOut, PlanOut, StateOut, FinishOut}
 use Rattle.demands.specs.Demand1.{boardsIn, entriesIn, solveIn, Overlong, BoxFull, ListFull, SlipsShort, NotTwentyEach, SomeAbove, PageFull}
 use Rattle.demands.specs.Boards.{HandedBack, Board, recordStart, boardHere, ReadAlike}
 
@@ -133,7 +133,7 @@ InsideAlone =
 -- as many boards as the new edition. At each position it has the same whole deal, with the cells of its own table or else of the one that
 -- document 01's Finishing gives it, or no whole deal where the new edition has none."
 
--- The finished edition: the first bytes of the page as handed back, as many as answer[3] says.
+-- The finished edition, or the written one: the first bytes of the page as handed back, as many as answer[3] says.
 abbrev pub finishedPart : List ℕ → List ℕ → List ℕ
 finishedPart page answer = take (getD answer 3 0) page
 
@@ -236,3 +236,17 @@ NeverTwice =
     → (later : List ℕ) (later-boxes : Boxes) (slips : List ℕ) (later-boxes′ : Boxes) (slips′ later-answer′ : List ℕ)
     → PlanOut c (finishedPart page′ answer′) later later-boxes slips later-boxes′ slips′ later-answer′ 0
     → (h : Hands) → Some (WithDeal h) (cardsOf c new) → ListedIn h (getD later-answer′ 9 0) slips′ → ⊥
+
+-- ---- Document 01's Finishing: "the edition is then what `write_pbn` writes."
+
+-- THEOREM (proofs/Finishing.antt). Where golavimes_state answers blank (0) or own (1) for every position, so that no board gets a table, the
+-- finished edition is byte for byte what golavimes_write writes the new one as.
+abbrev pub WrittenWhenNoneWanted : Type 0
+WrittenWhenNoneWanted =
+    (c : Conventions) (old new : List ℕ) (boxes : Boxes) (answers page : List ℕ) (boxes′ : Boxes) (page′ answer′ : List ℕ)
+    → FinishOut c old new boxes answers page boxes′ page′ answer′ 0
+    → (cards entries write-page cards′ entries′ write-page′ write-answer′ : List ℕ)
+    → WritingOut c new cards entries write-page cards′ entries′ write-page′ write-answer′ 0
+    → ((p : ℕ) (state-boxes state-boxes′ : Boxes) (state-answer′ : List ℕ) → StateOut c old new state-boxes state-boxes′ p state-answer′ 0
+    → getD state-answer′ 3 0 < 2)
+    → finishedPart page′ answer′ ≡ finishedPart write-page′ write-answer′
