@@ -33,10 +33,9 @@ use Rattle.planning.proofs.BoardLaws.{judged-count}
 use Rattle.planning.proofs.StateLaws.{reach, state-reach}
 use Rattle.writer.specs.Pages.{pageText, writtenText}
 use Rattle.writer.specs.Given.{slipIndex, answerAt, cellsOf, ownTable, tableFor, tableOf, withTable, withTables, tablesOf, finishedBoards, finishedText}
-use Rattle.demands.specs.PageBack.{AllWritable, all-none, all-one, tagsAsWritten}
+use Rattle.demands.specs.PageBack.{tagsAsWritten}
 use Rattle.demands.specs.Finished.{noTable, FinishedCard, FinishedBack, NoneWanted}
-use Rattle.demands.proofs.BoardWritable.{PlainIsWritable, WritableLike}
-use Rattle.demands.proofs.WrittenTagsBack.{PageTags}
+use Rattle.demands.proofs.WrittenTagsBack.{FinishedTags}
 use Rattle.demands.proofs.TablesBack.{wholeDeal, Twenty, DealAndTable, TagsGiveBoard}
 
 -- ---- every table given has twenty cells, each at most 13
@@ -139,12 +138,6 @@ tables-count c old new answers =
 
 -- ---- boards with other tables
 
-with-writable : (c : Conventions) (ts : List TableCard) (rs : List (List ℕ)) → AllWritable (withTables ts (map (plainOf c) rs))
-unfolding withTable
-with-writable c [] rs = all-none
-with-writable c (t ∷ ts) [] = all-none
-with-writable c (t ∷ ts) (r ∷ rs) = all-one (WritableLike (PlainIsWritable c r) refl refl refl refl refl) (with-writable c ts rs)
-
 with-count : (ts : List TableCard) (bs : List PlainBoard) → length ts ≡ length bs → length (withTables ts bs) ≡ length bs
 with-count [] bs e = e
 with-count (t ∷ ts) [] e = absurd (omega arith)
@@ -225,7 +218,7 @@ finished-back c ok old new answers h =
     let ts = tablesOf c old new answers in
     let bs = withTables ts (map (plainOf c) rs) in
     let qs = recordsOf (pageText c bs) in
-    let e = PageTags c c ok bs (with-writable c ts rs) in
+    let e = FinishedTags c c ok old new answers in
     let l = tables-count c old new answers in
     let m : length qs ≡ length rs = sym (length-map qs (λ r. plainOf c r .tags)) ∙ ap length e ∙ length-map bs (tagsAsWritten c)
     ∙ with-count ts (map (plainOf c) rs) (l ∙ sym (length-map rs (plainOf c))) ∙ length-map rs (plainOf c) in

@@ -8,12 +8,15 @@ use native.Mathlib.Nat.{zero-add}
 use native.Mathlib.Omega.{arith}
 use lib.ListN.{length, getElem?}
 use Rattle.tables.specs.Text.{ascii}
+use Rattle.tables.specs.declared.letters.Conventions.{Conventions}
+use Rattle.reader.specs.declared.board.TableCard.{TableCard}
 use Rattle.reader.specs.Words.{same}
 use Rattle.reader.specs.Plain.{Remark, PlainBoard, plainOf}
 use Rattle.reader.proofs.EntryLaws.{All, none as no-more, one}
 use Rattle.reader.proofs.PlainAnchors.{Anchors, PlainAnchors}
 use Rattle.writer.specs.Tags.{WrittenTag, writtenTags}
 use Rattle.writer.specs.Remarks.{anchorOf, anchoredFrom, directivesOf, blocksOf, isLeading, isUnder, isLost, Line, tagLine, dataLine, directiveLine, blockLine, leadingLines, bodyLines, boardLines}
+use Rattle.writer.specs.Given.{withTable}
 use Rattle.writer.proofs.NamesOnce.{timesWritten, NamesOnce}
 use Rattle.demands.specs.NothingLost.{directive, block, lineOf, timesAnchored, untilTag, rankIn, NothingLost, NothingIsLost}
 use Rattle.demands.proofs.LinesWritten.{until-remark, allLines, all-tags, Each, each-at}
@@ -79,9 +82,18 @@ nothing-lost b ws reached once-each =
           (each-at front (lineOf p i x) (between ++ lineOf q j y ∷ back) (subst (Each (Ordered rk) []) e ordered)))));
     }
 
+with-any-table : (c : Conventions) (r : List ℕ) (t : TableCard) (play : List (List ℕ))
+    → NothingLost (withTable t (plainOf c r)) (boardLines c (withTable t (plainOf c r)) play)
+unfolding boardLines leadingLines bodyLines directivesOf blocksOf withTable
+with-any-table c r t play =
+    let b = withTable t (plainOf c r) in
+    nothing-lost b (writtenTags c b play) (PlainAnchors c r) (λ n h. NamesOnce c b play n h)
+
 -- THEOREM. Nothing of the editor's is lost.
 pub nothing-is-lost : NothingIsLost
-unfolding boardLines leadingLines bodyLines directivesOf blocksOf
-nothing-is-lost c r play =
-    let b = plainOf c r in
-    nothing-lost b (writtenTags c b play) (PlainAnchors c r) (λ n h. NamesOnce c b play n h)
+unfolding withTable
+nothing-is-lost =
+    record {
+      written = λ c r play. with-any-table c r (plainOf c r .table) play;
+      finished = with-any-table;
+    }

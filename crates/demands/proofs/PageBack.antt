@@ -5,12 +5,14 @@ use mathlib.Core.List.{List, [], _∷_, map}
 use lib.ListN.{length, length-map}
 use Rattle.tables.specs.declared.letters.Conventions.{Conventions}
 use Rattle.tables.specs.Letters.{Accepted}
+use Rattle.reader.specs.declared.board.TableCard.{TableCard}
 use Rattle.reader.specs.Records.{recordsOf}
 use Rattle.reader.specs.Plain.{PlainBoard, plainOf, plainBoards}
 use Rattle.writer.specs.Pages.{firstPart, pageText, writtenText}
+use Rattle.writer.specs.Given.{withTable, withTables, tablesOf, finishedBoards}
 use Rattle.demands.specs.PageBack.{AllWritable, all-none, all-one, ownText, recordsAfter, pageRecords}
 use Rattle.demands.proofs.PageWalk.{AllLined, no-boards, a-board, LinedRecords}
-use Rattle.demands.proofs.BoardWritable.{PlainIsWritable, LinesGood}
+use Rattle.demands.proofs.BoardWritable.{PlainIsWritable, WritableLike, LinesGood}
 
 all-lined : (c : Conventions) → Accepted c → (bs : List PlainBoard) → AllWritable bs → AllLined c bs
 all-lined c ok [] all-none = no-boards
@@ -33,6 +35,17 @@ page-count c (b ∷ bs) = records-count c (firstPart c b) bs
 pub all-plain : (c : Conventions) (rs : List (List ℕ)) → AllWritable (map (plainOf c) rs)
 all-plain c [] = all-none
 all-plain c (r ∷ rs) = all-one (PlainIsWritable c r) (all-plain c rs)
+
+-- With other tables.
+pub all-with : (c : Conventions) (ts : List TableCard) (rs : List (List ℕ)) → AllWritable (withTables ts (map (plainOf c) rs))
+unfolding withTable
+all-with c [] rs = all-none
+all-with c (t ∷ ts) [] = all-none
+all-with c (t ∷ ts) (r ∷ rs) = all-one (WritableLike (PlainIsWritable c r) refl refl refl refl refl) (all-with c ts rs)
+
+pub all-finished : (c : Conventions) (old new answers : List ℕ) → AllWritable (finishedBoards c old new answers)
+unfolding finishedBoards plainBoards
+all-finished c old new answers = all-with c (tablesOf c old new answers) (recordsOf new)
 
 -- THEOREM. What an edition is written as has the records of its boards' parts, as many as the edition.
 pub WrittenRecords : (c : Conventions) → Accepted c → (text : List ℕ) → recordsOf (writtenText c text) ≡ pageRecords c (plainBoards c text)

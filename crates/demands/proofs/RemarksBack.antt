@@ -24,12 +24,13 @@ use Rattle.reader.proofs.WordLaws.{and-false}
 use Rattle.writer.specs.Tags.{WrittenTag, writtenTags}
 use Rattle.writer.specs.Remarks.{Anchored, nameAt, anchorOf, anchoredFrom, directivesOf, blocksOf, those, isLeading, isLost, isUnder, wrote, Line, tagLine, dataLine, directiveLine, blockLine, directiveLines, blockLines, directivesAfter, blocksAfter, tagsLines, leadingLines, bodyLines, lineText, linesText}
 use Rattle.writer.specs.Pages.{ownPlay, bodyText, firstPart, pageText, writtenText}
+use Rattle.writer.specs.Given.{finishedBoards, finishedText}
 use Rattle.demands.specs.PageBack.{all, goodLine, isSigned, Shut, last, more, upToBrace, ReadsAs, tag, section, directive, comment, block, AllWritable, all-none, all-one, ownText, recordsAfter, tagsAsWritten, Place, placeOf, Texts, asDirectives, asBlocks, blockText, commentText, under, allUnder, underTags, lastName, readBack, remarksBack, builtInBack, pageBack}
 use Rattle.reader.proofs.LineTags.{lineTags, lineDirectives, directivesOfLines, DirectivesOfLines, blockOn, innerBlock, lineBlocks, blockAfter, blocksOfLines, BlocksOfLines}
 use Rattle.demands.proofs.LineBack.{wrong, LineBack}
 use Rattle.demands.proofs.PageWalk.{GoodLines, line-then, headerLines, header-lines, header-good}
 use Rattle.demands.proofs.BoardWritable.{LinesGood}
-use Rattle.demands.proofs.PageBack.{PageRecords, all-plain}
+use Rattle.demands.proofs.PageBack.{PageRecords, all-plain, all-finished}
 use Rattle.demands.proofs.WrittenTagsBack.{pairsIn, header-pairs, leading-pairs, body-pairs, own-tags, first-tags, Holds, alone, ended}
 
 -- ---- what written lines give
@@ -435,3 +436,16 @@ pub EditionBlocks : (c d : Conventions) → Accepted c → (text : List ℕ)
     → map (λ r. map placeOf (blocksOf (plainOf d r))) (recordsOf (writtenText c text)) ≡ pageBack asBlocks c (plainBoards c text)
 unfolding writtenText plainBoards
 EditionBlocks c d ok text = PageBlocks c d ok (plainBoards c text) (all-plain c (recordsOf text))
+
+-- What a new edition is finished as.
+pub FinishedDirectives : (c d : Conventions) → Accepted c → (old new answers : List ℕ)
+    → map (λ r. map placeOf (directivesOf (plainOf d r))) (recordsOf (finishedText c old new answers))
+    ≡ pageBack asDirectives c (finishedBoards c old new answers)
+unfolding finishedText
+FinishedDirectives c d ok old new answers = PageDirectives c d ok (finishedBoards c old new answers) (all-finished c old new answers)
+
+pub FinishedBlocks : (c d : Conventions) → Accepted c → (old new answers : List ℕ)
+    → map (λ r. map placeOf (blocksOf (plainOf d r))) (recordsOf (finishedText c old new answers))
+    ≡ pageBack asBlocks c (finishedBoards c old new answers)
+unfolding finishedText
+FinishedBlocks c d ok old new answers = PageBlocks c d ok (finishedBoards c old new answers) (all-finished c old new answers)

@@ -1,7 +1,7 @@
 -- Nothing of the editor's is lost: where the directives and the commentary blocks of a board stand among its written lines.
 --
 -- A line is a tag, a data line of its section, or a directive or block with its number among the board's, from 0. So what is counted
--- is remarks, not equal bytes. proofs/NothingLost.antt proves it of every board that is read.
+-- is remarks, not equal bytes. proofs/NothingLost.antt proves it of every board that is read, written with its own table or with another.
 use Prim.Native.Nat.{ℕ, zero, suc, _+_, _≤_, _<_}
 use mathlib.Core.Path.{_≡_}
 use mathlib.Core.Bool.{Bool, true, false, cond}
@@ -11,9 +11,11 @@ use lib.Dec.{eqb}
 use lib.ListN.{take, getElem?}
 use Rattle.tables.specs.declared.letters.Conventions.{Conventions}
 use Rattle.tables.specs.Text.{ascii}
+use Rattle.reader.specs.declared.board.TableCard.{TableCard}
 use Rattle.reader.specs.Words.{same}
 use Rattle.reader.specs.Plain.{TagPair, Remark, PlainBoard, plainOf}
 use Rattle.writer.specs.Remarks.{Line, tagLine, dataLine, directiveLine, blockLine, boardLines}
+use Rattle.writer.specs.Given.{withTable}
 
 -- ---- remarks
 
@@ -162,6 +164,9 @@ pub record NothingLost (b : PlainBoard) (ls : List Line) : Type 0 where
       → ls ≡ front ++ lineOf p i x ∷ (between ++ lineOf q j y ∷ back) → untilTag between ≡ between
       → InOrder (rankIn b ls p i) i (rankIn b ls q j) j
 
--- Of every board that is read, with any data lines for its play.
-abbrev pub NothingIsLost : Type 0
-NothingIsLost = (c : Conventions) (r : List ℕ) (play : List (List ℕ)) → NothingLost (plainOf c r) (boardLines c (plainOf c r) play)
+-- THEOREM (proofs/NothingLost.antt). Of every board that is read, with any data lines for its play: as golavimes_write writes it, and with
+-- any table that golavimes_finish gives it.
+pub record NothingIsLost : Type 0 where
+  pub written : (c : Conventions) (r : List ℕ) (play : List (List ℕ)) → NothingLost (plainOf c r) (boardLines c (plainOf c r) play)
+  pub finished : (c : Conventions) (r : List ℕ) (t : TableCard) (play : List (List ℕ))
+      → NothingLost (withTable t (plainOf c r)) (boardLines c (withTable t (plainOf c r)) play)
