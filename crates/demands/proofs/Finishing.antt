@@ -1,7 +1,7 @@
 -- The finished edition: when there is one, what it holds, that nothing is left to solve in it, and that no deal of it is listed again.
 use Prim.Native.Nat.{ℕ, suc, _+_, _-_, _*_, _<_}
 use mathlib.Core.Path.{_≡_, refl, sym, ap, _∙_}
-use mathlib.Core.Bool.{true}
+use mathlib.Core.Bool.{Bool, true}
 use mathlib.Core.List.{List, [], _∷_, _++_}
 use native.Mathlib.Omega.{arith}
 use lib.Dec.{ltb, leb}
@@ -22,7 +22,7 @@ use Rattle.planning.specs.declared.plan.Totals.{Totals}
 use Rattle.planning.specs.Cards.{isWhole, hasTable, cardHere}
 use Rattle.planning.specs.States.{Judged, stateNumber, fromOf, stateAt}
 use Rattle.planning.specs.Slips.{slipsOf, countOf, cardFrom}
-use Rattle.planning.specs.Plans.{Boxes, editionsOf, areBoth, lent, boardsOf, stateBy}
+use Rattle.planning.specs.Plans.{Boxes, editionsOf, areBoth, lent, boardsOf, BoxesAfter, stateBy}
 use Rattle.planning.specs.Demands.{Among, WithDeal, Tabled, Some, slipHere}
 use Rattle.planning.proofs.AnswerLaws.{solve-sum}
 use Rattle.planning.proofs.CardLaws.{CardsHanded}
@@ -152,7 +152,7 @@ state-told (editions.Refused (New f)) js p answer e z = absurd (read-number f (s
 
 module _ (c : Conventions) (old new answers finished : List ℕ) (e : FinishedEdition c old new answers finished) where
   -- A whole board has a table.
-  has-table : (k : ℕ) → k < length (cardsOf c new) → isWhole (cardFrom (cardsOf c new) k) ≡ true
+  pub has-table : (k : ℕ) → k < length (cardsOf c new) → isWhole (cardFrom (cardsOf c new) k) ≡ true
       → hasTable (cardFrom (cardsOf c finished) k) ≡ true
   has-table k l w =
       let t = getD (tablesOf c old new answers) k noTable in
@@ -284,6 +284,20 @@ never-twice c a old new boxes answers page boxes′ page′ answer′ o later la
 
 -- ---- where no board gets a table
 
+-- The boxes that are handed back.
+abbrev pub boxesAfter : Conventions → Bool → List ℕ → List ℕ → Boxes → Boxes
+boxesAfter c well old new boxes =
+    record {
+      old-cards = lent well (length (boxes .old-cards)) (cardsOf c old);
+      old-entries = lent well (length (boxes .old-entries)) (entriesOf c old);
+      new-cards = lent well (length (boxes .new-cards)) (cardsOf c new);
+      new-entries = lent well (length (boxes .new-entries)) (entriesOf c new);
+    }
+
+pub boxes-are : (c : Conventions) (well : Bool) (old new : List ℕ) (boxes : Boxes)
+    → BoxesAfter c well old new boxes (boxesAfter c well old new boxes)
+boxes-are c well old new boxes = record { old-cards = refl; old-entries = refl; new-cards = refl; new-entries = refl }
+
 -- golavimes_state can be asked once both editions were taken.
 asked : (e : Editions) (js : List Judged) (p : ℕ) → areBoth e ≡ true
     → (0 ≡ getD (stateNumbers e (stateBy e js p)) 0 0) × (getD (stateNumbers e (stateBy e js p)) 3 0 ≡ stateNumber (stateAt js p))
@@ -308,21 +322,10 @@ written-when-none-wanted c old new boxes answers page boxes′ page′ answer′
     let d = done c old new boxes answers page boxes′ page′ answer′ o in
     let e = editionsOf c old new boxes in
     let js = boardsOf c old new in
-    let after : Boxes =
-    record {
-      old-cards = lent (areBoth e) (length (boxes .old-cards)) (cardsOf c old);
-      old-entries = lent (areBoth e) (length (boxes .old-entries)) (entriesOf c old);
-      new-cards = lent (areBoth e) (length (boxes .new-cards)) (cardsOf c new);
-      new-entries = lent (areBoth e) (length (boxes .new-entries)) (entriesOf c new);
-    } in
     let low : (p : ℕ) → stateNumber (stateAt js p) < 2 =
     λ p.
     let s = asked e js p (d .both-taken) in
-    let l = h p boxes after (stateNumbers e (stateBy e js p))
-    (record {
-      told = refl;
-      boxes-after = record { old-cards = refl; old-entries = refl; new-cards = refl; new-entries = refl };
-      returned = s .0;
-    }) in
+    let l = h p boxes (boxesAfter c (areBoth e) old new boxes) (stateNumbers e (stateBy e js p))
+    (record { told = refl; boxes-after = boxes-are c (areBoth e) old new boxes; returned = s .0 }) in
     rw (s .1) at l in
     d .part ∙ none-wanted c old new answers low ∙ sym (written-part c new cards entries w-page cards′ entries′ w-page′ w-answer′ wo)

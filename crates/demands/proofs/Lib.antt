@@ -33,5 +33,6 @@ pub mod TotalsAdd
 pub mod TrimmedDirectives
 pub mod Worked
 pub mod WorkedCards
+pub mod WorkedFinished
 pub mod WriteRefusing
 pub mod WrittenTagsBack

@@ -1,11 +1,11 @@
 -- A worked pair of editions that meets every premise of demand 3: both are read, slips are enough, they are alike but for a stretch, each
--- whole deal of the old one has a table on some old board, solved deals stand in the front and in the back, one deal is listed, and it is
--- answered.
-use Prim.Native.Nat.{ℕ}
+-- whole deal of the old one has a table on some old board, solved deals stand in the front and in the back, one deal is listed, it is
+-- answered, the finished edition is written and itself read, and it is planned against the old one.
+use Prim.Native.Nat.{ℕ, _*_}
 use mathlib.Core.Path.{_≡_}
 use mathlib.Core.Bool.{true}
 use mathlib.Core.List.{List, [], _∷_, _++_, map}
-use lib.ListN.{getD, replicate}
+use lib.ListN.{length, getD, replicate}
 use Rattle.tables.specs.Text.{ascii}
 use Rattle.tables.specs.Letters.{builtIn}
 use Rattle.reader.specs.declared.deal.Hands.{Hands}
@@ -13,8 +13,10 @@ use Rattle.reader.specs.Records.{AlikeBut}
 use Rattle.reader.specs.Editions.{cardsOf, entriesOf}
 use Rattle.planning.specs.Plans.{Boxes, lent}
 use Rattle.planning.specs.Demands.{Tabled, Some, ListedIn, InFront, InBack, AllSolved}
-use Rattle.writer.specs.Given.{tablesOf}
-use Rattle.golavimes.specs.Answers.{PlanOut}
+use Rattle.writer.specs.Given.{tablesOf, finishedText}
+use Rattle.golavimes.specs.Answers.{EditionOut, PlanOut, FinishOut}
+use Rattle.demands.specs.Demand1.{entriesIn}
+use Rattle.demands.specs.Demand3.{IsTaken, finishedPart}
 use Rattle.demands.specs.Finished.{Answered}
 
 -- The front: the deal a (N has the spades, E the hearts, S the diamonds, W the clubs) with a table. The back: the deal d, turned from S, with a
@@ -93,3 +95,51 @@ ladder = 0 ∷ 1 ∷ 2 ∷ 3 ∷ 4 ∷ 5 ∷ 6 ∷ 7 ∷ 8 ∷ 9 ∷ 10 ∷ 11 �
 pub record WorkedAnswers : Type 0 where
   pub answered : Answered builtIn old new answers
   pub cells-given : map (λ t. t .cells) (tablesOf builtIn old new answers) ≡ replicate 20 0 ∷ answers ∷ ladder ∷ []
+
+-- ---- the finished edition, on a page that is just long enough
+
+abbrev pub finished : List ℕ
+finished = finishedText builtIn old new answers
+
+abbrev pub page : List ℕ
+page = replicate (length finished) 0
+
+-- What golavimes_finish answers: no refusal; the bytes written. The boxes are as planning leaves them.
+abbrev pub finish-answer′ : List ℕ
+finish-answer′ = 0 ∷ 0 ∷ 0 ∷ length finished ∷ []
+
+-- Three cards are lent for it, and as many entries as it has.
+abbrev pub cards : List ℕ
+cards = replicate 192 0
+
+abbrev pub entries : List ℕ
+entries = replicate (4 * entriesIn builtIn finished) 0
+
+-- What golavimes_read hands back.
+abbrev pub cards′ : List ℕ
+cards′ = lent true 192 (cardsOf builtIn finished)
+
+abbrev pub entries′ : List ℕ
+entries′ = lent true (4 * entriesIn builtIn finished) (entriesOf builtIn finished)
+
+abbrev pub read-answer′ : List ℕ
+read-answer′ = 0 ∷ 0 ∷ 0 ∷ 3 ∷ entriesIn builtIn finished ∷ []
+
+-- It is planned against the old edition, no slip being lent: three boards, each with a table of its own.
+abbrev pub again : Boxes
+again = record { old-cards = boxes .old-cards; old-entries = boxes .old-entries; new-cards = cards; new-entries = entries }
+
+abbrev pub again′ : Boxes
+again′ = record { old-cards = boxes′ .old-cards; old-entries = boxes′ .old-entries; new-cards = cards′; new-entries = entries′ }
+
+abbrev pub again-answer′ : List ℕ
+again-answer′ = 0 ∷ 0 ∷ 0 ∷ 3 ∷ 0 ∷ 3 ∷ 0 ∷ 0 ∷ 0 ∷ 0 ∷ []
+
+-- THEOREM (proofs/WorkedFinished.antt). The premises of FinishedRight and NothingLeft are met, as WorkedPair has the plan.
+pub record WorkedFinished : Type 0 where
+  pub finish : FinishOut builtIn old new boxes answers page boxes′ finished finish-answer′ 0
+  pub part : finishedPart finished finish-answer′ ≡ finished
+  pub read : EditionOut builtIn finished cards entries cards′ entries′ read-answer′ 0
+  pub plan-again : PlanOut builtIn old finished again [] again′ [] again-answer′ 0
+  pub old-taken : IsTaken builtIn old (again .old-cards) (again .old-entries)
+  pub finished-taken : IsTaken builtIn finished (again .new-cards) (again .new-entries)
