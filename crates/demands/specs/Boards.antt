@@ -24,8 +24,8 @@ pub data BothBack (c : Conventions) (old new : List ℕ) : Boxes → Type 0 wher
   by-finish : {boxes : Boxes} {answers page : List ℕ} {boxes′ : Boxes} {page′ answer′ : List ℕ}
       → FinishOut c old new boxes answers page boxes′ page′ answer′ 0 → BothBack c old new boxes′
 
--- The words lent for a text's cards and entries, once golavimes_read or golavimes_write has read it and returned 0, or one of those has as
--- its old or its new edition.
+-- The words lent for a text's cards and entries, once golavimes_read or golavimes_write has read it and returned 0, or one of the functions
+-- of `BothBack` has as its old or its new edition.
 pub data HandedBack (c : Conventions) (text : List ℕ) : List ℕ → List ℕ → Type 0 where
   by-read : {cards entries cards′ entries′ answer′ : List ℕ} → EditionOut c text cards entries cards′ entries′ answer′ 0 → HandedBack c text cards′ entries′
   by-write : {cards entries page cards′ entries′ page′ answer′ : List ℕ}

@@ -32,8 +32,8 @@ use Rattle.golavimes.specs.Answers.{WroteOut, ReadOut, EditionOut, WritingOut, 
 
 -- ---- refusals, the first whose condition holds
 
--- A refusal as one function gives it: its number, the edition that it is about (1 old, 2 new, 0 where there are not two), the number that
--- it carries, and when it is given.
+-- A refusal as one function gives it: its number, the edition that it is about (1 old, 2 new, 0 where it is about neither), the number
+-- that it carries, and when it is given.
 pub record Refusal : Type 1 where
   pub number : ℕ
   pub edition : ℕ
@@ -111,11 +111,11 @@ SlipsShort c old new slips = length slips / 5 < solveIn c old new
 abbrev pub NotTwentyEach : Conventions → List ℕ → List ℕ → List ℕ → Type 0
 NotTwentyEach c old new answers = length answers ≡ 20 * solveIn c old new → ⊥
 
--- The bytes before the first that is above 13: its index. All bytes, where none is.
+-- The bytes before the first above 13; their number is its index. All bytes, where none is.
 abbrev pub possible : List ℕ → List ℕ
 possible answers = front (λ b. not (ltb 13 b)) answers
 
--- 6 impossible: a byte above 13 stands behind the others.
+-- 6 impossible: some byte is above 13, so those before the first such byte are not all.
 abbrev pub SomeAbove : List ℕ → Type 0
 SomeAbove answers = length (possible answers) < length answers
 

@@ -1,9 +1,9 @@
 -- Demand 3, sentence by sentence, in the user's order. A deal is four hands; a board has it if it is whole (word 9 is 1, 13 cards in each
 -- hand) and its hands are these (`WithDeal`); it carries a table if word 38 is not 0 (`Tabled`: both). A board's card is the one that the
 -- definitions read from its edition's text (`cardsOf`), and is what the lent words hold (`CardsHanded`, below). A deal is listed if one of
--- the slips handed back, answer[9] of them, holds its four hands (`ListedIn`). The statements hold for every set of letters c; the C
--- functions read with the built-in ones. The file of proofs/ that proves each is named beside it; proofs/Worked.antt has a pair of
--- editions that meets every premise.
+-- the slips handed back, answer[9] of them, holds its four hands (`ListedIn`). The statements hold for every set of letters c, those on the
+-- finished edition for every set that is allowed (`Accepted`), as the built-in ones are; the C functions read with the built-in ones. The
+-- file of proofs/ that proves each is named beside it; specs/Worked.antt has a pair of editions that meets every premise.
 use Prim.Native.Nat.{ℕ, _+_, _-_, _*_, _≤_, _<_}
 use mathlib.Core.Path.{_≡_}
 use mathlib.Core.Logic.{_↔_}
@@ -141,13 +141,14 @@ finishedPart page answer = take (getD answer 3 0) page
 abbrev pub cells : List ℕ → List ℕ
 cells card = take 20 (drop 18 card)
 
--- The source board, number from from 1 of the cards handed back for its edition, has the deal h and a table, and the cells are its.
+-- The source board has the deal h and a table, and the cells are its. Its number is from, counted from 1; cards are those of its edition
+-- as handed back.
 pub record SourceOf (h : Hands) (cards : List ℕ) (from : ℕ) (table : List ℕ) : Type 0 where
   pub from-one : 1 ≤ from
   pub tabled : Tabled h (cardHere (from - 1) cards)
   pub cells-are : table ≡ cells (cardHere (from - 1) cards)
 
--- A slip, one of those listed, holds the hands h; the cells are the answers for that slip, 20 bytes, in cell order.
+-- A slip, one of the first listed ones, holds the hands h; the cells are the answers for that slip, 20 bytes, in cell order.
 pub record AnswersOf (h : Hands) (listed : ℕ) (slips answers table : List ℕ) : Type 0 where
   pub slip : ℕ
   pub below : slip < listed
@@ -156,7 +157,7 @@ pub record AnswersOf (h : Hands) (listed : ℕ) (slips answers table : List ℕ)
 
 -- Where the cells of a finished board with the deal h come from, by what golavimes_state answers for its position, state and source board
 -- from 1: its own (1, card is the board of the new edition), the old source's (2), the new source's (3); for twin (4) and solve (5) the
--- answers for the slip that holds its hands. So many slips are listed.
+-- answers for the slip that holds its hands. The slips handed back are the first listed ones.
 pub data CellsFrom (h : Hands) (card old-cards new-cards : List ℕ) (listed : ℕ) (slips answers : List ℕ) (state from : ℕ) (table : List ℕ) : Type 0 where
   own : state ≡ 1 → table ≡ cells card → CellsFrom h card old-cards new-cards listed slips answers state from table
   old : state ≡ 2 → SourceOf h old-cards from table → CellsFrom h card old-cards new-cards listed slips answers state from table
