@@ -54,13 +54,13 @@ returns-2 : tie.Need-returns-2
 returns-2 c = rw (c .before .enum-told2 .given .1) (c .cells-at2 .ensures)
 
 returns-3 : tie.Need-returns-3
-returns-3 c = rw (c .before .before .before .s .given .1, ← c .before .less .ensures .0) (c .cells-at3 .ensures)
+returns-3 c = rw (c .before .before .before .s .given .1) (rw (c .before .less .ensures .0) at (c .cells-at3 .ensures))
 
 returns-4 : tie.Need-returns-4
-returns-4 c = rw (c .before .before .before .s2 .given .1, ← c .before .less2 .ensures .0) (c .cells-at4 .ensures)
+returns-4 c = rw (c .before .before .before .s2 .given .1) (rw (c .before .less2 .ensures .0) at (c .cells-at4 .ensures))
 
 returns-5 : tie.Need-returns-5
-returns-5 c = rw (c .before .before .before .s3 .given .1, ← c .before .less3 .ensures .0) (c .cells-at5 .ensures)
+returns-5 c = rw (c .before .before .before .s3 .given .1) (rw (c .before .less3 .ensures .0) at (c .cells-at5 .ensures))
 
 returns-6 : tie.Need-returns-6
 returns-6 c = rw (c .before .enum-told3 .given .1) (c .answer-cells .ensures)
