@@ -193,6 +193,24 @@ fn fresh_answer<const N: usize>(answer: &mut [u64; N]) -> &mut [MaybeUninit<u64>
     unsafe { &mut *(answer as *mut [u64; N]).cast() }
 }
 
+/// Calls a function over one edition: its text, the two boxes, then what is its own.
+macro_rules! call_over_edition {
+    ($function:ident, $text:expr, $cards:expr, $entries:expr, $($own:expr),*) => {
+        // SAFETY: as in dd_table_to_pbn; the function writes before it reads.
+        unsafe {
+            c::$function(
+                $text.as_ptr(),
+                $text.len(),
+                $cards.as_mut_ptr().cast(),
+                $cards.len(),
+                $entries.as_mut_ptr().cast(),
+                $entries.len(),
+                $($own),*
+            )
+        }
+    };
+}
+
 /// Reads an edition. A card is 64 words, an entry 4.
 pub fn read(text: &[u8], cards: &mut [u32], entries: &mut [u32], answer: &mut [u64; 5]) -> u64 {
     read_fresh(text, fresh(cards), fresh(entries), fresh_answer(answer))
@@ -206,18 +224,13 @@ pub fn read_fresh(
     entries: &mut [MaybeUninit<u32>],
     answer: &mut [MaybeUninit<u64>; 5],
 ) -> u64 {
-    // SAFETY: as in dd_table_to_pbn; the function writes before it reads.
-    unsafe {
-        c::golavimes_read(
-            text.as_ptr(),
-            text.len(),
-            cards.as_mut_ptr().cast(),
-            cards.len(),
-            entries.as_mut_ptr().cast(),
-            entries.len(),
-            answer.as_mut_ptr().cast(),
-        )
-    }
+    call_over_edition!(
+        golavimes_read,
+        text,
+        cards,
+        entries,
+        answer.as_mut_ptr().cast()
+    )
 }
 
 /// The texts of two editions.
@@ -252,7 +265,7 @@ impl<'a, Word> Boxes<'a, Word> {
 /// own.
 macro_rules! call_over_editions {
     ($function:ident, $editions:expr, $boxes:expr, $($own:expr),*) => {
-        // SAFETY: as in dd_table_to_pbn.
+        // SAFETY: as in call_over_edition.
         unsafe {
             c::$function(
                 $editions.old.as_ptr(),
@@ -351,20 +364,15 @@ pub fn write_fresh(
     page: &mut [MaybeUninit<u8>],
     answer: &mut [MaybeUninit<u64>; 4],
 ) -> u64 {
-    // SAFETY: as in read_fresh.
-    unsafe {
-        c::golavimes_write(
-            text.as_ptr(),
-            text.len(),
-            cards.as_mut_ptr().cast(),
-            cards.len(),
-            entries.as_mut_ptr().cast(),
-            entries.len(),
-            page.as_mut_ptr().cast(),
-            page.len(),
-            answer.as_mut_ptr().cast(),
-        )
-    }
+    call_over_edition!(
+        golavimes_write,
+        text,
+        cards,
+        entries,
+        page.as_mut_ptr().cast(),
+        page.len(),
+        answer.as_mut_ptr().cast()
+    )
 }
 
 /// Reads both editions and writes the new one, each whole board with a table. The
