@@ -21,7 +21,9 @@
  *   - reads only what it is lent to read and what it has written itself, writes
  *     only what it is lent to be written, and all of that, whatever stood there
  *     before;
- *   - allocates nothing, keeps nothing between calls and has no global state.
+ *   - allocates nothing, keeps nothing between calls and has no global state. It
+ *     needs about 6 KiB of stack (measured; lend 16), whatever it is given, since
+ *     no function calls itself.
  *     Calls that write different memory may run on several threads at once; they
  *     may read the same texts.
  *
