@@ -17,6 +17,7 @@ use Rattle.reader.specs.declared.tag.Split.{Split}
 use Rattle.reader.specs.declared.tag.Split.the-variants.{Data as DataTag, NoData}
 use Rattle.reader.specs.Tag.{tagLine, splitOf}
 use Rattle.reader.specs.Lines.{isBlank, hasBrace, splitAs, splitLine, bracketAs, bracketLine, kindBy, lineKind}
+use Rattle.reader.specs.LineWalk.{lineAt}
 use Rattle.reader.specs.Pieces.{rawLines}
 use Rattle.reader.specs.Sections.{opensNote, noteAfter}
 use Rattle.reader.proofs.TagLaws.{byte-front}
@@ -75,7 +76,7 @@ taken-len zero s = refl
 taken-len (suc k) [] = refl
 taken-len (suc k) (b ∷ bs) = ap (λ (l : List ℕ). b ∷ l) (taken-len k bs)
 
-pub line-at : (text : List ℕ) (e : ℕ) (l : List ℕ) → e < length text → l ≡ take (length (before 10 (drop e text)) + 1) (drop e text) → LineAt text e l
+pub line-at : (text : List ℕ) (e : ℕ) (l : List ℕ) → e < length text → l ≡ lineAt text e → LineAt text e l
 line-at text e l h q =
     let k : ℕ = length (before 10 (drop e text)) + 1 in
     let s : List ℕ = drop e text in

@@ -5,6 +5,7 @@ pub mod Words
 pub mod Names
 pub mod Deals
 pub mod Pieces
+pub mod LineWalk
 pub mod Auction
 pub mod Play
 pub mod Sections

@@ -34,11 +34,11 @@ use crate::store::Entry;
 use crate::store::put_entry;
 use crate::tag::Span;
 use crate::tag::Tag;
+use crate::walk::line_at;
 use tables::dd::Decoded;
 use tables::dd::gathered_table;
 use tables::letters::Conventions;
 use tables::text::from;
-use tables::text::index_of;
 use tables::text::lead_len;
 use tables::text::upto;
 
@@ -550,8 +550,7 @@ pub fn read_board(c: Conventions, r: &[u8], a: usize, base: usize, entries: &mut
     let mut s = no_state();
     let mut p = 0;
     while p < r.len() {
-        let rest = from(r, p);
-        let l = upto(rest, index_of(rest, 10) + 1);
+        let l = line_at(r, p);
         match kind_in(s.noting, l) {
             Line::Data(d) => {
                 let o = s.section;

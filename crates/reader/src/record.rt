@@ -6,9 +6,7 @@ ghost use Rattle.reader.specs.Records.{fresh, scanned, closesRecord, End
 use crate::line::is_blank;
 use crate::line::opens_board;
 use crate::section::note_after;
-use tables::text::from;
-use tables::text::index_of;
-use tables::text::upto;
+use crate::walk::line_at;
 
 // Whether commentary is open, and whether a tag was met since the record's start.
 pub struct Scan {
@@ -62,8 +60,7 @@ pub fn record_end(text: &[u8], a: usize) -> RecordEnd
     };
     let mut e = a;
     while e < text.len() {
-        let rest = from(text, e);
-        let l = upto(rest, index_of(rest, 10) + 1);
+        let l = line_at(text, e);
         e += l.len();
         if closes_record(s, l) {
             return RecordEnd { end: e, met: true };

@@ -16,6 +16,7 @@ use crate::play::Tricks;
 use crate::play::no_tricks;
 use crate::play::play_piece;
 use crate::tag::Span;
+use crate::walk::line_at;
 use tables::dd::Cells;
 use tables::dd::Row;
 use tables::dd::no_cells;
@@ -24,7 +25,6 @@ use tables::dd::stored_row;
 use tables::letters::Conventions;
 use tables::text::byte_at;
 use tables::text::from;
-use tables::text::index_of;
 use tables::text::lead_len;
 use tables::text::upto;
 
@@ -109,8 +109,7 @@ fn next_piece(r: &[u8], at: usize) -> Next
     let mut noting = false;
     let mut e = at;
     while e < r.len() {
-        let rest = from(r, e);
-        let l = upto(rest, index_of(rest, 10) + 1);
+        let l = line_at(r, e);
         match visit_line(noting, l) {
             Visit::Stop => return no_piece(e),
             Visit::Pass => {

@@ -24,9 +24,6 @@ use Rattle.reader.proofs.reading.no_state.Reads as no-state-reads
 use Rattle.reader.proofs.reading.put_data.Reads as put-data-reads
 use Rattle.reader.proofs.reading.quiet_line.Reads as quiet-line-reads
 use Rattle.reader.proofs.reading.tag_line.Reads as tag-line-reads
-use Rattle.tables.proofs.text.from.Reads as from-reads
-use Rattle.tables.proofs.text.index_of.Reads as index-of-reads
-use Rattle.tables.proofs.text.upto.Reads as upto-reads
 
 abbrev Inv-loop : tie.InvT-loop
 Inv-loop c r a base entries₀ s₀ p₀ entries s p = LinesLeft c r a base entries₀ entries s p
@@ -35,11 +32,9 @@ abbrev μ-loop : tie.MeasureT-loop
 μ-loop c r a base entries₀ s₀ p₀ entries s p = length r - p
 
 line-of :
-    (c : tie.After-upto Inv-loop μ-loop) →
-    LineAt (now (c .before .before .before .before .before .before .before .before .args .r)) (c .before .before .before .before .loop .p) (now (c .upto .result))
-line-of c =
-    let k = c .before .before .before in
-    line-at (now (k .before .before .before .before .before .args .r)) (k .before .loop .p) (now (c .upto .result)) (k .loop-test .taken) (rw (← c .before .before .from .ensures, ← c .before .index-of .ensures .0) (c .upto .ensures))
+    (c : tie.After-line-at Inv-loop μ-loop) →
+    LineAt (now (c .before .before .before .before .before .before .args .r)) (c .before .before .loop .p) (now (c .line-at .result))
+line-of c = line-at (now (c .before .before .before .before .before .before .args .r)) (c .before .before .loop .p) (now (c .line-at .result)) (c .before .loop-test .taken) (c .line-at .ensures)
 
 no-state-requires : tie.Need-no-state-requires Inv-loop μ-loop
 no-state-requires c κs = search needs
@@ -47,17 +42,8 @@ no-state-requires c κs = search needs
 loop-holds : tie.Need-loop-holds Inv-loop μ-loop
 loop-holds c = lines-start _ _ _ _ _ _ (c .no-state .ensures)
 
-from-requires : tie.Need-from-requires Inv-loop μ-loop
-from-requires c κs = search needs
-
-index-of-requires : tie.Need-index-of-requires Inv-loop μ-loop
-index-of-requires c κs = search needs
-
-add-upto : tie.Need-add-upto Inv-loop μ-loop
-add-upto c = search needs
-
-upto-requires : tie.Need-upto-requires Inv-loop μ-loop
-upto-requires c κs = search needs
+line-at-requires : tie.Need-line-at-requires Inv-loop μ-loop
+line-at-requires c κs = search needs
 
 kind-in-requires : tie.Need-kind-in-requires Inv-loop μ-loop
 kind-in-requires c κs = search needs
@@ -66,21 +52,21 @@ enum-known-d : tie.Need-enum-known-d Inv-loop μ-loop
 enum-known-d c = search needs
 
 add-put-data : tie.Need-add-put-data Inv-loop μ-loop
-add-put-data c = omega (arith, c .before .before .before .before .before .before .before .before .before .before .loop .inv .few, c .before .before .before .before .before .before .before .before .before .before .loop .inv .inside, c .before .before .before .before .before .before .before .before .before .before .before .before .before .before .pre .0, c .before .before .before .before .before .before .before .before .before .before .before .before .before .before .pre .1)
+add-put-data c = omega (arith, c .before .before .before .before .before .before .before .before .loop .inv .few, c .before .before .before .before .before .before .before .before .loop .inv .inside, c .before .before .before .before .before .before .before .before .before .before .before .before .pre .0, c .before .before .before .before .before .before .before .before .before .before .before .before .pre .1)
 
 put-data-requires : tie.Need-put-data-requires Inv-loop μ-loop
 put-data-requires c κs =
     let x = line-of (c .before .before .before .before .before .before .before) in
     let k = rw (c .before .before .before .before .d .given .1) at (c .before .before .before .before .before .before .kind-in .ensures .1) in
-    omega (arith, x .inside, c .before .before .before .before .before .before .before .before .before .before .before .before .before .before .before .pre .0, k)
+    omega (arith, x .inside, c .before .before .before .before .before .before .before .before .before .before .before .before .before .pre .0, k)
 
 add-s : tie.Need-add-s Inv-loop μ-loop
-add-s c = omega (arith, c .before .before .before .put-data .ensures .1, c .before .before .before .before .before .before .before .before .before .before .before .before .before .before .before .loop .inv .few, c .before .before .before .before .before .before .before .before .before .before .before .before .before .before .before .loop .inv .inside, c .before .before .before .before .before .before .before .before .before .before .before .before .before .before .before .before .before .before .before .pre .0)
+add-s c = omega (arith, c .before .before .before .put-data .ensures .1, c .before .before .before .before .before .before .before .before .before .before .before .before .before .loop .inv .few, c .before .before .before .before .before .before .before .before .before .before .before .before .before .loop .inv .inside, c .before .before .before .before .before .before .before .before .before .before .before .before .before .before .before .before .before .pre .0)
 
 add-p : tie.Need-add-p Inv-loop μ-loop
 add-p c =
     let x = line-of (c .before .before .before .before .before .before .before .before .before .before .before) in
-    omega (arith, x .inside, c .before .before .before .before .before .before .before .before .before .before .before .before .before .before .before .before .before .before .before .pre .0)
+    omega (arith, x .inside, c .before .before .before .before .before .before .before .before .before .before .before .before .before .before .before .before .before .pre .0)
 
 loop-less : tie.Need-loop-less Inv-loop μ-loop
 loop-less c =
@@ -89,27 +75,27 @@ loop-less c =
 
 loop-again : tie.Need-loop-again Inv-loop μ-loop
 loop-again c =
-    let a = c .before .before .before .before .before .before .before .before .before .before .before .before .before .before .before .before .before .before .before .args in
-    let v = c .before .before .before .before .before .before .before .before .before .before .before .before .before .before .before .loop in
+    let a = c .before .before .before .before .before .before .before .before .before .before .before .before .before .before .before .before .before .args in
+    let v = c .before .before .before .before .before .before .before .before .before .before .before .before .before .loop in
     let x = line-of (c .before .before .before .before .before .before .before .before .before .before .before) in
     let k = kind-data (c .before .before .before .before .before .before .before .before .before .before .kind-in .ensures .0) (c .before .before .before .before .before .before .before .before .d .given .1) in
     lines-next (v .inv) _ x _ _
-    (line-dated (a .c) (now (a .r)) (v .s) (v .p) (now (c .before .before .before .before .before .before .before .before .before .before .before .upto .result)) (a .a) _ _ (v .inv .sound) (omega arith) _ (k .0) (k .1) (record { answer = ap (countedState (v .s)) (c .before .before .before .put-data .ensures .0 .answer); words = c .before .before .before .put-data .ensures .0 .words }))
-    (omega (arith, c .before .before .before .before .before .before .before .before .before .before .before .before .before .before .before .before .before .before .before .pre .0)) (search needs)
+    (line-dated (a .c) (now (a .r)) (v .s) (v .p) (now (c .before .before .before .before .before .before .before .before .before .before .before .line-at .result)) (a .a) _ _ (v .inv .sound) (omega arith) _ (k .0) (k .1) (record { answer = ap (countedState (v .s)) (c .before .before .before .put-data .ensures .0 .answer); words = c .before .before .before .put-data .ensures .0 .words }))
+    (omega (arith, c .before .before .before .before .before .before .before .before .before .before .before .before .before .before .before .before .before .pre .0)) (search needs)
 
 enum-known-t : tie.Need-enum-known-t Inv-loop μ-loop
 enum-known-t c = search needs
 
 tag-line-requires : tie.Need-tag-line-requires Inv-loop μ-loop
 tag-line-requires c κs =
-    let v = c .before .before .before .before .before .before .before .before .before .loop .inv in
+    let v = c .before .before .before .before .before .before .before .loop .inv in
     let x = line-of (c .before .before .before .before .before) in
-    (c .before .before .before .before .before .before .before .before .before .before .before .before .before .pre .0, x .inside, omega (arith, v .few, v .inside, c .before .before .before .before .before .before .before .before .before .before .before .before .before .pre .0, c .before .before .before .before .before .before .before .before .before .before .before .before .before .pre .1), v .sound, omega (arith, v .tags-few, v .inside, c .before .before .before .before .before .before .before .before .before .before .before .before .before .pre .0), rw (c .before .before .t .given .1) at (c .before .before .before .before .kind-in .ensures .1))
+    (c .before .before .before .before .before .before .before .before .before .before .before .pre .0, x .inside, omega (arith, v .few, v .inside, c .before .before .before .before .before .before .before .before .before .before .before .pre .0, c .before .before .before .before .before .before .before .before .before .before .before .pre .1), v .sound, omega (arith, v .tags-few, v .inside, c .before .before .before .before .before .before .before .before .before .before .before .pre .0), rw (c .before .before .t .given .1) at (c .before .before .before .before .kind-in .ensures .1))
 
 add-p-2 : tie.Need-add-p-2 Inv-loop μ-loop
 add-p-2 c =
     let x = line-of (c .before .before .before .before .before .before .before .before) in
-    omega (arith, x .inside, c .before .before .before .before .before .before .before .before .before .before .before .before .before .before .before .before .pre .0)
+    omega (arith, x .inside, c .before .before .before .before .before .before .before .before .before .before .before .before .before .before .pre .0)
 
 loop-less-2 : tie.Need-loop-less-2 Inv-loop μ-loop
 loop-less-2 c =
@@ -118,28 +104,28 @@ loop-less-2 c =
 
 loop-again-2 : tie.Need-loop-again-2 Inv-loop μ-loop
 loop-again-2 c =
-    let a = c .before .before .before .before .before .before .before .before .before .before .before .before .before .before .before .before .args in
-    let v = c .before .before .before .before .before .before .before .before .before .before .before .before .loop in
+    let a = c .before .before .before .before .before .before .before .before .before .before .before .before .before .before .args in
+    let v = c .before .before .before .before .before .before .before .before .before .before .loop in
     let x = line-of (c .before .before .before .before .before .before .before .before) in
     let k = kind-tag (c .before .before .before .before .before .before .before .kind-in .ensures .0) (c .before .before .before .before .before .t .given .1) in
     lines-next (v .inv) _ x _ _
-    (line-tag (a .c) (now (a .r)) (v .s) (v .p) (now (c .before .before .before .before .before .before .before .before .upto .result)) (a .a) _ _ (v .inv .sound) (omega arith) _ (k .0) (k .1) (c .before .before .tag-line .ensures))
-    (omega (arith, c .before .before .before .before .before .before .before .before .before .before .before .before .before .before .before .before .pre .0)) (search needs)
+    (line-tag (a .c) (now (a .r)) (v .s) (v .p) (now (c .before .before .before .before .before .before .before .before .line-at .result)) (a .a) _ _ (v .inv .sound) (omega arith) _ (k .0) (k .1) (c .before .before .tag-line .ensures))
+    (omega (arith, c .before .before .before .before .before .before .before .before .before .before .before .before .before .before .pre .0)) (search needs)
 
 enum-known-d-2 : tie.Need-enum-known-d-2 Inv-loop μ-loop
 enum-known-d-2 c = search needs
 
 directive-step-requires : tie.Need-directive-step-requires Inv-loop μ-loop
 directive-step-requires c κs =
-    let v = c .before .before .before .before .before .before .before .before .before .loop .inv in
+    let v = c .before .before .before .before .before .before .before .loop .inv in
     let x = line-of (c .before .before .before .before .before) in
     let k = rw (c .before .before .d2 .given .1) at (c .before .before .before .before .kind-in .ensures .1) in
-    (omega (arith, x .inside, c .before .before .before .before .before .before .before .before .before .before .before .before .before .pre .0, k), omega (arith, v .few, v .inside, c .before .before .before .before .before .before .before .before .before .before .before .before .before .pre .0, c .before .before .before .before .before .before .before .before .before .before .before .before .before .pre .1))
+    (omega (arith, x .inside, c .before .before .before .before .before .before .before .before .before .before .before .pre .0, k), omega (arith, v .few, v .inside, c .before .before .before .before .before .before .before .before .before .before .before .pre .0, c .before .before .before .before .before .before .before .before .before .before .before .pre .1))
 
 add-p-3 : tie.Need-add-p-3 Inv-loop μ-loop
 add-p-3 c =
     let x = line-of (c .before .before .before .before .before .before .before .before) in
-    omega (arith, x .inside, c .before .before .before .before .before .before .before .before .before .before .before .before .before .before .before .before .pre .0)
+    omega (arith, x .inside, c .before .before .before .before .before .before .before .before .before .before .before .before .before .before .pre .0)
 
 loop-less-3 : tie.Need-loop-less-3 Inv-loop μ-loop
 loop-less-3 c =
@@ -148,27 +134,27 @@ loop-less-3 c =
 
 loop-again-3 : tie.Need-loop-again-3 Inv-loop μ-loop
 loop-again-3 c =
-    let a = c .before .before .before .before .before .before .before .before .before .before .before .before .before .before .before .before .args in
-    let v = c .before .before .before .before .before .before .before .before .before .before .before .before .loop in
+    let a = c .before .before .before .before .before .before .before .before .before .before .before .before .before .before .args in
+    let v = c .before .before .before .before .before .before .before .before .before .before .loop in
     let x = line-of (c .before .before .before .before .before .before .before .before) in
     let k = kind-directive (c .before .before .before .before .before .before .before .kind-in .ensures .0) (c .before .before .before .before .before .d2 .given .1) in
     lines-next (v .inv) _ x _ _
-    (line-directed (a .c) (now (a .r)) (v .s) (v .p) (now (c .before .before .before .before .before .before .before .before .upto .result)) (a .a) _ _ (v .inv .sound) (omega arith) _ (k .0) (k .1) (c .before .before .directive-step .ensures))
-    (omega (arith, c .before .before .before .before .before .before .before .before .before .before .before .before .before .before .before .before .pre .0)) (search needs)
+    (line-directed (a .c) (now (a .r)) (v .s) (v .p) (now (c .before .before .before .before .before .before .before .before .line-at .result)) (a .a) _ _ (v .inv .sound) (omega arith) _ (k .0) (k .1) (c .before .before .directive-step .ensures))
+    (omega (arith, c .before .before .before .before .before .before .before .before .before .before .before .before .before .before .pre .0)) (search needs)
 
 enum-told : tie.Need-enum-told Inv-loop μ-loop
 enum-told c = search needs
 
 brace-line-requires : tie.Need-brace-line-requires Inv-loop μ-loop
 brace-line-requires c κs =
-    let v = c .before .before .before .before .before .before .before .before .loop .inv in
+    let v = c .before .before .before .before .before .before .loop .inv in
     let x = line-of (c .before .before .before .before) in
-    (omega (arith, x .inside, c .before .before .before .before .before .before .before .before .before .before .before .before .pre .0), omega (arith, v .few, v .inside, c .before .before .before .before .before .before .before .before .before .before .before .before .pre .0, c .before .before .before .before .before .before .before .before .before .before .before .before .pre .1))
+    (omega (arith, x .inside, c .before .before .before .before .before .before .before .before .before .before .pre .0), omega (arith, v .few, v .inside, c .before .before .before .before .before .before .before .before .before .before .pre .0, c .before .before .before .before .before .before .before .before .before .before .pre .1))
 
 add-p-4 : tie.Need-add-p-4 Inv-loop μ-loop
 add-p-4 c =
     let x = line-of (c .before .before .before .before .before .before .before) in
-    omega (arith, x .inside, c .before .before .before .before .before .before .before .before .before .before .before .before .before .before .before .pre .0)
+    omega (arith, x .inside, c .before .before .before .before .before .before .before .before .before .before .before .before .before .pre .0)
 
 loop-less-4 : tie.Need-loop-less-4 Inv-loop μ-loop
 loop-less-4 c =
@@ -177,27 +163,27 @@ loop-less-4 c =
 
 loop-again-4 : tie.Need-loop-again-4 Inv-loop μ-loop
 loop-again-4 c =
-    let a = c .before .before .before .before .before .before .before .before .before .before .before .before .before .before .before .args in
-    let v = c .before .before .before .before .before .before .before .before .before .before .before .loop in
+    let a = c .before .before .before .before .before .before .before .before .before .before .before .before .before .args in
+    let v = c .before .before .before .before .before .before .before .before .before .loop in
     let x = line-of (c .before .before .before .before .before .before .before) in
     let k = kind-brace (c .before .before .before .before .before .before .kind-in .ensures .0) (c .before .before .before .before .enum-told .given .1) in
     lines-next (v .inv) _ x _ _
-    (line-braced (a .c) (now (a .r)) (v .s) (v .p) (now (c .before .before .before .before .before .before .before .upto .result)) (a .a) _ _ (v .inv .sound) (omega arith) (k .0) (k .1) (c .before .before .brace-line .ensures .0) (c .before .before .brace-line .ensures .1))
-    (omega (arith, c .before .before .before .before .before .before .before .before .before .before .before .before .before .before .before .pre .0)) (search needs)
+    (line-braced (a .c) (now (a .r)) (v .s) (v .p) (now (c .before .before .before .before .before .before .before .line-at .result)) (a .a) _ _ (v .inv .sound) (omega arith) (k .0) (k .1) (c .before .before .brace-line .ensures .0) (c .before .before .brace-line .ensures .1))
+    (omega (arith, c .before .before .before .before .before .before .before .before .before .before .before .before .before .pre .0)) (search needs)
 
 enum-told-2 : tie.Need-enum-told-2 Inv-loop μ-loop
 enum-told-2 c = search needs
 
 quiet-line-requires : tie.Need-quiet-line-requires Inv-loop μ-loop
 quiet-line-requires c κs =
-    let v = c .before .before .before .before .before .before .before .before .loop .inv in
+    let v = c .before .before .before .before .before .before .loop .inv in
     let x = line-of (c .before .before .before .before) in
-    (omega (arith, x .inside, c .before .before .before .before .before .before .before .before .before .before .before .before .pre .0), omega (arith, v .few, v .inside, c .before .before .before .before .before .before .before .before .before .before .before .before .pre .0, c .before .before .before .before .before .before .before .before .before .before .before .before .pre .1), v .sound .block-before)
+    (omega (arith, x .inside, c .before .before .before .before .before .before .before .before .before .before .pre .0), omega (arith, v .few, v .inside, c .before .before .before .before .before .before .before .before .before .before .pre .0, c .before .before .before .before .before .before .before .before .before .before .pre .1), v .sound .block-before)
 
 add-p-5 : tie.Need-add-p-5 Inv-loop μ-loop
 add-p-5 c =
     let x = line-of (c .before .before .before .before .before .before .before) in
-    omega (arith, x .inside, c .before .before .before .before .before .before .before .before .before .before .before .before .before .before .before .pre .0)
+    omega (arith, x .inside, c .before .before .before .before .before .before .before .before .before .before .before .before .before .pre .0)
 
 loop-less-5 : tie.Need-loop-less-5 Inv-loop μ-loop
 loop-less-5 c =
@@ -206,12 +192,12 @@ loop-less-5 c =
 
 loop-again-5 : tie.Need-loop-again-5 Inv-loop μ-loop
 loop-again-5 c =
-    let a = c .before .before .before .before .before .before .before .before .before .before .before .before .before .before .before .args in
-    let v = c .before .before .before .before .before .before .before .before .before .before .before .loop in
+    let a = c .before .before .before .before .before .before .before .before .before .before .before .before .before .args in
+    let v = c .before .before .before .before .before .before .before .before .before .loop in
     let x = line-of (c .before .before .before .before .before .before .before) in
     lines-next (v .inv) _ x _ _
-    (line-quiet (a .c) (now (a .r)) (v .s) (v .p) (now (c .before .before .before .before .before .before .before .upto .result)) (a .a) _ _ (v .inv .sound) (omega arith) (c .before .before .before .before .before .before .kind-in .ensures .0) (c .before .before .before .before .enum-told2 .given .1) (c .before .before .quiet-line .ensures .0) (c .before .before .quiet-line .ensures .1))
-    (omega (arith, c .before .before .before .before .before .before .before .before .before .before .before .before .before .before .before .pre .0)) (search needs)
+    (line-quiet (a .c) (now (a .r)) (v .s) (v .p) (now (c .before .before .before .before .before .before .before .line-at .result)) (a .a) _ _ (v .inv .sound) (omega arith) (c .before .before .before .before .before .before .kind-in .ensures .0) (c .before .before .before .before .enum-told2 .given .1) (c .before .before .quiet-line .ensures .0) (c .before .before .quiet-line .ensures .1))
+    (omega (arith, c .before .before .before .before .before .before .before .before .before .before .before .before .before .pre .0)) (search needs)
 
 enum-told-3 : tie.Need-enum-told-3 Inv-loop μ-loop
 enum-told-3 c = search needs
@@ -219,7 +205,7 @@ enum-told-3 c = search needs
 add-p-6 : tie.Need-add-p-6 Inv-loop μ-loop
 add-p-6 c =
     let x = line-of (c .before .before .before) in
-    omega (arith, x .inside, c .before .before .before .before .before .before .before .before .before .before .before .pre .0)
+    omega (arith, x .inside, c .before .before .before .before .before .before .before .before .before .pre .0)
 
 loop-less-6 : tie.Need-loop-less-6 Inv-loop μ-loop
 loop-less-6 c =
@@ -228,13 +214,13 @@ loop-less-6 c =
 
 loop-again-6 : tie.Need-loop-again-6 Inv-loop μ-loop
 loop-again-6 c =
-    let a = c .before .before .before .before .before .before .before .before .before .before .before .args in
-    let v = c .before .before .before .before .before .before .before .loop in
+    let a = c .before .before .before .before .before .before .before .before .before .args in
+    let v = c .before .before .before .before .before .loop in
     let x = line-of (c .before .before .before) in
     let k = kind-bracket (c .before .before .kind-in .ensures .0) (c .enum-told3 .given .1) in
     lines-next (v .inv) _ x _ _
-    (line-bracket (a .c) (now (a .r)) (v .s) (v .p) (now (c .before .before .before .upto .result)) (a .a) _ _ (v .inv .sound) (omega arith) (k .0) (k .1))
-    (omega (arith, c .before .before .before .before .before .before .before .before .before .before .before .pre .0)) (search needs)
+    (line-bracket (a .c) (now (a .r)) (v .s) (v .p) (now (c .before .before .before .line-at .result)) (a .a) _ _ (v .inv .sound) (omega arith) (k .0) (k .1))
+    (omega (arith, c .before .before .before .before .before .before .before .before .before .pre .0)) (search needs)
 
 close-sections-requires : tie.Need-close-sections-requires Inv-loop μ-loop
 close-sections-requires c κs =
@@ -255,10 +241,7 @@ read-board-spec =
     μ-loop
     no-state-requires
     loop-holds
-    from-requires
-    index-of-requires
-    add-upto
-    upto-requires
+    line-at-requires
     kind-in-requires
     enum-known-d
     add-put-data

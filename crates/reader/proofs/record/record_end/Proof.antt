@@ -15,29 +15,18 @@ abbrev μ-loop : tie.MeasureT-loop
 μ-loop text a s₀ e₀ s e = length text - e
 
 line-of :
-    (c : tie.After-upto Inv-loop μ-loop) →
-    LineAt (now (c .before .before .before .before .before .before .args .text)) (c .before .before .before .before .loop .e) (now (c .upto .result))
-line-of c =
-    let k = c .before .before .before in
-    line-at (now (k .before .before .before .args .text)) (k .before .loop .e) (now (c .upto .result)) (k .loop-test .taken) (rw (c .upto .ensures, c .before .index-of .ensures .0, c .before .before .from .ensures))
+    (c : tie.After-line-at Inv-loop μ-loop) →
+    LineAt (now (c .before .before .before .before .args .text)) (c .before .before .loop .e) (now (c .line-at .result))
+line-of c = line-at (now (c .before .before .before .before .args .text)) (c .before .before .loop .e) (now (c .line-at .result)) (c .before .loop-test .taken) (c .line-at .ensures)
 
 loop-holds : tie.Need-loop-holds Inv-loop μ-loop
 loop-holds c = scanning (now (c .before .args .text)) (c .before .args .a) (c .before .pre)
 
-from-requires : tie.Need-from-requires Inv-loop μ-loop
-from-requires c κs = search needs
-
-index-of-requires : tie.Need-index-of-requires Inv-loop μ-loop
-index-of-requires c κs = search needs
-
-add-upto : tie.Need-add-upto Inv-loop μ-loop
-add-upto c = search needs
-
-upto-requires : tie.Need-upto-requires Inv-loop μ-loop
-upto-requires c κs = search needs
+line-at-requires : tie.Need-line-at-requires Inv-loop μ-loop
+line-at-requires c κs = search needs
 
 add-e : tie.Need-add-e Inv-loop μ-loop
-add-e c = omega (arith, line-of c .inside, c .before .before .before .before .before .before .good)
+add-e c = omega (arith, line-of c .inside, c .before .before .before .before .good)
 
 closes-record-requires : tie.Need-closes-record-requires Inv-loop μ-loop
 closes-record-requires c κs = search needs
@@ -45,7 +34,7 @@ closes-record-requires c κs = search needs
 returns : tie.Need-returns Inv-loop μ-loop
 returns c =
     let k = c .before .before in
-    scan-closed (k .before .before .before .before .loop .inv) (line-of k) (rw (← c .before .closes-record .ensures) (c .if1 .taken))
+    scan-closed (k .before .before .loop .inv) (line-of k) (rw (← c .before .closes-record .ensures) (c .if1 .taken))
 
 scan-line-requires : tie.Need-scan-line-requires Inv-loop μ-loop
 scan-line-requires c κs = search needs
@@ -59,7 +48,7 @@ loop-less c =
 loop-again : tie.Need-loop-again Inv-loop μ-loop
 loop-again c =
     let k = c .before .before .before in
-    rw (c .scan-line .ensures) (scan-on (k .before .before .before .before .loop .inv) (line-of k) (rw (← c .before .before .closes-record .ensures) (c .before .if1 .left)))
+    rw (c .scan-line .ensures) (scan-on (k .before .before .loop .inv) (line-of k) (rw (← c .before .before .closes-record .ensures) (c .before .if1 .left)))
 
 returns-2 : tie.Need-returns-2 Inv-loop μ-loop
 returns-2 c = scan-ended (c .before .before .before .pre) (c .loop-test .left) (c .before .loop .inv)
@@ -71,10 +60,7 @@ record-end-spec =
     Inv-loop
     μ-loop
     loop-holds
-    from-requires
-    index-of-requires
-    add-upto
-    upto-requires
+    line-at-requires
     add-e
     closes-record-requires
     returns

@@ -15,26 +15,15 @@ abbrev μ-loop : tie.MeasureT-loop
 μ-loop r at noting₀ e₀ noting e = length r - e
 
 line-of :
-    (c : tie.After-upto Inv-loop μ-loop) →
-    LineAt (now (c .before .before .before .before .before .before .args .r)) (c .before .before .before .before .loop .e) (now (c .upto .result))
-line-of c =
-    let k = c .before .before .before in
-    line-at (now (k .before .before .before .args .r)) (k .before .loop .e) (now (c .upto .result)) (k .loop-test .taken) (rw (c .upto .ensures, c .before .index-of .ensures .0, c .before .before .from .ensures))
+    (c : tie.After-line-at Inv-loop μ-loop) →
+    LineAt (now (c .before .before .before .before .args .r)) (c .before .before .loop .e) (now (c .line-at .result))
+line-of c = line-at (now (c .before .before .before .before .args .r)) (c .before .before .loop .e) (now (c .line-at .result)) (c .before .loop-test .taken) (c .line-at .ensures)
 
 loop-holds : tie.Need-loop-holds Inv-loop μ-loop
 loop-holds c = let s = c .before in seeking (now (s .args .r)) (s .args .at) (s .pre .0)
 
-from-requires : tie.Need-from-requires Inv-loop μ-loop
-from-requires c κs = search needs
-
-index-of-requires : tie.Need-index-of-requires Inv-loop μ-loop
-index-of-requires c κs = search needs
-
-add-upto : tie.Need-add-upto Inv-loop μ-loop
-add-upto c = search needs
-
-upto-requires : tie.Need-upto-requires Inv-loop μ-loop
-upto-requires c κs = search needs
+line-at-requires : tie.Need-line-at-requires Inv-loop μ-loop
+line-at-requires c κs = search needs
 
 visit-line-requires : tie.Need-visit-line-requires Inv-loop μ-loop
 visit-line-requires c κs = search needs
@@ -48,8 +37,8 @@ no-piece-requires c κs = search needs
 returns : tie.Need-returns Inv-loop μ-loop
 returns c =
     let k = c .before .before .before .before in
-    let a = c .before .before .before .before .before .before .before .before .before .before .args in
-    let v = c .before .before .before .before .before .before .before .before .loop in
+    let a = c .before .before .before .before .before .before .before .before .args in
+    let v = c .before .before .before .before .before .before .loop in
     rw (c .no-piece .ensures) (seek-stop (now (a .r)) (a .at) (v .noting) (v .e) _ (v .inv) (line-of k) (rw (← c .before .before .before .visit-line .ensures) (c .before .enum-told .given .1)))
 
 enum-told-2 : tie.Need-enum-told-2 Inv-loop μ-loop
@@ -59,7 +48,7 @@ note-after-requires : tie.Need-note-after-requires Inv-loop μ-loop
 note-after-requires c κs = search needs
 
 add-e : tie.Need-add-e Inv-loop μ-loop
-add-e c = omega (arith, line-of (c .before .before .before .before) .inside, c .before .before .before .before .before .before .before .before .before .before .pre .1)
+add-e c = omega (arith, line-of (c .before .before .before .before) .inside, c .before .before .before .before .before .before .before .before .pre .1)
 
 loop-less : tie.Need-loop-less Inv-loop μ-loop
 loop-less c = let l = line-of (c .before .before .before .before) in omega (arith, l .filled, l .inside)
@@ -67,28 +56,28 @@ loop-less c = let l = line-of (c .before .before .before .before) in omega (arit
 loop-again : tie.Need-loop-again Inv-loop μ-loop
 loop-again c =
     let k = c .before .before .before .before in
-    let a = c .before .before .before .before .before .before .before .before .before .before .args in
-    let v = c .before .before .before .before .before .before .before .before .loop in
+    let a = c .before .before .before .before .before .before .before .before .args in
+    let v = c .before .before .before .before .before .before .loop in
     rw (c .note-after .ensures) (seek-pass (now (a .r)) (a .at) (v .noting) (v .e) _ (v .inv) (line-of k) (rw (← c .before .before .before .visit-line .ensures) (c .before .enum-told2 .given .1)))
 
 enum-known-s : tie.Need-enum-known-s Inv-loop μ-loop
 enum-known-s c = search needs
 
-add-t13 : tie.Need-add-t13 Inv-loop μ-loop
-add-t13 c =
+add-t11 : tie.Need-add-t11 Inv-loop μ-loop
+add-t11 c =
     let k = c .before .before .before .before .before in
-    let v = c .before .before .before .before .before .before .before .before .before .loop in
-    let h = piece-placed (v .noting) (now (k .upto .result)) (c .before .before .s .given .0 .0) (rw (← c .before .before .before .before .visit-line .ensures) (c .before .before .s .given .1)) in
-    omega (arith, line-of k .inside, c .before .before .before .before .before .before .before .before .before .before .before .pre .1, h)
+    let v = c .before .before .before .before .before .before .before .loop in
+    let h = piece-placed (v .noting) (now (k .line-at .result)) (c .before .before .s .given .0 .0) (rw (← c .before .before .before .before .visit-line .ensures) (c .before .before .s .given .1)) in
+    omega (arith, line-of k .inside, c .before .before .before .before .before .before .before .before .before .pre .1, h)
 
-add-t16 : tie.Need-add-t16 Inv-loop μ-loop
-add-t16 c = omega (arith, line-of (c .before .before .before .before .before) .inside, c .before .before .before .before .before .before .before .before .before .before .before .pre .1)
+add-t14 : tie.Need-add-t14 Inv-loop μ-loop
+add-t14 c = omega (arith, line-of (c .before .before .before .before .before) .inside, c .before .before .before .before .before .before .before .before .before .pre .1)
 
 returns-2 : tie.Need-returns-2 Inv-loop μ-loop
 returns-2 c =
     let k = c .before .before .before .before .before in
-    let a = c .before .before .before .before .before .before .before .before .before .before .before .args in
-    let v = c .before .before .before .before .before .before .before .before .before .loop in
+    let a = c .before .before .before .before .before .before .before .before .before .args in
+    let v = c .before .before .before .before .before .before .before .loop in
     seek-piece (now (a .r)) (a .at) (v .noting) (v .e) _ (c .before .before .s .given .0 .0) (v .inv) (line-of k) (rw (← c .before .before .before .before .visit-line .ensures) (c .before .before .s .given .1))
 
 no-piece-requires-2 : tie.Need-no-piece-requires-2 Inv-loop μ-loop
@@ -107,10 +96,7 @@ next-piece-spec =
     Inv-loop
     μ-loop
     loop-holds
-    from-requires
-    index-of-requires
-    add-upto
-    upto-requires
+    line-at-requires
     visit-line-requires
     enum-told
     no-piece-requires
@@ -121,8 +107,8 @@ next-piece-spec =
     loop-less
     loop-again
     enum-known-s
-    add-t13
-    add-t16
+    add-t11
+    add-t14
     returns-2
     no-piece-requires-2
     returns-3)
