@@ -17,10 +17,12 @@ pub mod EditionLaws
 pub mod EntryLaws
 pub mod Fellows
 pub mod Folds
+pub mod HeldLines
 pub mod Inside
 pub mod LineLaws
 pub mod LinePins
 pub mod LineTags
+pub mod LineWalk
 pub mod LinesLaws
 pub mod NameLaws
 pub mod NamePins
