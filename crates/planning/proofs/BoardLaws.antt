@@ -64,7 +64,7 @@ pub boards-count : (os : List (List ℕ)) (n : ℕ) (box : List ℕ) → length 
 unfolding judged
 boards-count os n box = judged-count os (cardsIn n box) 1 [] (cardsIn n box) ∙ cards-count n box
 
-left-drop : (os ns : List (List ℕ)) (k n : ℕ) (box : List ℕ) → k ≤ n → drop k (boardsLeft os ns 0 n box) ≡ boardsLeft os ns k n box
+pub left-drop : (os ns : List (List ℕ)) (k n : ℕ) (box : List ℕ) → k ≤ n → drop k (boardsLeft os ns 0 n box) ≡ boardsLeft os ns k n box
 left-drop os ns zero n box h = refl
 left-drop os ns (suc k) n box h =
     let e : k + 1 ≡ suc k = omega arith in

@@ -3,7 +3,9 @@ pub mod BoardLaws
 pub mod BothLaws
 pub mod BoxLaws
 pub mod CardLaws
+pub mod FillLaws
 pub mod FoundLaws
+pub mod Lending
 pub mod LineLaws
 pub mod ListingLaws
 pub mod ListingTheorems
@@ -11,3 +13,4 @@ pub mod PlanLaws
 pub mod SearchLaws
 pub mod SlipLaws
 pub mod StateLaws
+pub mod StructLaws

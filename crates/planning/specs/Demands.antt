@@ -17,9 +17,10 @@ use Rattle.planning.specs.declared.editions.Editions.the-variants.{Both}
 use Rattle.planning.specs.declared.plan.Totals.{Totals}
 use Rattle.planning.specs.declared.plan.Planned.{Planned}
 use Rattle.planning.specs.declared.plan.Planned.the-variants.{Listed}
+use Rattle.planning.specs.declared.slips.Slip.{Slip}
 use Rattle.planning.specs.Cards.{handsOf, isWhole, hasTable, fits}
 use Rattle.planning.specs.States.{Judged, firstWith, stateNumber, fromOf, stateAt}
-use Rattle.planning.specs.Slips.{slipOf, slipsOf, totalsOf, cardAt, behindAt, partOf, behindNumbers}
+use Rattle.planning.specs.Slips.{slipOf, slipsOf, slipNumbers, totalsOf, cardAt, behindAt, partOf, behindNumbers}
 use Rattle.planning.specs.Plans.{Boxes, oldReading, newReading, boardsOf, IsPlanned, PartTold, BoardsTold}
 
 -- ---- boards and their deals
@@ -130,6 +131,16 @@ NothingListed =
     → IsPlanned c old new boxes slips boxes′ slips′ (Listed t)
     → ((x : List ℕ) → Among x (cardsOf c new) → isWhole x ≡ true → hasTable x ≡ true)
     → (t .solve ≡ 0) × (slips′ ≡ replicate (length slips′) 0)
+
+-- THEOREM (planning/proofs/StructLaws.antt). Planned with structs, and with five numbers for each of them: the same answer, the same boxes, and the structs'
+-- numbers are the numbers.
+abbrev pub SamePlan : Type 0
+SamePlan =
+    (c : Conventions) (old new : List ℕ) (boxes : Boxes) (numbers : List ℕ) (slips : List Slip) (boxes₁ boxes₂ : Boxes) (numbers′ : List ℕ) (slips′ : List Slip) (r₁ r₂ : Planned)
+    → length numbers ≡ 5 * length slips
+    → IsPlanned c old new boxes numbers boxes₁ numbers′ r₁
+    → IsPlanned c old new boxes (slipNumbers slips) boxes₂ (slipNumbers slips′) r₂
+    → (r₁ ≡ r₂) × (boxes₁ ≡ boxes₂) × (numbers′ ≡ slipNumbers slips′)
 
 -- ---- inside the stretch
 

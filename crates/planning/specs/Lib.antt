@@ -3,5 +3,6 @@ pub mod States
 pub mod Slips
 pub mod Plans
 pub mod Steps
+pub mod Fills
 pub mod Listing
 pub mod Demands

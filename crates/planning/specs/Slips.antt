@@ -11,6 +11,7 @@ use Rattle.planning.specs.declared.state.BoardState.the-variants.{Blank,
 use Rattle.planning.specs.declared.behind.Behind.{Behind}
 use Rattle.planning.specs.declared.behind.Behind.the-variants.{InOld, InNew, Nothing}
 use Rattle.planning.specs.declared.plan.Totals.{Totals}
+use Rattle.planning.specs.declared.slips.Slip.{Slip}
 use Rattle.planning.specs.Cards.{handsOf}
 use Rattle.planning.specs.States.{Judged, isSolve, stateNumber, fromOf, boardAt}
 
@@ -24,6 +25,17 @@ slipOf p card = p ∷ handsOf card .north ∷ handsOf card .east ∷ handsOf car
 abbrev pub slipsOf : List Judged → List (List ℕ)
 slipsOf [] = []
 slipsOf (j ∷ js) = cond (isSolve (j .state)) (slipOf (j .position) (j .card) ∷ slipsOf js) (slipsOf js)
+
+-- The same as a struct.
+unfoldable pub slipStruct : ℕ → List ℕ → Slip
+slipStruct p card = record { position = p; north = handsOf card .north; east = handsOf card .east; south = handsOf card .south; west = handsOf card .west }
+
+-- The five numbers of a struct, and the numbers of structs, one after the other.
+abbrev pub fiveOf : Slip → List ℕ
+fiveOf s = s .position ∷ s .north ∷ s .east ∷ s .south ∷ s .west ∷ []
+
+unfoldable pub slipNumbers : List Slip → List ℕ
+slipNumbers slips = flat (map fiveOf slips)
 
 -- ---- totals
 

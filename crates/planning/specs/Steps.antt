@@ -54,6 +54,11 @@ pub record Kept (well : Bool) (boxes boxes′ : Boxes) : Type 0 where
   pub new-cards : boxes′ .new-cards ≡ cond well (boxes .new-cards) (zeros (boxes .new-cards))
   pub new-entries : boxes′ .new-entries ≡ cond well (boxes .new-entries) (zeros (boxes .new-entries))
 
+-- The answer for the totals where so many slips have room, and the four boxes: as they were, or zeros after a refusal.
+pub record Settled (boxes : Boxes) (room : ℕ) (t : Totals) (r : Planned) (boxes′ : Boxes) : Type 0 where
+  pub answer : r ≡ listedBy room t
+  pub boxes-after : Kept (isListed r) boxes boxes′
+
 -- The answer for the totals, and all lent words: as they were, or zeros after a refusal.
 pub record PlanFinished (boxes : Boxes) (slips : List ℕ) (t : Totals) (r : Planned) (boxes′ : Boxes) (slips′ : List ℕ) : Type 0 where
   pub answer : r ≡ listedBy (length slips / 5) t

@@ -8,5 +8,6 @@ pub mod listing; // the listing of two editions on a page
 pub mod numbers; // blocks of five numbers stored into lent slices
 pub mod plan; // totals and slips
 pub mod search; // the first board with a deal
+pub mod slips; // the plan with slips as structs
 pub mod state; // the state of a board
 pub mod state_at; // the state of a board, by position

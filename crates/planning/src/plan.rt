@@ -9,7 +9,7 @@ ghost use Rattle.planning.specs.Cards.{cardHere, cardsIn};
 ghost use Rattle.planning.specs.States.{judged, isSolve};
 ghost use Rattle.planning.specs.Slips.{slipOf, slipsOf, totalsOf};
 ghost use Rattle.planning.specs.Plans.{planNumber, planCarries, planEdition, IsPlanned};
-ghost use Rattle.planning.specs.Steps.{counted, Within, Kept, PlanFinished};
+ghost use Rattle.planning.specs.Steps.{counted, Within, Kept, Settled, PlanFinished};
 use crate::cards::deal_at;
 use crate::editions::Editions;
 use crate::editions::EditionsRefusal;
@@ -95,7 +95,7 @@ fn counted(mut t: Totals, s: BoardState) -> Totals
 }
 
 // The slip of the board at index k: its position from 1 and its hands.
-fn slip_of(cards: &[u32], k: usize) -> [u64; 5]
+pub fn slip_of(cards: &[u32], k: usize) -> [u64; 5]
     requires { ⌜ 64 * k + 64 ≤ length (now cards) ⌝ }
     ensures { λ r. ⌜ r ≡ slipOf (k + 1) (cardHere k (now (cards .entry))) ⌝ }
 {
@@ -170,6 +170,29 @@ pub fn zero_boxes(
     zero(new_entries);
 }
 
+// The answer for the totals where so many slips have room; all cards and entries are set to 0 where it is a refusal.
+pub fn settle(
+    old_cards: &mut [u32],
+    old_entries: &mut [u32],
+    new_cards: &mut [u32],
+    new_entries: &mut [u32],
+    room: usize,
+    t: Totals,
+) -> Planned
+    ensures { λ r. ⌜ Settled
+        (record { old-cards = now («old_cards» .entry); old-entries = now («old_entries» .entry); new-cards = now («new_cards» .entry); new-entries = now («new_entries» .entry) })
+        room t r
+        (record { old-cards = now («old_cards» .exit); old-entries = now («old_entries» .exit); new-cards = now («new_cards» .exit); new-entries = now («new_entries» .exit) })
+        ⌝ }
+{
+    let solve = t.solve;
+    if (room as u64) < solve {
+        zero_boxes(old_cards, old_entries, new_cards, new_entries);
+        return Planned::Refused(PlanRefusal::SlipsShort(solve));
+    }
+    Planned::Listed(t)
+}
+
 // The answer for the totals; all lent words are set to 0 where it is a refusal.
 pub fn finish_plan(
     old_cards: &mut [u32],
@@ -185,13 +208,21 @@ pub fn finish_plan(
         (record { old-cards = now («old_cards» .exit); old-entries = now («old_entries» .exit); new-cards = now («new_cards» .exit); new-entries = now («new_entries» .exit) })
         (now (slips .exit)) ⌝ }
 {
-    let solve = t.solve;
-    if ((slips.len() / 5) as u64) < solve {
-        zero_boxes(old_cards, old_entries, new_cards, new_entries);
-        zero_numbers(slips);
-        return Planned::Refused(PlanRefusal::SlipsShort(solve));
+    let p = settle(
+        old_cards,
+        old_entries,
+        new_cards,
+        new_entries,
+        slips.len() / 5,
+        t,
+    );
+    match p {
+        Planned::Listed(_) => p,
+        Planned::Refused(_) => {
+            zero_numbers(slips);
+            p
+        }
     }
-    Planned::Listed(t)
 }
 
 // Plans by the given conventions.
