@@ -1,6 +1,6 @@
 // The listing program: lists the edition in `new.pbn`, given the one in `old.pbn`.
 use libc::STDOUT_FILENO;
-use planning::listing::list;
+use listing_text::listing::list;
 use tables::page::Written;
 use tables::text::upto;
 

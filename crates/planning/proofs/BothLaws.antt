@@ -1,15 +1,14 @@
 -- Laws of reading both editions: one for each answer.
-use Prim.Native.Nat.{ℕ, _+_, _*_, _-_, _≤_, _<_}
+use Prim.Native.Nat.{ℕ, _+_, _*_, _-_, _≤_}
 use mathlib.Core.Path.{_≡_, refl, sym, ap, _∙_}
-use mathlib.Core.Bool.{true, false}
+use mathlib.Core.Bool.{true}
 use mathlib.Core.List.{List}
 use native.Mathlib.Omega.{arith}
 use lib.Dec.{ltb}
 use lib.ListN.{length, length-append, length-replicate}
-use borrow.Author.Tests.{lt-ltb, le-ltb, ltb-false}
+use borrow.Author.Tests.{ltb-false}
 use Rattle.tables.specs.declared.letters.Conventions.{Conventions}
 use Rattle.reader.specs.declared.edition.ReadRefusal.{ReadRefusal}
-use Rattle.reader.specs.declared.edition.ReadRefusal.the-variants.{Overlong}
 use Rattle.reader.specs.declared.edition.Reading.{Reading}
 use Rattle.reader.specs.declared.edition.Reading.the-variants.{Taken}
 use Rattle.reader.specs.declared.edition.Reading.the-variants as reading
@@ -20,32 +19,16 @@ use Rattle.planning.specs.declared.editions.EditionsRefusal.the-variants
 use Rattle.planning.specs.declared.editions.Editions.{Editions}
 use Rattle.planning.specs.declared.editions.Editions.the-variants.{Both}
 use Rattle.planning.specs.declared.editions.Editions.the-variants as editions
-use Rattle.planning.specs.Plans.{Boxes, oldReading, newReading, bothAfter, editionsOf, limitedOf, limitedBoth, areBoth, BothRead, IsLimited, BothLimited}
+use Rattle.planning.specs.Plans.{Boxes, oldReading, newReading, bothAfter, editionsOf, areBoth, BothRead}
 use Rattle.planning.specs.Cards.{cardsIn}
 use Rattle.planning.proofs.BoxLaws.{four, cards-back, taken-fits}
 
--- ---- an edition with a limit
+-- ---- both editions: one law for each answer
 
-pub limited-long : {c : Conventions} {limit n : ℕ} {text cards entries cards′ entries′ : List ℕ} → n ≡ length text → limit < n → cards′ ≡ zeros cards → entries′ ≡ zeros entries
-    → IsLimited c limit text cards entries (reading.Refused (Overlong n)) cards′ entries′
-unfolding limitedOf
-limited-long {c} {limit} {n} {text} en h ec ee =
-    let e : ltb limit (length text) ≡ true = lt-ltb limit (length text) (omega arith) in
-    record { answer = rw (e, en); cards-after = ec; entries-after = ee }
-
-pub limited-read : {c : Conventions} {limit n : ℕ} {text cards entries cards′ entries′ : List ℕ} {r : Reading} → n ≡ length text → n ≤ limit → IsRead c text cards entries r cards′ entries′
-    → IsLimited c limit text cards entries r cards′ entries′
-unfolding limitedOf
-limited-read {c} {limit} {n} {text} en h i =
-    let e : ltb limit (length text) ≡ false = le-ltb limit (length text) (omega arith) in
-    record { answer = rw e (i .answer); cards-after = i .cards-after; entries-after = i .entries-after }
-
--- ---- both editions with a limit: one law for each answer
-
-module _ {c : Conventions} {limit : ℕ} {old new oc oe nc ne oc′ oe′ : List ℕ} {r : Reading} (i : IsLimited c limit old oc oe r oc′ oe′) where
+module _ {c : Conventions} {old new oc oe nc ne oc′ oe′ : List ℕ} {r : Reading} (i : IsRead c old oc oe r oc′ oe′) where
   pub old-refused : {f : ReadRefusal} {nc′ ne′ : List ℕ} → r ≡ reading.Refused f → nc′ ≡ zeros nc → ne′ ≡ zeros ne
-      → BothLimited c limit old new (four oc oe nc ne) (four oc′ oe′ nc′ ne′) (editions.Refused (Old f))
-  unfolding limitedBoth
+      → BothRead c old new (four oc oe nc ne) (four oc′ oe′ nc′ ne′) (editions.Refused (Old f))
+  unfolding editionsOf
   old-refused e ec ee = record {
     answer = rw (← i .answer, e);
     boxes-after = record {
@@ -56,10 +39,10 @@ module _ {c : Conventions} {limit : ℕ} {old new oc oe nc ne oc′ oe′ : List
     };
   }
 
-  pub new-refused : {m x : ℕ} {f : ReadRefusal} {s : Reading} {nc′ ne′ oc″ oe″ : List ℕ} → r ≡ Taken m x → IsLimited c limit new nc ne s nc′ ne′ → s ≡ reading.Refused f
+  pub new-refused : {m x : ℕ} {f : ReadRefusal} {s : Reading} {nc′ ne′ oc″ oe″ : List ℕ} → r ≡ Taken m x → IsRead c new nc ne s nc′ ne′ → s ≡ reading.Refused f
       → length oc′ ≡ length oc → length oe′ ≡ length oe → oc″ ≡ zeros oc′ → oe″ ≡ zeros oe′
-      → BothLimited c limit old new (four oc oe nc ne) (four oc″ oe″ nc′ ne′) (editions.Refused (New f))
-  unfolding limitedBoth
+      → BothRead c old new (four oc oe nc ne) (four oc″ oe″ nc′ ne′) (editions.Refused (New f))
+  unfolding editionsOf
   new-refused e j e₂ lc le ec ee = record {
     answer = rw (← i .answer, e, ← j .answer, e₂);
     boxes-after = record {
@@ -70,9 +53,9 @@ module _ {c : Conventions} {limit : ℕ} {old new oc oe nc ne oc′ oe′ : List
     };
   }
 
-  pub both-taken : {m x n y : ℕ} {s : Reading} {nc′ ne′ : List ℕ} → r ≡ Taken m x → IsLimited c limit new nc ne s nc′ ne′ → s ≡ Taken n y
-      → BothLimited c limit old new (four oc oe nc ne) (four oc′ oe′ nc′ ne′) (Both m n)
-  unfolding limitedBoth
+  pub both-taken : {m x n y : ℕ} {s : Reading} {nc′ ne′ : List ℕ} → r ≡ Taken m x → IsRead c new nc ne s nc′ ne′ → s ≡ Taken n y
+      → BothRead c old new (four oc oe nc ne) (four oc′ oe′ nc′ ne′) (Both m n)
+  unfolding editionsOf
   both-taken e j e₂ = record {
     answer = rw (← i .answer, e, ← j .answer, e₂);
     boxes-after = record {
@@ -82,20 +65,6 @@ module _ {c : Conventions} {limit : ℕ} {old new oc oe nc ne oc′ oe′ : List
       new-entries = rw e₂ at (j .entries-after);
     };
   }
-
--- With the limit of every text nothing more is refused.
-limited-all : (c : Conventions) (text : List ℕ) (lc le : ℕ) → limitedOf c 16777215 text lc le ≡ readingOf c text lc le
-unfolding limitedOf readingOf
-limited-all c text lc le = by-cases (ltb 16777215 (length text)) (λ e. rw e) (λ e. rw e)
-
-pub both-all : {c : Conventions} {old new : List ℕ} {boxes boxes′ : Boxes} {r : Editions} → BothLimited c 16777215 old new boxes boxes′ r → BothRead c old new boxes boxes′ r
-unfolding limitedBoth editionsOf
-both-all {c} {old} {new} {boxes} b = record {
-  answer =
-      b .answer
-      ∙ rw (limited-all c old (length (boxes .old-cards)) (length (boxes .old-entries)), limited-all c new (length (boxes .new-cards)) (length (boxes .new-entries)));
-  boxes-after = b .boxes-after;
-}
 
 -- ---- both were taken
 

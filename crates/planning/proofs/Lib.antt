@@ -6,9 +6,6 @@ pub mod CardLaws
 pub mod FillLaws
 pub mod FoundLaws
 pub mod Lending
-pub mod LineLaws
-pub mod ListingLaws
-pub mod ListingTheorems
 pub mod PlanLaws
 pub mod SearchLaws
 pub mod SlipLaws

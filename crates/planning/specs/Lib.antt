@@ -4,5 +4,4 @@ pub mod Slips
 pub mod Plans
 pub mod Steps
 pub mod Fills
-pub mod Listing
 pub mod Demands

@@ -1,17 +1,16 @@
 -- The answers of planning, and its contracts.
-use Prim.Native.Nat.{ℕ, _+_, _*_, _/_, _≤_}
+use Prim.Native.Nat.{ℕ, _/_}
 use mathlib.Core.Path.{_≡_}
 use mathlib.Core.Bool.{Bool, true, false, cond}
-use mathlib.Core.List.{List, [], _∷_}
+use mathlib.Core.List.{List}
 use lib.Dec.{ltb}
 use lib.ListN.{length, replicate}
 use Rattle.tables.specs.declared.letters.Conventions.{Conventions}
 use Rattle.reader.specs.declared.edition.Reading.{Reading}
 use Rattle.reader.specs.declared.edition.Reading.the-variants.{Taken}
 use Rattle.reader.specs.declared.edition.Reading.the-variants as reading
-use Rattle.reader.specs.declared.edition.ReadRefusal.the-variants.{Overlong}
 use Rattle.reader.specs.Store.{flat, padded, putAll}
-use Rattle.reader.specs.Editions.{readNumber, readCarries, readingOf, cardsOf, entriesOf, lentAfter}
+use Rattle.reader.specs.Editions.{readNumber, readCarries, readingOf, cardsOf, entriesOf}
 use Rattle.planning.specs.declared.state.BoardState.{BoardState}
 use Rattle.planning.specs.declared.state.BoardState.the-variants.{Blank}
 use Rattle.planning.specs.declared.behind.Behind.{Behind}
@@ -28,7 +27,7 @@ use Rattle.planning.specs.declared.plan.Planned.{Planned}
 use Rattle.planning.specs.declared.plan.Planned.the-variants.{Listed}
 use Rattle.planning.specs.declared.plan.Planned.the-variants as planned
 use Rattle.planning.specs.States.{Judged, judged, stateAt}
-use Rattle.planning.specs.Slips.{slipsOf, totalsOf, countOf, behindAt, partOf, numbersFrom}
+use Rattle.planning.specs.Slips.{slipsOf, totalsOf, behindAt, partOf, numbersFrom}
 
 -- ---- refusals: 1 to 3 of the old edition, then of the new, then 4 slips short (the boards to solve)
 
@@ -88,17 +87,6 @@ bothAfter (reading.Refused f) new = editions.Refused (Old f)
 unfoldable pub editionsOf : Conventions → List ℕ → List ℕ → Boxes → Editions
 editionsOf c old new boxes = bothAfter (oldReading c old boxes) (newReading c new boxes)
 
--- An edition longer than the limit is refused with 1, whatever else it is; any other is read.
-unfoldable pub limitedOf : Conventions → ℕ → List ℕ → ℕ → ℕ → Reading
-limitedOf c limit text lc le = cond (ltb limit (length text)) (reading.Refused (Overlong (length text))) (readingOf c text lc le)
-
--- Both with the limit: each refusal of the old one, its length too, comes before those of the new.
-unfoldable pub limitedBoth : Conventions → ℕ → List ℕ → List ℕ → Boxes → Editions
-limitedBoth c limit old new boxes =
-    bothAfter
-    (limitedOf c limit old (length (boxes .old-cards)) (length (boxes .old-entries)))
-    (limitedOf c limit new (length (boxes .new-cards)) (length (boxes .new-entries)))
-
 abbrev pub areBoth : Editions → Bool
 areBoth (Both m n) = true
 areBoth (editions.Refused f) = false
@@ -140,17 +128,6 @@ pub record BoxesAfter (c : Conventions) (well : Bool) (old new : List ℕ) (boxe
 -- Both editions are read.
 pub record BothRead (c : Conventions) (old new : List ℕ) (boxes boxes′ : Boxes) (r : Editions) : Type 0 where
   pub answer : r ≡ editionsOf c old new boxes
-  pub boxes-after : BoxesAfter c (areBoth r) old new boxes boxes′
-
--- An edition is read, if it is not longer than the limit.
-pub record IsLimited (c : Conventions) (limit : ℕ) (text cards entries : List ℕ) (r : Reading) (cards′ entries′ : List ℕ) : Type 0 where
-  pub answer : r ≡ limitedOf c limit text (length cards) (length entries)
-  pub cards-after : cards′ ≡ lentAfter r (length cards) (cardsOf c text)
-  pub entries-after : entries′ ≡ lentAfter r (length entries) (entriesOf c text)
-
--- Both editions are read, if neither is longer than the limit.
-pub record BothLimited (c : Conventions) (limit : ℕ) (old new : List ℕ) (boxes boxes′ : Boxes) (r : Editions) : Type 0 where
-  pub answer : r ≡ limitedBoth c limit old new boxes
   pub boxes-after : BoxesAfter c (areBoth r) old new boxes boxes′
 
 -- The contract of plan: the answer, and every lent number.

@@ -1,6 +1,6 @@
 // Both editions, read.
 ghost use mathlib.Core.Path.{_≡_};
-ghost use Rattle.planning.specs.Plans.{editionsNumber, editionsCarries, editionRefused, BothRead, IsLimited, BothLimited};
+ghost use Rattle.planning.specs.Plans.{editionsNumber, editionsCarries, editionRefused, BothRead};
 use reader::edition::ReadRefusal;
 use reader::edition::Reading;
 use reader::edition::read_carried;
@@ -49,58 +49,6 @@ pub fn edition_refused(f: EditionsRefusal) -> u64
     }
 }
 
-// Reads an edition, if it is not longer than the limit.
-fn read_limited(
-    c: Conventions,
-    text: &[u8],
-    limit: usize,
-    cards: &mut [u32],
-    entries: &mut [u32],
-) -> Reading
-    ensures { λ r. ⌜ IsLimited c limit (now (text .entry)) (now (cards .entry)) (now (entries .entry)) r (now (cards .exit)) (now (entries .exit)) ⌝ }
-{
-    let length = text.len();
-    if limit < length {
-        zero(cards);
-        zero(entries);
-        return Reading::Refused(ReadRefusal::Overlong(length as u64));
-    }
-    read_pbn_with(c, text, cards, entries)
-}
-
-// Reads the old edition, then the new one. A refusal of either leaves all lent words zero.
-pub fn read_both_limited(
-    c: Conventions,
-    old: &[u8],
-    new: &[u8],
-    limit: usize,
-    old_cards: &mut [u32],
-    old_entries: &mut [u32],
-    new_cards: &mut [u32],
-    new_entries: &mut [u32],
-) -> Editions
-    ensures { λ r. ⌜ BothLimited c limit (now (old .entry)) (now (new .entry))
-        (record { old-cards = now («old_cards» .entry); old-entries = now («old_entries» .entry); new-cards = now («new_cards» .entry); new-entries = now («new_entries» .entry) })
-        (record { old-cards = now («old_cards» .exit); old-entries = now («old_entries» .exit); new-cards = now («new_cards» .exit); new-entries = now («new_entries» .exit) })
-        r ⌝ }
-{
-    match read_limited(c, old, limit, old_cards, old_entries) {
-        Reading::Refused(f) => {
-            zero(new_cards);
-            zero(new_entries);
-            Editions::Refused(EditionsRefusal::Old(f))
-        }
-        Reading::Taken(m, _) => match read_limited(c, new, limit, new_cards, new_entries) {
-            Reading::Refused(f) => {
-                zero(old_cards);
-                zero(old_entries);
-                Editions::Refused(EditionsRefusal::New(f))
-            }
-            Reading::Taken(n, _) => Editions::Both(m, n),
-        },
-    }
-}
-
 // Reads the old edition, then the new one. A refusal of either leaves all lent words zero.
 pub fn read_both(
     c: Conventions,
@@ -116,14 +64,19 @@ pub fn read_both(
         (record { old-cards = now («old_cards» .exit); old-entries = now («old_entries» .exit); new-cards = now («new_cards» .exit); new-entries = now («new_entries» .exit) })
         r ⌝ }
 {
-    read_both_limited(
-        c,
-        old,
-        new,
-        16777215,
-        old_cards,
-        old_entries,
-        new_cards,
-        new_entries,
-    )
+    match read_pbn_with(c, old, old_cards, old_entries) {
+        Reading::Refused(f) => {
+            zero(new_cards);
+            zero(new_entries);
+            Editions::Refused(EditionsRefusal::Old(f))
+        }
+        Reading::Taken(m, _) => match read_pbn_with(c, new, new_cards, new_entries) {
+            Reading::Refused(f) => {
+                zero(old_cards);
+                zero(old_entries);
+                Editions::Refused(EditionsRefusal::New(f))
+            }
+            Reading::Taken(n, _) => Editions::Both(m, n),
+        },
+    }
 }

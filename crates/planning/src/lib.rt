@@ -3,8 +3,6 @@ pub mod behind; // the record behind a board
 pub mod boards; // every board's state and record, from one reading
 pub mod cards; // the words of a card that planning reads
 pub mod editions; // both editions read
-pub mod lines; // the lines of a listing
-pub mod listing; // the listing of two editions on a page
 pub mod numbers; // blocks of five numbers stored into lent slices
 pub mod plan; // totals and slips
 pub mod search; // the first board with a deal

@@ -4,7 +4,7 @@ ghost use Prim.Native.Nat.{_≤_};
 ghost use lib.ListN.{length};
 use crate::cases::Case;
 use crate::cases::case_of;
-use planning::listing::list;
+use listing_text::listing::list;
 use tables::page::Written;
 use tables::text::byte_at;
 use tables::text::from;

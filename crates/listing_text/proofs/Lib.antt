@@ -1,0 +1,4 @@
+pub mod LimitedLaws
+pub mod LineLaws
+pub mod ListingLaws
+pub mod ListingTheorems
