@@ -9,7 +9,7 @@ use lib.ListN.{length, take, drop, getD, length-take, length-drop}
 use lib.Seq.{getD-take, getD-drop}
 use borrow.Author.Tests.{eqb-true, eqb-false, eq-eqb, ne-eqb, lt-ltb, le-ltb, ltb-true, ltb-false, leb-true, le-leb, lt-leb, not-true}
 use Rattle.tables.specs.declared.letters.Conventions.{Conventions}
-use Rattle.tables.specs.Letters.{Accepted, builtIn, isCapital, capital, indexIn, seatOf, suitOf, honourOf, rankOf, strainOf, suitStrain, seatLetter, suitLetter, strainToken, rankLetter, suitLetters, every, among, distinct, isPlain}
+use Rattle.tables.specs.Letters.{Accepted, builtIn, isCapital, capital, indexIn, downFrom, seatOf, suitOf, honourOf, rankOf, strainOf, suitStrain, seatLetter, suitLetter, strainToken, rankLetter, suitLetters, honourLetters, every, among, distinct, isPlain}
 use Rattle.tables.proofs.Laws.{by-cases, both, neither}
 use Rattle.tables.proofs.TextLaws.{above-white}
 
@@ -84,6 +84,82 @@ index-back (x ∷ xs) (suc i) e h =
     let k = both (not (among x xs)) (distinct xs) e in
     let a : among x xs ≡ false = not-true (among x xs) (k .0) in
     rw (eqb-flip (getD xs i 0) x (not-among x xs i a (omega arith))) (ap suc (index-back xs i (k .1) (omega arith)))
+
+-- ---- letters compared one by one
+
+-- The letter at place a stands first of those from a on.
+letter-first : (l : List ℕ) (a n : ℕ) → a < length l → take (suc n) (drop a l) ≡ getD l a 0 ∷ take n (drop (suc a) l)
+letter-first [] a n h = absurd (omega arith)
+letter-first (x ∷ xs) zero n h = refl
+letter-first (x ∷ xs) (suc a) n h = letter-first xs a n (omega arith)
+
+-- The place of x where y stands first.
+index-first : (x y : ℕ) (ys : List ℕ) → indexIn (y ∷ ys) x ≡ cond (eqb y x) 0 (suc (indexIn ys x))
+index-first x y ys = by-cases (eqb y x) (λ q. rw q) (λ q. rw q)
+
+suit-chosen : (p q r s : Bool) → cond p 3 (cond q 2 (cond r 1 (cond s 0 4))) ≡ downFrom 3 4 4 (cond p 0 (suc (cond q 0 (suc (cond r 0 (suc (cond s 0 1)))))))
+suit-chosen true q r s = refl
+suit-chosen false true r s = refl
+suit-chosen false false true s = refl
+suit-chosen false false false true = refl
+suit-chosen false false false false = refl
+
+honour-chosen : (p q r s t : Bool) → cond p 12 (cond q 11 (cond r 10 (cond s 9 (cond t 8 13)))) ≡ downFrom 12 5 13 (cond p 0 (suc (cond q 0 (suc (cond r 0 (suc (cond s 0 (suc (cond t 0 1)))))))))
+honour-chosen true q r s t = refl
+honour-chosen false true r s t = refl
+honour-chosen false false true s t = refl
+honour-chosen false false false true t = refl
+honour-chosen false false false false true = refl
+honour-chosen false false false false false = refl
+
+-- A suit, chosen by comparing with the letters of clubs, diamonds, hearts and spades.
+pub suit-read : (c : Conventions) (b k : ℕ) → length (c .letters) ≡ 13 → k ≡ capital b
+    → cond (eqb (getD (c .letters) 4 0) k) 3 (cond (eqb (getD (c .letters) 5 0) k) 2 (cond (eqb (getD (c .letters) 6 0) k) 1 (cond (eqb (getD (c .letters) 7 0) k) 0 4))) ≡ suitOf c b
+unfolding suitOf
+suit-read c b k n e =
+    let l = c .letters in
+    rw (
+      letter-first l 4 3 (rw n (omega arith)),
+      letter-first l 5 2 (rw n (omega arith)),
+      letter-first l 6 1 (rw n (omega arith)),
+      letter-first l 7 0 (rw n (omega arith)),
+      ← e,
+      index-first k (getD l 4 0) (getD l 5 0 ∷ getD l 6 0 ∷ getD l 7 0 ∷ []),
+      index-first k (getD l 5 0) (getD l 6 0 ∷ getD l 7 0 ∷ []),
+      index-first k (getD l 6 0) (getD l 7 0 ∷ []),
+      index-first k (getD l 7 0) [],
+    )
+    (suit-chosen (eqb (getD l 4 0) k) (eqb (getD l 5 0) k) (eqb (getD l 6 0) k) (eqb (getD l 7 0) k))
+
+-- A rank, chosen by comparing with the letters of the ten, jack, queen, king and ace.
+pub honour-read : (c : Conventions) (b k : ℕ) → length (c .letters) ≡ 13 → k ≡ capital b
+    → cond (eqb (getD (c .letters) 8 0) k) 12 (cond (eqb (getD (c .letters) 9 0) k) 11 (cond (eqb (getD (c .letters) 10 0) k) 10 (cond (eqb (getD (c .letters) 11 0) k) 9 (cond (eqb (getD (c .letters) 12 0) k) 8 13)))) ≡ honourOf c b
+unfolding honourOf
+honour-read c b k n e =
+    let l = c .letters in
+    rw (
+      letter-first l 8 4 (rw n (omega arith)),
+      letter-first l 9 3 (rw n (omega arith)),
+      letter-first l 10 2 (rw n (omega arith)),
+      letter-first l 11 1 (rw n (omega arith)),
+      letter-first l 12 0 (rw n (omega arith)),
+      ← e,
+      index-first k (getD l 8 0) (getD l 9 0 ∷ getD l 10 0 ∷ getD l 11 0 ∷ getD l 12 0 ∷ []),
+      index-first k (getD l 9 0) (getD l 10 0 ∷ getD l 11 0 ∷ getD l 12 0 ∷ []),
+      index-first k (getD l 10 0) (getD l 11 0 ∷ getD l 12 0 ∷ []),
+      index-first k (getD l 11 0) (getD l 12 0 ∷ []),
+      index-first k (getD l 12 0) [],
+    )
+    (honour-chosen (eqb (getD l 8 0) k) (eqb (getD l 9 0) k) (eqb (getD l 10 0) k) (eqb (getD l 11 0) k) (eqb (getD l 12 0) k))
+
+-- No suit is above 4, and no honour's rank above 13.
+pub suit-most : (c : Conventions) (b : ℕ) → suitOf c b ≤ 4
+unfolding suitOf
+suit-most c b = by-cases (ltb (indexIn (suitLetters c) (capital b)) 4) (λ q. rw q (omega arith)) (λ q. rw q (omega arith))
+
+pub honour-most : (c : Conventions) (b : ℕ) → honourOf c b ≤ 13
+unfolding honourOf
+honour-most c b = by-cases (ltb (indexIn (honourLetters c) (capital b)) 5) (λ q. rw q (omega arith)) (λ q. rw q (omega arith))
 
 -- ---- written and read back
 

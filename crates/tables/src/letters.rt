@@ -43,15 +43,22 @@ pub fn seat_of(c: Conventions, b: u8) -> u8
     index_of(upto(&l, 4), to_capital(b)) as u8
 }
 
+// x or y. Which letter comes next cannot be foreseen, so that a branch on one costs more than a comparison with all of them.
+fn choose(test: bool, x: u8, y: u8) -> u8
+    ensures { λ r. ⌜ r ≡ cond test x y ⌝ }
+{
+    if test { x } else { y }
+}
+
 pub fn suit_of(c: Conventions, b: u8) -> u8
     ensures { λ r. ⌜ (r ≡ suitOf c b) × (r ≤ 4) ⌝ }
 {
     let l = c.letters;
-    let i = index_of(upto(from(&l, 4), 4), to_capital(b));
-    if i < 4 {
-        return (3 - i) as u8;
-    }
-    4
+    let k = to_capital(b);
+    let clubs = choose(l[7] == k, 0, 4);
+    let diamonds = choose(l[6] == k, 1, clubs);
+    let hearts = choose(l[5] == k, 2, diamonds);
+    choose(l[4] == k, 3, hearts)
 }
 
 // The rank of an honour's letter.
@@ -59,21 +66,23 @@ fn honour_of(c: Conventions, b: u8) -> u8
     ensures { λ r. ⌜ (r ≡ honourOf c b) × (r ≤ 13) ⌝ }
 {
     let l = c.letters;
-    let i = index_of(upto(from(&l, 8), 5), to_capital(b));
-    if i < 5 {
-        return (12 - i) as u8;
-    }
-    13
+    let k = to_capital(b);
+    let ten = choose(l[12] == k, 8, 13);
+    let jack = choose(l[11] == k, 9, ten);
+    let queen = choose(l[10] == k, 10, jack);
+    let king = choose(l[9] == k, 11, queen);
+    choose(l[8] == k, 12, king)
 }
 
 pub fn rank_of(c: Conventions, b: u8) -> u8
     ensures { λ r. ⌜ (r ≡ rankOf c b) × (r ≤ 13) ⌝ }
 {
+    let honour = honour_of(c, b);
     if b < 50 {
-        return honour_of(c, b);
+        return honour;
     }
     if b > 57 {
-        return honour_of(c, b);
+        return honour;
     }
     b - 50
 }

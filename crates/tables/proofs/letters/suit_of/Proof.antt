@@ -1,50 +1,53 @@
 use borrow.Author.Needs.{needs}
-use borrow.Author.Tests.{lt-ltb, le-ltb}
-use Rattle.tables.specs.Letters.{suitOf}
+use Rattle.tables.proofs.LetterLaws.{suit-read, suit-most}
 use Rattle.tables.proofs.letters.suit_of.Statement.{statement}
 use Rattle.tables.proofs.letters.suit_of.Tie as tie
-
-slice-aggregate-from : tie.Need-slice-aggregate-from
-slice-aggregate-from c = search needs
-
-from-requires : tie.Need-from-requires
-from-requires c κs = search needs
-
-upto-requires : tie.Need-upto-requires
-upto-requires c κs = search needs
 
 to-capital-requires : tie.Need-to-capital-requires
 to-capital-requires c κs = search needs
 
-index-of-requires : tie.Need-index-of-requires
-index-of-requires c κs = search needs
+array-read-choose : tie.Need-array-read-choose
+array-read-choose c = search needs
 
-sub-result : tie.Need-sub-result
-sub-result c = search needs
+choose-requires : tie.Need-choose-requires
+choose-requires c κs = search needs
 
-cast-result : tie.Need-cast-result
-cast-result c = search needs
+array-read-choose-2 : tie.Need-array-read-choose-2
+array-read-choose-2 c = search needs
+
+choose-requires-2 : tie.Need-choose-requires-2
+choose-requires-2 c κs = search needs
+
+array-read-choose-3 : tie.Need-array-read-choose-3
+array-read-choose-3 c = search needs
+
+choose-requires-3 : tie.Need-choose-requires-3
+choose-requires-3 c κs = search needs
+
+array-read-choose-4 : tie.Need-array-read-choose-4
+array-read-choose-4 c = search needs
+
+choose-requires-4 : tie.Need-choose-requires-4
+choose-requires-4 c κs = search needs
 
 returns : tie.Need-returns
-unfolding suitOf
 returns c =
-    (rw (← c .before .before .before .before .from .ensures, ← c .before .before .before .upto .ensures, ← c .before .before .to-capital .ensures, ← c .before .index-of .ensures .0, lt-ltb _ _ (c .if1 .taken)), search needs)
-
-returns-2 : tie.Need-returns-2
-unfolding suitOf
-returns-2 c =
-    (rw (← c .before .before .before .before .from .ensures, ← c .before .before .before .upto .ensures, ← c .before .before .to-capital .ensures, ← c .before .index-of .ensures .0, le-ltb _ _ (c .if1 .left)), search needs)
+    let x = c .before .before .before .before .before .before .args in
+    let e = rw (← c .before .before .before .choose .ensures, ← c .before .before .choose2 .ensures, ← c .before .choose3 .ensures, ← c .choose4 .ensures) at
+    (suit-read (x .c) (x .b) _ (search needs) (c .before .before .before .before .to-capital .ensures)) in
+    (e, rw e (suit-most (x .c) (x .b)))
 
 pub suit-of-spec : {M : Type 1} → statement M
 suit-of-spec =
     tie.close
     (tie.spec
-    slice-aggregate-from
-    from-requires
-    upto-requires
     to-capital-requires
-    index-of-requires
-    sub-result
-    cast-result
-    returns
-    returns-2)
+    array-read-choose
+    choose-requires
+    array-read-choose-2
+    choose-requires-2
+    array-read-choose-3
+    choose-requires-3
+    array-read-choose-4
+    choose-requires-4
+    returns)
