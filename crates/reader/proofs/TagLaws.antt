@@ -7,12 +7,12 @@ use native.Mathlib.Numerals.{add-one}
 use native.Mathlib.Omega.{arith}
 use lib.Dec.{ltb, eqb, leb·suc-suc}
 use lib.ListN.{length, drop, take, getD, length-drop, length-take, drop-of-length-le}
-use lib.Seq.{take-suc, drop-append-le, length-take-le}
+use lib.Seq.{take-suc, drop-append-le, length-take-le, getD-drop}
 use borrow.Author.Tests.{lt-ltb, ltb-false}
-use Rattle.tables.specs.Text.{isWhite, front, beyond, lead, trimStart, trimEnd, trimmed, before}
+use Rattle.tables.specs.Text.{isWhite, front, beyond, lead, trimStart, trimEnd, trimmed, before, differs}
 use Rattle.tables.specs.Letters.{among}
 use Rattle.tables.proofs.Laws.{step, by-cases, clash}
-use Rattle.tables.proofs.TextLaws.{drop-front, length-zero}
+use Rattle.tables.proofs.TextLaws.{drop-front, front-few, length-zero}
 use Rattle.reader.specs.declared.tag.Span.{Span}
 use Rattle.reader.specs.declared.tag.Close.the-variants.{At}
 use Rattle.reader.specs.Tag.{part, lastAfter, lastByte, trimPart, trimSpan, endsQuoted, closeAt, isQuoted}
@@ -81,6 +81,38 @@ close-found a i s l e = rw (step s i l, e)
 pub close-turn : (a i : ℕ) (s : List ℕ) → a ≤ i → i < length s → (eqb (getD s i 0) 93 && endsQuoted (part a i s)) ≡ false →
     closeAt i (part a i s) (drop i s) ≡ closeAt (i + 1) (part a (i + 1) s) (drop (i + 1) s)
 close-turn a i s h l e = rw (step s i l, e, part-more a i s h l)
+
+-- None of the bytes before the first x is x; the byte after them is.
+before-none : (x : ℕ) (s : List ℕ) (j : ℕ) → j < length (before x s) → eqb (getD s j 0) x ≡ false
+before-none x [] j h = absurd (omega arith)
+before-none x (b ∷ bs) zero h = by-cases (eqb b x) (λ q. absurd (omega (arith, rw q at h))) (λ q. q)
+before-none x (b ∷ bs) (suc j) h = by-cases (eqb b x) (λ q. absurd (omega (arith, rw q at h))) (λ q. before-none x bs j (omega (arith, rw q at h)))
+
+before-here : (x : ℕ) (s : List ℕ) → length (before x s) < length s → eqb (getD s (length (before x s)) 0) x ≡ true
+before-here x [] h = absurd (omega arith)
+before-here x (b ∷ bs) h = by-cases (eqb b x) (λ q. rw q q) (λ q. rw q (before-here x bs (omega (arith, rw q at h))))
+
+-- Bytes other than `]` are passed.
+close-past : (a i r : ℕ) (s : List ℕ) → a ≤ i → ((j : ℕ) → j < r → (i + j < length s) × (eqb (getD s (i + j) 0) 93 ≡ false))
+    → closeAt i (part a i s) (drop i s) ≡ closeAt (i + r) (part a (i + r) s) (drop (i + r) s)
+close-past a i zero s h f = let z : i + 0 ≡ i = omega arith in rw z
+close-past a i (suc r) s h f =
+    let z : i + 1 + r ≡ i + suc r = omega arith in
+    let t = f 0 (omega arith) in
+    let e : i + 0 ≡ i = omega arith in
+    let here : eqb (getD s i 0) 93 ≡ false = rw e at (t .1) in
+    close-turn a i s h (omega (arith, t .0)) (rw here) ∙ rw z at (close-past a (i + 1) r s (omega arith) (λ j l. let k : i + 1 + j ≡ i + suc j = omega arith in rw k (f (suc j) (omega arith))))
+
+-- The search goes on at the next `]`.
+pub close-next : (a i r : ℕ) (s : List ℕ) → a ≤ i → r ≡ length (before 93 (drop i s)) → closeAt i (part a i s) (drop i s) ≡ closeAt (i + r) (part a (i + r) s) (drop (i + r) s)
+close-next a i r s h e =
+    close-past a i r s h
+    (λ j l.
+    let few : length (before 93 (drop i s)) ≤ length (drop i s) = front-few (differs 93) (drop i s) in
+    (omega (arith, few, e, length-drop i s), rw (← getD-drop i s j 0) (before-none 93 (drop i s) j (omega (arith, e)))))
+
+pub close-there : (i r : ℕ) (s : List ℕ) → r ≡ length (before 93 (drop i s)) → i + r < length s → eqb (getD s (i + r) 0) 93 ≡ true
+close-there i r s e h = rw (← getD-drop i s r 0, e) (before-here 93 (drop i s) (omega (arith, e, length-drop i s)))
 
 -- ---- the value
 

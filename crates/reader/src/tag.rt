@@ -149,16 +149,12 @@ fn quote_before(line: &[u8], a: usize, e: usize) -> bool
 fn closing_bracket(line: &[u8], a: usize) -> Close
     ensures { λ r. ⌜ (r ≡ closeAt a [] (drop a (now (line .entry)))) × inside r (length (now (line .entry))) ⌝ }
 {
-    let mut i = a;
+    let mut i = a + index_of(from(line, a), 93);
     while i < line.len() {
-        if line[i] == 93 {
-            if quote_before(line, a, i) {
-                return Close::At(i);
-            }
-            i += 1;
-        } else {
-            i += 1;
+        if quote_before(line, a, i) {
+            return Close::At(i);
         }
+        i = i + 1 + index_of(from(line, i + 1), 93);
     }
     Close::Nothing
 }
