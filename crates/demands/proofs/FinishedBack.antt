@@ -37,18 +37,9 @@ use Rattle.demands.specs.PageBack.{tagsAsWritten}
 use Rattle.demands.specs.Finished.{noTable, FinishedCard, FinishedBack, NoneWanted}
 use Rattle.demands.proofs.WrittenTagsBack.{FinishedTags}
 use Rattle.demands.proofs.TablesBack.{wholeDeal, Twenty, DealAndTable, TagsGiveBoard}
+use Rattle.reader.proofs.WordTokens.{every-take, every-drop}
 
 -- ---- every table given has twenty cells, each at most 13
-
-every-drop : (p : ℕ → Bool) (n : ℕ) (s : List ℕ) → every p s ≡ true → every p (drop n s) ≡ true
-every-drop p zero s e = e
-every-drop p (suc n) [] e = refl
-every-drop p (suc n) (b ∷ bs) e = every-drop p n bs (both (p b) (every p bs) e .1)
-
-every-take : (p : ℕ → Bool) (n : ℕ) (s : List ℕ) → every p s ≡ true → every p (take n s) ≡ true
-every-take p zero s e = refl
-every-take p (suc n) [] e = refl
-every-take p (suc n) (b ∷ bs) e = let h = both (p b) (every p bs) e in rw (h .0, every-take p n bs (h .1))
 
 -- The bytes for a slip.
 answer-twenty : (answers : List ℕ) → every (λ n. leb n 13) answers ≡ true → (i : ℕ) → Twenty (answerAt answers i)

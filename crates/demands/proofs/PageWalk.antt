@@ -23,6 +23,7 @@ use Rattle.writer.specs.Remarks.{Anchored, directivesOf, blocksOf, those, isLea
 use Rattle.writer.specs.Pages.{ownPlay, bodyText, builtInHeader, headerText, firstPart, nextPart, nextParts, pageText}
 use Rattle.demands.specs.PageBack.{all, goodLine, Shut, last, more, ReadsAs, tag, section, directive, comment, block, ownText, recordsAfter, pageRecords}
 use Rattle.demands.proofs.LineBack.{or-true, LineBack}
+use Rattle.reader.proofs.Seams.{flat-raw}
 
 -- ---- the lines of a text that ends with an LF, and of what follows it
 
@@ -38,15 +39,6 @@ some-lines (b ∷ bs) go = cases (eqb b 10) (rawLines (bs ++ 10 ∷ [])) go
 feed-lines : (t r : List ℕ) → rawLines (t ++ 10 ∷ r) ≡ rawLines (t ++ 10 ∷ []) ++ rawLines r
 feed-lines [] r = refl
 feed-lines (b ∷ bs) r = rw (feed-lines bs r) (by-cases (eqb b 10) (λ e. rw e) (λ e. some-lines bs (λ l ls p. rw (e, p))))
-
-flat-lines : (s : List ℕ) → flat (rawLines s) ≡ s
-flat-lines [] = refl
-flat-lines (b ∷ bs) = glued (eqb b 10) (rawLines bs) ∙ ap (λ (l : List ℕ). b ∷ l) (flat-lines bs)
-  where
-    glued : (t : Bool) (ls : List (List ℕ)) → flat (glue t b ls) ≡ b ∷ flat ls
-    glued true ls = refl
-    glued false [] = refl
-    glued false (l ∷ ls) = refl
 
 feed-then : (t r : List ℕ) → rawLines ((t ++ 10 ∷ []) ++ r) ≡ rawLines (t ++ 10 ∷ []) ++ rawLines r
 feed-then t r = rw append-assoc (feed-lines t r)
@@ -162,7 +154,7 @@ lines-walk m text (l ∷ ls) r e =
     let h = both (goodLine l) (all goodLine ls) e in
     let p = reads-pass m l (rawLines (lineText l)) (LineBack l (h .0)) in
     let i = lines-walk (m || isTagLine l) (text ++ lineText l) ls r (h .1) in
-    rw (append-assoc (lineText l) (linesText ls) r, line-then l (linesText ls ++ r), calm-walk (outside m) text (rawLines (lineText l)) (rawLines (linesText ls ++ r)) (p .calmly), p .lands, flat-lines (lineText l))
+    rw (append-assoc (lineText l) (linesText ls) r, line-then l (linesText ls ++ r), calm-walk (outside m) text (rawLines (lineText l)) (rawLines (linesText ls ++ r)) (p .calmly), p .lands, flat-raw (lineText l))
     (i ∙ rw (append-assoc text (lineText l) (linesText ls), or-assoc m (isTagLine l) (anyTag ls)))
 
 -- ---- a board

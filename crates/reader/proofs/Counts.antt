@@ -81,11 +81,11 @@ ClosedFew c r s =
 
 -- ---- the data of a section
 
-bytes-append : (xs ys : List Piece) → bytesIn (xs ++ ys) ≡ bytesIn xs + bytesIn ys
+pub bytes-append : (xs ys : List Piece) → bytesIn (xs ++ ys) ≡ bytesIn xs + bytesIn ys
 bytes-append [] ys = omega arith
 bytes-append (x ∷ xs) ys = omega (arith, bytes-append xs ys)
 
-cut-few : (s : Span) (l : List ℕ) → length (cut s l) ≤ length l
+pub cut-few : (s : Span) (l : List ℕ) → length (cut s l) ≤ length l
 cut-few s l = rw (length-take, length-drop) (omega arith)
 
 pub cut-len : (s : Span) (l : List ℕ) → length (cut s l) ≤ s .len
@@ -99,7 +99,7 @@ data-few p l (TagOn t) = omega arith
 data-few p l Bracket = omega arith
 data-few p l (Data s) = omega (arith, cut-few s l)
 
-piece-few : (noting : Bool) (p : ℕ) (l : List ℕ) → bytesIn (pieceOf noting p l) ≤ length l
+pub piece-few : (noting : Bool) (p : ℕ) (l : List ℕ) → bytesIn (pieceOf noting p l) ≤ length l
 unfolding pieceOf
 piece-few true p l = omega arith
 piece-few false p l = data-few p l (lineKind l)

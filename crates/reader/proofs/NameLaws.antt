@@ -92,11 +92,11 @@ pub tag-name : (t : List ℕ) → 0 < tagNumber t → t ≡ getD tagNames (tagNu
 unfolding tagNumber
 tag-name t h = number-is tagNames t 1 h
 
-abbrev all-below : (ℕ → Bool) → ℕ → Bool
+abbrev pub all-below : (ℕ → Bool) → ℕ → Bool
 all-below p zero = true
 all-below p (suc m) = p m && all-below p m
 
-at-below : (p : ℕ → Bool) (m n : ℕ) → all-below p m ≡ true → n < m → p n ≡ true
+pub at-below : (p : ℕ → Bool) (m n : ℕ) → all-below p m ≡ true → n < m → p n ≡ true
 at-below p zero n e h = absurd (omega arith)
 at-below p (suc m) n e h =
     let k = both (p m) (all-below p m) e in

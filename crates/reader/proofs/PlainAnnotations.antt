@@ -42,7 +42,7 @@ use Rattle.reader.proofs.Tags.{never}
 use Rattle.reader.proofs.PlayLaws.{TricksOnly, LastTrickOnly}
 use Rattle.reader.proofs.WalkLaws.{section-count}
 use Rattle.reader.proofs.BoardLaws.{Counts, closed-counts}
-use Rattle.reader.proofs.Counts.{chosen, next-line}
+use Rattle.reader.proofs.Counts.{chosen, next-line, bytes-append, cut-few, piece-few}
 use Rattle.reader.proofs.PlainLaws.{force-is}
 use Rattle.reader.proofs.PlainWords.{entriesWithin, within-items}
 use Rattle.reader.proofs.PlainSizes.{bytes-few}
@@ -103,26 +103,6 @@ walked-notes c o trump w q =
     by-cases (eqb (o .kind) 1)
     (λ e. rw e (piece-notes c (w .bidding) q))
     (λ e. by-cases (eqb (o .kind) 2) (λ f. rw (e, f) (omega (arith, tricks-none (TricksOnly c (o .seat) trump (w .tricks) q)))) (λ f. rw (e, f) (omega arith)))
-
-bytes-append : (xs ys : List Piece) → bytesIn (xs ++ ys) ≡ bytesIn xs + bytesIn ys
-bytes-append [] ys = omega arith
-bytes-append (x ∷ xs) ys = omega (arith, bytes-append xs ys)
-
-cut-few : (s : Span) (l : List ℕ) → length (cut s l) ≤ length l
-cut-few s l = rw (length-take, length-drop) (omega arith)
-
-data-few : (p : ℕ) (l : List ℕ) (k : Line) → bytesIn (dataPiece p l k) ≤ length l
-data-few p l Blank = omega arith
-data-few p l Brace = omega arith
-data-few p l (Directive s) = omega arith
-data-few p l (TagOn t) = omega arith
-data-few p l Bracket = omega arith
-data-few p l (Data s) = omega (arith, cut-few s l)
-
-piece-few : (noting : Bool) (p : ℕ) (l : List ℕ) → bytesIn (pieceOf noting p l) ≤ length l
-unfolding pieceOf
-piece-few true p l = omega arith
-piece-few false p l = data-few p l (lineKind l)
 
 lines-few : (r : List ℕ) (noting : Bool) (p : ℕ) (ls : List (List ℕ)) → rawLines (drop p r) ≡ ls → bytesIn (dataIn noting p ls) ≤ length r - p
 lines-few r noting p [] e = omega arith

@@ -39,11 +39,12 @@ use Rattle.reader.specs.Plain.{bytesOf, itemOf, itemsOf, PlainCall, Plai
 use Rattle.reader.proofs.EntryLaws.{All, none, one, all-append, all-map, Trick, out-all}
 use Rattle.reader.proofs.PlayLaws.{cond-low, TricksOnly, LastTrickOnly}
 use Rattle.reader.proofs.Inside.{LineInside}
-use Rattle.reader.proofs.SectionLaws.{LineAt}
+use Rattle.reader.proofs.SectionLaws.{LineAt, taken-len}
 use Rattle.reader.proofs.Counts.{chosen, cut-len, next-line}
 use Rattle.reader.proofs.PlainLaws.{PartPlaced, force-is}
 use Rattle.reader.proofs.PlainWords.{within-items}
 use Rattle.reader.proofs.PlainSteps.{first-line, RecordSteps}
+use Rattle.reader.proofs.WordTokens.{every-take, every-drop}
 
 -- ---- codes
 
@@ -174,16 +175,6 @@ mark-first (b ∷ bs) h =
     (λ e. let g : length (callPart (b ∷ bs)) ≡ suc (length (callPart bs)) = rw e in rw e (mark-first bs (omega arith)))
     (λ e. rw e (not-false (isMark b) e))
 
-every-drop : (p : ℕ → Bool) (n : ℕ) (s : List ℕ) → every p s ≡ true → every p (drop n s) ≡ true
-every-drop p zero s e = e
-every-drop p (suc n) [] e = refl
-every-drop p (suc n) (b ∷ bs) e = every-drop p n bs (both (p b) (every p bs) e .1)
-
-every-take : (p : ℕ → Bool) (n : ℕ) (s : List ℕ) → every p s ≡ true → every p (take n s) ≡ true
-every-take p zero s e = refl
-every-take p (suc n) [] e = refl
-every-take p (suc n) (b ∷ bs) e = let h = both (p b) (every p bs) e in rw (h .0, every-take p n bs (h .1))
-
 -- The annotation from the byte k of a token on.
 annotation-good : (r : List ℕ) (t : Piece) (k : ℕ) → Token r t → k < length (t .bytes) → isMark (getD (t .bytes) k 0) ≡ true → CallGood r (entry 7 (t .at + k) (length (t .bytes) - k) 0)
 annotation-good r t k h l m =
@@ -252,11 +243,6 @@ module _ (c : Conventions) (r : List ℕ) (t : Piece) (h : Token r t) where
   called-good b = chosen (λ (o : Out Bidding). All (CallGood r) (o .entries)) (b .stopped) (record { state = b; entries = [] }) (calledBy (callTokenOf c (t .bytes)) b t) (λ e. none) (λ e. token-good b)
 
 -- ---- the data of a section stands in the record
-
-taken-len : (k : ℕ) (s : List ℕ) → take (length (take k s)) s ≡ take k s
-taken-len zero s = refl
-taken-len (suc k) [] = refl
-taken-len (suc k) (b ∷ bs) = ap (λ (l : List ℕ). b ∷ l) (taken-len k bs)
 
 data-stands : (r : List ℕ) (p : ℕ) (l : List ℕ) (k : Line) → LineAt r p l → linePlaced k (length l) → All (Stands r) (dataPiece p l k)
 data-stands r p l Blank i j = none

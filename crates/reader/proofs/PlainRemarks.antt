@@ -39,24 +39,13 @@ use Rattle.reader.proofs.Counts.{chosen}
 use Rattle.reader.proofs.PlainLaws.{PartPlaced}
 use Rattle.reader.proofs.PlainTags.{feedLast, line-feed, no-feed}
 use Rattle.reader.proofs.PlainSteps.{Late, closed-late, closed-keeps, RecordSteps}
+use Rattle.reader.proofs.TagsBack.{among-append, among-trimmed}
 
 -- ---- bytes that are not among others
-
-among-append : (x : ℕ) (l j : List ℕ) → among x (l ++ j) ≡ false → (among x l ≡ false) × (among x j ≡ false)
-among-append x [] j e = (refl, e)
-among-append x (b ∷ bs) j e =
-    let h = neither (eqb b x) (among x (bs ++ j)) e in
-    let i = among-append x bs j (h .1) in
-    (rw (h .0, i .0), i .1)
 
 among-both : (x : ℕ) (l j : List ℕ) → among x l ≡ false → among x j ≡ false → among x (l ++ j) ≡ false
 among-both x [] j e f = f
 among-both x (b ∷ bs) j e f = let h = neither (eqb b x) (among x bs) e in rw (h .0, among-both x bs j (h .1) f)
-
-among-trimmed : (x : ℕ) (s : List ℕ) → among x s ≡ false → among x (trimmed s) ≡ false
-among-trimmed x s e =
-    let h : among x (lead s ++ (trimmed s ++ trail (trimStart s))) ≡ false = ap (among x) (trim-whole s) ∙ e in
-    among-append x (trimmed s) (trail (trimStart s)) (among-append x (lead s) (trimmed s ++ trail (trimStart s)) h .1) .0
 
 among-drop : (x n : ℕ) (l : List ℕ) → among x l ≡ false → among x (drop n l) ≡ false
 among-drop x zero l e = e

@@ -36,7 +36,7 @@ raw-append (b ∷ c ∷ cs) g e =
     rw (raw-append (c ∷ cs) g e)
     (by-cases (eqb b 10) (λ t. rw t) (λ t. raw-cons c cs (λ l ls p. rw (t, p))))
 
-flat-raw : (f : List ℕ) → flat (rawLines f) ≡ f
+pub flat-raw : (f : List ℕ) → flat (rawLines f) ≡ f
 flat-raw [] = refl
 flat-raw (b ∷ bs) = glued (eqb b 10) (rawLines bs) ∙ ap (λ (l : List ℕ). b ∷ l) (flat-raw bs)
   where

@@ -71,7 +71,7 @@ pub record LineAt (text : List ℕ) (e : ℕ) (l : List ℕ) : Type 0 where
   pub bytes : l ≡ take (length l) (drop e text)
   pub lines : rawLines (drop e text) ≡ l ∷ rawLines (drop (e + length l) text)
 
-taken-len : (k : ℕ) (s : List ℕ) → take (length (take k s)) s ≡ take k s
+pub taken-len : (k : ℕ) (s : List ℕ) → take (length (take k s)) s ≡ take k s
 taken-len zero s = refl
 taken-len (suc k) [] = refl
 taken-len (suc k) (b ∷ bs) = ap (λ (l : List ℕ). b ∷ l) (taken-len k bs)

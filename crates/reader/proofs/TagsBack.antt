@@ -114,14 +114,14 @@ TagsBack n v gn gv =
 
 -- ---- what a line yields
 
-among-append : (x : ℕ) (l j : List ℕ) → among x (l ++ j) ≡ false → (among x l ≡ false) × (among x j ≡ false)
+pub among-append : (x : ℕ) (l j : List ℕ) → among x (l ++ j) ≡ false → (among x l ≡ false) × (among x j ≡ false)
 among-append x [] j e = (refl, e)
 among-append x (b ∷ bs) j e =
     let h = neither (eqb b x) (among x (bs ++ j)) e in
     let i = among-append x bs j (h .1) in
     (rw (h .0, i .0), i .1)
 
-among-trimmed : (x : ℕ) (s : List ℕ) → among x s ≡ false → among x (trimmed s) ≡ false
+pub among-trimmed : (x : ℕ) (s : List ℕ) → among x s ≡ false → among x (trimmed s) ≡ false
 among-trimmed x s e =
     let h : among x (lead s ++ (trimmed s ++ trail (trimStart s))) ≡ false = ap (among x) (trim-whole s) ∙ e in
     among-append x (trimmed s) (trail (trimStart s)) (among-append x (lead s) (trimmed s ++ trail (trimStart s)) h .1) .0

@@ -31,14 +31,14 @@ front-until p (x ∷ xs) b rest e n =
     let h = both (p x) (every p xs) e in
     rw (h .0, front-until p xs b rest (h .1) n)
 
-every-take : (p : ℕ → Bool) (n : ℕ) (s : List ℕ) → every p s ≡ true → every p (take n s) ≡ true
+pub every-take : (p : ℕ → Bool) (n : ℕ) (s : List ℕ) → every p s ≡ true → every p (take n s) ≡ true
 every-take p zero s e = refl
 every-take p (suc n) [] e = refl
 every-take p (suc n) (x ∷ xs) e =
     let h = both (p x) (every p xs) e in
     rw (h .0) (every-take p n xs (h .1))
 
-every-drop : (p : ℕ → Bool) (n : ℕ) (s : List ℕ) → every p s ≡ true → every p (drop n s) ≡ true
+pub every-drop : (p : ℕ → Bool) (n : ℕ) (s : List ℕ) → every p s ≡ true → every p (drop n s) ≡ true
 every-drop p zero s e = e
 every-drop p (suc n) [] e = refl
 every-drop p (suc n) (x ∷ xs) e = every-drop p n xs (both (p x) (every p xs) e .1)

@@ -18,7 +18,7 @@ use Rattle.reader.specs.Words.{same}
 use Rattle.reader.specs.Names.{tagNames, numberIn, tagNumber}
 use Rattle.reader.specs.Plain.{TagPair, PlainAuction, PlainPlay, PlainBoard}
 use Rattle.reader.proofs.WordLaws.{same-self, same-is}
-use Rattle.reader.proofs.NameLaws.{tag-name}
+use Rattle.reader.proofs.NameLaws.{tag-name, all-below, at-below}
 use Rattle.writer.specs.Sections.{noteValues}
 use Rattle.writer.specs.Tags.{WrittenTag, named, isExtra, extrasFrom, untilDeal, sinceDeal, beforeDeal, fromDeal, earlyExtras, lateExtras, ifThere, dealerTags, headTags, tableTags, dealTags, noteTag, auctionTags, playTags, writtenTags}
 use Rattle.writer.specs.Remarks.{wrote}
@@ -272,21 +272,9 @@ allRight k =
     forBool (λ play.
     timesRight k (record { board = board; dealer = dealer; table = table; score = score; par = par; auction = auction; notes = notes; play = play })))))))))
 
-abbrev allBelow : (ℕ → Bool) → ℕ → Bool
-allBelow p zero = true
-allBelow p (suc m) = p m && allBelow p m
-
-all-right : allBelow allRight 23 ≡ true
+all-right : all-below allRight 23 ≡ true
 unfolding forBool isWritten
 all-right = refl
-
-at-below : (p : ℕ → Bool) (m n : ℕ) → allBelow p m ≡ true → n < m → p n ≡ true
-at-below p zero n e h = absurd (omega arith)
-at-below p (suc m) n e h =
-    let k = both (p m) (allBelow p m) e in
-    by-cases (eqb n m)
-    (λ t. rw (eqb-true n m t) (k .0))
-    (λ t. at-below p m n (k .1) (omega (arith, eqb-false n m t)))
 
 number-times : (k : ℕ) (p : Present) → k < 23 → timesRight k p ≡ true
 number-times k p h =
