@@ -212,6 +212,10 @@ enum {
  * proved. So 64 * n words of cards and 16 * n words of entries are never too
  * few. They take 320 bytes of memory for each byte of the text, far more than
  * real collections need, so this is for short texts; else ask.
+ *
+ * How long it takes. Reading is linear in the text and in what is lent: texts of
+ * 16777215 bytes, of six shapes, took 0.26 to 0.68 s (docs/SPEED.md has these
+ * measurements and those below).
  */
 uint64_t golavimes_read(const uint8_t *text, size_t text_length, uint32_t *cards,
                         size_t cards_length, uint32_t *entries, size_t entries_length,
@@ -297,8 +301,10 @@ uint64_t golavimes_read(const uint8_t *text, size_t text_length, uint32_t *cards
  * That is linear in the text and in what is lent, but for the tags of one record
  * times its entries: after each written tag the entries of its record are looked
  * through for comments, if there are any, and for each supplemental tag those
- * before it for its name. A call that is refused with 7 does the same work as one
- * that is not.
+ * before it for its name. 40000 supplemental tags of different names in one record
+ * took 2.6 s, 200000 took 66 s; with a directive after each, 10000 took 1.4 s and
+ * 40000 took 19 s. A host that takes texts from strangers bounds their length. A
+ * call that is refused with 7 does the same work as one that is not.
  */
 uint64_t golavimes_write(const uint8_t *text, size_t text_length, uint32_t *cards,
                          size_t cards_length, uint32_t *entries, size_t entries_length,
@@ -377,8 +383,9 @@ uint64_t golavimes_write(const uint8_t *text, size_t text_length, uint32_t *card
  *
  * How long it takes. Each text is read once a call. Each board without a table
  * is then sought among the boards of both editions, so the time of
- * golavimes_plan and golavimes_boards grows with the square of the boards: some
- * thousand boards take hundredths of a second, tens of thousands some seconds.
+ * golavimes_plan and golavimes_boards grows with the square of the boards: 3000
+ * boards without tables, all deals different, take hundredths of a second, 10000
+ * took 1 s, 30000 took 10 s and 100000 took 122 s.
  */
 
 /* The editions, in answer[1] and for the record behind a board. */
