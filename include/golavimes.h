@@ -551,10 +551,10 @@ uint64_t golavimes_record_behind(const uint8_t *old_text, size_t old_text_length
  *
  * How much to lend. The boxes need what golavimes_plan needs, so those that it
  * took are enough. The page needs at most 475 bytes for each byte of the new
- * edition, and 20. A host asks rather than lends that: with page_length 0 (and
- * page any pointer that is not null) refusal 7 carries the need, since no finished
- * text is empty. The need is the same whatever the answers are, and a page of that
- * length is never refused.
+ * edition, and 20, which is proved. A host asks rather than lends that: with
+ * page_length 0 (and page any pointer that is not null) refusal 7 carries the
+ * need, since no finished text is empty. The need is the same whatever the
+ * answers are, and a page of that length is never refused.
  *
  * How long it takes. Each text is read once a call, each board without a table is
  * sought as golavimes_plan seeks it, and the new edition is written once. A call
