@@ -34,7 +34,7 @@ use Rattle.reader.specs.declared.section.Open.{Open}
 use Rattle.reader.specs.declared.section.Walk.{Walk}
 use Rattle.reader.specs.Lines.{lineKind, hasBrace, lastBrace}
 use Rattle.reader.specs.Words.{same, contractTrump, vulnerabilityOf}
-use Rattle.reader.specs.Names.{tagNumber}
+use Rattle.reader.specs.Names.{tagNumber, boardName, dealerName, vulnerableName, dealName, eventName, siteName, dateName, declarerName, contractName, resultName, northName, eastName, southName, westName, auctionName, playName, doubleDummyTricksName, optimumResultTableName, optimumScoreName, parContractName}
 use Rattle.reader.specs.Deals.{dealOf, handWords}
 use Rattle.reader.specs.Pieces.{Out, Emits, andThen, entry, rawLines}
 use Rattle.reader.specs.Tag.{cut}
@@ -62,16 +62,16 @@ abbrev pub withResult : Identity → Number → Identity
 withResult i Bad = record { «number_met» = i .«number_met»; number = i .number; dealer = i .dealer; vulnerability = i .vulnerability; declarer = i .declarer; «result_met» = 0; result = 0 }
 withResult i (Value v) = record { «number_met» = i .«number_met»; number = i .number; dealer = i .dealer; vulnerability = i .vulnerability; declarer = i .declarer; «result_met» = 1; result = v }
 
--- By the tag's number: 1 Board, 2 Dealer, 3 Vulnerable, 8 Declarer, 10 Result.
+-- By the tag's number.
 unfoldable pub identityBy : Conventions → ℕ → List ℕ → Identity → Identity
 identityBy c k value i =
-    cond (eqb k 1) (withNumber i (numberOf 4294967295 value))
-    (cond (eqb k 2) (withDealer i (seatOf c (firstCharacter value)))
-    (cond (eqb k 3) (withVulnerability i (vulnerabilityOf value))
-    (cond (eqb k 8) (withDeclarer i (seatOf c (firstCharacter value)))
-    (cond (eqb k 10) (withResult i (signedOf 128 value)) i))))
+    cond (eqb k boardName) (withNumber i (numberOf 4294967295 value))
+    (cond (eqb k dealerName) (withDealer i (seatOf c (firstCharacter value)))
+    (cond (eqb k vulnerableName) (withVulnerability i (vulnerabilityOf value))
+    (cond (eqb k declarerName) (withDeclarer i (seatOf c (firstCharacter value)))
+    (cond (eqb k resultName) (withResult i (signedOf 128 value)) i))))
 
--- 4 Deal: the last one that parsed; one that did not is kept as written, and wins, where it is not blank.
+-- Deal: the last one that parsed; one that did not is kept as written, and wins, where it is not blank.
 abbrev pub parsedDeal : Hands → DealCard → DealCard
 parsedDeal h d = record { kind = cond (eqb (d .kind) 2) 2 1; words = handWords h }
 
@@ -80,22 +80,22 @@ dealRead (Dealt h) value d = parsedDeal h d
 dealRead NoDeal value d = record { kind = cond (eqb (length (trimmed value)) 0) (d .kind) 2; words = d .words }
 
 unfoldable pub dealBy : Conventions → ℕ → List ℕ → DealCard → DealCard
-dealBy c k value d = cond (eqb k 4) (dealRead (dealOf c value) value d) d
+dealBy c k value d = cond (eqb k dealName) (dealRead (dealOf c value) value d) d
 
--- 18 DoubleDummyTricks: never over a table of an OptimumResultTable; bad digits take an earlier one away.
+-- DoubleDummyTricks: never over a table of an OptimumResultTable; bad digits take an earlier one away.
 abbrev pub digitsTable : Reading → TableCard
 digitsTable (holds cells) = record { kind = 1; cells = cells }
 digitsTable (refuses f) = record { kind = 0; cells = replicate 20 0 }
 
 unfoldable pub tableBy : ℕ → List ℕ → TableCard → TableCard
-tableBy k value t = cond (eqb k 18 && not (eqb (t .kind) 2)) (digitsTable (tableOfDigits value)) t
+tableBy k value t = cond (eqb k doubleDummyTricksName && not (eqb (t .kind) 2)) (digitsTable (tableOfDigits value)) t
 
--- 9 Contract, where it is kept: the trump that a play takes from it.
+-- Contract, where it is kept: the trump that a play takes from it.
 abbrev pub isKeptContract : List ℕ → Bool
 isKeptContract value = not (eqb (length value) 0) && not (same (63 ∷ []) value)
 
 unfoldable pub contractBy : Conventions → ℕ → List ℕ → ℕ → ℕ
-contractBy c k value trump = cond (eqb k 9 && isKeptContract value) (contractTrump c value) trump
+contractBy c k value trump = cond (eqb k contractName && isKeptContract value) (contractTrump c value) trump
 
 -- Whether the value's entry is kept on the card. Board, Event, Site, Date and names: where it is not empty; Contract: nor `?`;
 -- Deal: where it did not parse and is not blank; OptimumScore and ParContract: always.
@@ -105,26 +105,26 @@ isUnparsed NoDeal value = not (eqb (length (trimmed value)) 0)
 
 -- A tag other than Deal, and any tag.
 unfoldable pub isKeptValue : ℕ → List ℕ → Bool
-isKeptValue k value = cond (eqb k 9) (isKeptContract value) (ltb 19 k || not (eqb (length value) 0))
+isKeptValue k value = cond (eqb k contractName) (isKeptContract value) ((eqb k optimumScoreName || eqb k parContractName) || not (eqb (length value) 0))
 
 unfoldable pub isKept : Conventions → ℕ → List ℕ → Bool
-isKept c k value = cond (eqb k 4) (isUnparsed (dealOf c value) value) (isKeptValue k value)
+isKept c k value = cond (eqb k dealName) (isUnparsed (dealOf c value) value) (isKeptValue k value)
 
 abbrev pub valuePut : ℕ → ℕ → Values → Values
 valuePut k place v =
     record {
-      id = cond (eqb k 1) place (v .id);
-      event = cond (eqb k 5) place (v .event);
-      site = cond (eqb k 6) place (v .site);
-      date = cond (eqb k 7) place (v .date);
-      contract = cond (eqb k 9) place (v .contract);
-      north = cond (eqb k 11) place (v .north);
-      east = cond (eqb k 12) place (v .east);
-      south = cond (eqb k 13) place (v .south);
-      west = cond (eqb k 14) place (v .west);
-      deal = cond (eqb k 4) place (v .deal);
-      score = cond (eqb k 20) place (v .score);
-      par = cond (eqb k 21) place (v .par);
+      id = cond (eqb k boardName) place (v .id);
+      event = cond (eqb k eventName) place (v .event);
+      site = cond (eqb k siteName) place (v .site);
+      date = cond (eqb k dateName) place (v .date);
+      contract = cond (eqb k contractName) place (v .contract);
+      north = cond (eqb k northName) place (v .north);
+      east = cond (eqb k eastName) place (v .east);
+      south = cond (eqb k southName) place (v .south);
+      west = cond (eqb k westName) place (v .west);
+      deal = cond (eqb k dealName) place (v .deal);
+      score = cond (eqb k optimumScoreName) place (v .score);
+      par = cond (eqb k parContractName) place (v .par);
     }
 
 -- The values after a tag other than Deal, and after any tag.
@@ -160,12 +160,12 @@ noOpen = record { kind = 0; seat = 4; at = 0; split = noSpan }
 abbrev pub seatOpen : ℕ → ℕ → ℕ → Span → Open
 seatOpen kind seat at split = cond (ltb seat 4) (record { kind = kind; seat = seat; at = at; split = split }) noOpen
 
--- 15 Auction, 16 Play, 19 OptimumResultTable open a section; at is where the lines after the tag start.
+-- Auction, Play and OptimumResultTable open a section; at is where the lines after the tag start.
 unfoldable pub openBy : Conventions → ℕ → List ℕ → ℕ → Span → Open
 openBy c k value at split =
-    cond (eqb k 15) (seatOpen 1 (seatOf c (firstCharacter value)) at split)
-    (cond (eqb k 16) (seatOpen 2 (seatOf c (firstCharacter value)) at split)
-    (cond (eqb k 19) (record { kind = 3; seat = 4; at = at; split = split }) noOpen))
+    cond (eqb k auctionName) (seatOpen 1 (seatOf c (firstCharacter value)) at split)
+    (cond (eqb k playName) (seatOpen 2 (seatOf c (firstCharacter value)) at split)
+    (cond (eqb k optimumResultTableName) (record { kind = 3; seat = 4; at = at; split = split }) noOpen))
 
 abbrev pub withSections : Board → TableCard → Section → Section → ℕ → Board
 withSections b table auction play trump =

@@ -13,7 +13,7 @@ use Rattle.reader.specs.declared.deal.Hands.{Hands}
 use Rattle.reader.specs.declared.deal.DealRead.{DealRead}
 use Rattle.reader.specs.declared.deal.DealRead.the-variants.{Dealt, NoDeal}
 use Rattle.reader.specs.declared.board.TableCard.{TableCard}
-use Rattle.reader.specs.Names.{tagNumber}
+use Rattle.reader.specs.Names.{tagNumber, boardName, dealName, eventName, siteName, dateName, contractName, northName, eastName, southName, westName, optimumScoreName, parContractName}
 use Rattle.reader.specs.Deals.{dealOf, handWords, handsOfWords, Proper}
 use Rattle.reader.specs.Boards.{isKept}
 use Rattle.reader.specs.Plain.{TagPair, PlainBoard, plainList}
@@ -36,7 +36,9 @@ lastKept c k ts = after (keptBy c k) none ts
 -- The tags whose values are kept, in the order of the card's words 39 to 50: Board, Event, Site, Date, Contract, the names of N, E, S, W,
 -- Deal, OptimumScore, ParContract.
 abbrev pub valueNumbers : List ℕ
-valueNumbers = 1 ∷ 5 ∷ 6 ∷ 7 ∷ 9 ∷ 11 ∷ 12 ∷ 13 ∷ 14 ∷ 4 ∷ 20 ∷ 21 ∷ []
+valueNumbers =
+    boardName ∷ eventName ∷ siteName ∷ dateName ∷ contractName ∷ northName ∷ eastName ∷ southName
+    ∷ westName ∷ dealName ∷ optimumScoreName ∷ parContractName ∷ []
 
 -- Each value is that of the last tag of its name whose value is kept.
 pub record ValuesKept (c : Conventions) (p : PlainBoard) : Type 0 where
@@ -50,7 +52,7 @@ handsRead (Dealt h) o = some h
 handsRead NoDeal o = o
 
 abbrev pub handsBy : Conventions → Option Hands → TagPair → Option Hands
-handsBy c o t = cond (eqb (tagNumber (t .name)) 4) (handsRead (dealOf c (t .value)) o) o
+handsBy c o t = cond (eqb (tagNumber (t .name)) dealName) (handsRead (dealOf c (t .value)) o) o
 
 -- The hands of the last Deal tag that parsed.
 abbrev pub lastHands : Conventions → List TagPair → Option Hands
@@ -76,7 +78,7 @@ pub record DealKept (c : Conventions) (p : PlainBoard) : Type 0 where
   pub hands-proper : Proper (handsOfWords (p .deal .words))
   pub words-back : handWords (handsOfWords (p .deal .words)) ≡ p .deal .words
   pub read-again : (v : List ℕ) → p .values .deal ≡ some v → dealOf c v ≡ NoDeal
-  pub kept-again : (v : List ℕ) → p .values .deal ≡ some v → isKept c 4 v ≡ true
+  pub kept-again : (v : List ℕ) → p .values .deal ≡ some v → isKept c dealName v ≡ true
 
 -- ---- the table
 

@@ -4,6 +4,7 @@ ghost use Prim.Native.Nat.{_≤_};
 ghost use Rattle.tables.specs.Text.{firstCharacter};
 ghost use Rattle.tables.specs.Letters.{seatOf};
 ghost use Rattle.reader.specs.Words.{vulnerabilityOf};
+ghost use Rattle.reader.specs.Names.{dealName, doubleDummyTricksName};
 ghost use Rattle.reader.specs.Boards.{withNumber, withResult, identityBy, parsedDeal, tableBy, isKeptContract, contractBy, isKeptValue, valuePut, valuesPut, applied, noOpen, seatOpen, openBy, noBoard};
 use crate::board::Board;
 use crate::board::DealCard;
@@ -15,6 +16,7 @@ use crate::deal::DealRead;
 use crate::deal::Hands;
 use crate::deal::hand_words;
 use crate::deal::read_deal;
+use crate::names;
 use crate::section::Open;
 use crate::tag::Span;
 use crate::words::contract_trump;
@@ -80,20 +82,20 @@ fn identity_by(c: Conventions, k: u8, value: &[u8], mut i: Identity) -> Identity
     ensures { λ r. ⌜ r ≡ identityBy c k (now (value .entry)) i ⌝ }
 {
     match k {
-        1 => with_number(i, read_number(value, 4294967295)),
-        2 => {
+        names::BOARD => with_number(i, read_number(value, 4294967295)),
+        names::DEALER => {
             i.dealer = seat_in(c, value);
             i
         }
-        3 => {
+        names::VULNERABLE => {
             i.vulnerability = vulnerability_in(value);
             i
         }
-        8 => {
+        names::DECLARER => {
             i.declarer = seat_in(c, value);
             i
         }
-        10 => with_result(i, read_signed(value, 128)),
+        names::RESULT => with_result(i, read_signed(value, 128)),
         _ => i,
     }
 }
@@ -113,7 +115,7 @@ fn parsed_deal(h: Hands, d: DealCard) -> DealCard
 
 // Deal: read once, for the hands and for the value that is kept.
 fn deal_tag(c: Conventions, value: &[u8], place: usize, mut b: Board) -> Board
-    ensures { λ r. ⌜ r ≡ applied c 4 (now (value .entry)) place b ⌝ }
+    ensures { λ r. ⌜ r ≡ applied c dealName (now (value .entry)) place b ⌝ }
 {
     let DealRead::Dealt(h) = read_deal(c, value) else {
         if trim(value).len() == 0 {
@@ -130,7 +132,7 @@ fn deal_tag(c: Conventions, value: &[u8], place: usize, mut b: Board) -> Board
 
 // DoubleDummyTricks: never over a table of an OptimumResultTable.
 fn table_by(value: &[u8], t: TableCard) -> TableCard
-    ensures { λ r. ⌜ r ≡ tableBy 18 (now (value .entry)) t ⌝ }
+    ensures { λ r. ⌜ r ≡ tableBy doubleDummyTricksName (now (value .entry)) t ⌝ }
 {
     let kind = t.kind;
     if kind == 2 {
@@ -155,7 +157,7 @@ fn is_kept_contract(value: &[u8]) -> bool
 fn contract_by(c: Conventions, k: u8, value: &[u8], trump: usize) -> usize
     ensures { λ r. ⌜ r ≡ contractBy c k (now (value .entry)) trump ⌝ }
 {
-    if k == 9 {
+    if k == names::CONTRACT {
         if is_kept_contract(value) {
             return contract_trump(c, value) as usize;
         }
@@ -168,28 +170,28 @@ fn contract_by(c: Conventions, k: u8, value: &[u8], trump: usize) -> usize
 fn is_kept(k: u8, value: &[u8]) -> bool
     ensures { λ r. ⌜ r ≡ isKeptValue k (now (value .entry)) ⌝ }
 {
-    if k == 9 {
+    if k == names::CONTRACT {
         return is_kept_contract(value);
     }
-    (k > 19) | !(value.len() == 0)
+    ((k == names::OPTIMUM_SCORE) | (k == names::PAR_CONTRACT)) | !(value.len() == 0)
 }
 
 fn value_put(k: u8, place: usize, mut v: Values) -> Values
     ensures { λ r. ⌜ r ≡ valuePut k place v ⌝ }
 {
     match k {
-        1 => v.id = place,
-        4 => v.deal = place,
-        5 => v.event = place,
-        6 => v.site = place,
-        7 => v.date = place,
-        9 => v.contract = place,
-        11 => v.north = place,
-        12 => v.east = place,
-        13 => v.south = place,
-        14 => v.west = place,
-        20 => v.score = place,
-        21 => v.par = place,
+        names::BOARD => v.id = place,
+        names::DEAL => v.deal = place,
+        names::EVENT => v.event = place,
+        names::SITE => v.site = place,
+        names::DATE => v.date = place,
+        names::CONTRACT => v.contract = place,
+        names::NORTH => v.north = place,
+        names::EAST => v.east = place,
+        names::SOUTH => v.south = place,
+        names::WEST => v.west = place,
+        names::OPTIMUM_SCORE => v.score = place,
+        names::PAR_CONTRACT => v.par = place,
         _ => {}
     }
     v
@@ -209,9 +211,9 @@ pub fn apply_tag(c: Conventions, k: u8, value: &[u8], place: usize, mut b: Board
     ensures { λ r. ⌜ r ≡ applied c k (now (value .entry)) place b ⌝ }
 {
     match k {
-        0 | 17 => b,
-        4 => deal_tag(c, value, place, b),
-        18 => {
+        0 | names::NOTE => b,
+        names::DEAL => deal_tag(c, value, place, b),
+        names::DOUBLE_DUMMY_TRICKS => {
             let t = table_by(value, b.table);
             b.table = t;
             b
@@ -257,9 +259,9 @@ pub fn open_by(c: Conventions, k: u8, value: &[u8], at: usize, split: Span) -> O
     ensures { λ r. ⌜ (r ≡ openBy c k (now (value .entry)) at split) × (r .seat ≤ 4) × (r .kind ≤ 3) × (r .kind ≡ 2 → r .seat ≤ 3) × (r .kind ≡ 1 → r .seat ≤ 3) ⌝ }
 {
     match k {
-        15 => seat_open(1, seat_in(c, value), at, split),
-        16 => seat_open(2, seat_in(c, value), at, split),
-        19 => Open {
+        names::AUCTION => seat_open(1, seat_in(c, value), at, split),
+        names::PLAY => seat_open(2, seat_in(c, value), at, split),
+        names::OPTIMUM_RESULT_TABLE => Open {
             kind: 3,
             seat: 4,
             at,

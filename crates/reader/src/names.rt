@@ -10,6 +10,49 @@ use crate::words::same;
 use tables::text::from;
 use tables::text::upto;
 
+// Each name's number, as in specs/Names.antt.
+pub const BOARD: u8 = 1;
+
+pub const DEALER: u8 = 2;
+
+pub const VULNERABLE: u8 = 3;
+
+pub const DEAL: u8 = 4;
+
+pub const EVENT: u8 = 5;
+
+pub const SITE: u8 = 6;
+
+pub const DATE: u8 = 7;
+
+pub const DECLARER: u8 = 8;
+
+pub const CONTRACT: u8 = 9;
+
+pub const RESULT: u8 = 10;
+
+pub const NORTH: u8 = 11;
+
+pub const EAST: u8 = 12;
+
+pub const SOUTH: u8 = 13;
+
+pub const WEST: u8 = 14;
+
+pub const AUCTION: u8 = 15;
+
+pub const PLAY: u8 = 16;
+
+pub const NOTE: u8 = 17;
+
+pub const DOUBLE_DUMMY_TRICKS: u8 = 18;
+
+pub const OPTIMUM_RESULT_TABLE: u8 = 19;
+
+pub const OPTIMUM_SCORE: u8 = 20;
+
+pub const PAR_CONTRACT: u8 = 21;
+
 // Whether the `n` bytes of `text` from `a` are `name`; their number is compared first.
 fn is_name(text: &[u8], a: usize, n: usize, name: &[u8]) -> bool
     ensures { λ r. ⌜ r ≡ (eqb n (length (now (name .entry))) && same (take n (drop a (now (text .entry)))) (now (name .entry))) ⌝ }

@@ -9,7 +9,7 @@ use Rattle.tables.specs.declared.numbers.Number.the-variants.{Value, Bad}
 use Rattle.tables.specs.declared.letters.Conventions.{Conventions}
 use Rattle.reader.specs.declared.board.Identity.{Identity}
 use Rattle.reader.specs.Words.{same, callToken, cardToken}
-use Rattle.reader.specs.Names.{tagNumber}
+use Rattle.reader.specs.Names.{tagNumber, noteName}
 use Rattle.reader.specs.Plain.{Item, TagPair, withoutReturns}
 use Rattle.writer.specs.declared.present.Present.{Present}
 use Rattle.writer.specs.declared.remarks.Sought.{Sought}
@@ -197,7 +197,7 @@ noteNumber v = cond (ltb (length (before 58 v)) (length v)) (orNone (numberOf 25
 unfoldable pub noteNumberAt : List ℕ → List ℕ → ℕ → ℕ
 noteNumberAt text entries e =
     cond (eqb (entryWord entries e 0) 1)
-    (cond (eqb (tagNumber (placeBytes text entries e)) 17) (noteNumber (placeBytes text entries (e + 1))) 256)
+    (cond (eqb (tagNumber (placeBytes text entries e)) noteName) (noteNumber (placeBytes text entries (e + 1))) 256)
     256
 
 -- A note with a number from n on that is not above the best so far takes its place.

@@ -5,6 +5,7 @@ use mathlib.Core.List.{List, [], _∷_}
 use mathlib.Core.Option.{Option, none, some}
 use lib.Dec.{eqb, ltb}
 use lib.ListN.{drop}
+use Rattle.reader.specs.Names.{boardName, dealerName, auctionName, playName, noteName, doubleDummyTricksName, optimumResultTableName, optimumScoreName, parContractName}
 use Rattle.reader.specs.Plain.{TagPair, PlainAuction, PlainBoard}
 use Rattle.writer.specs.declared.present.Present.{Present}
 use Rattle.writer.specs.Sections.{noteValues}
@@ -34,15 +35,15 @@ presentOf b =
       play = isThere (b .play);
     }
 
--- Whether a tag is written whose name has the number k, and stands on the board where k is 0: OptimumResultTable (19) never is.
+-- Whether a tag is written whose name has the number k, and stands on the board where k is 0: OptimumResultTable never is.
 unfoldable pub isWritten : Present → ℕ → Bool
 isWritten p k =
-    cond (eqb k 1) (p .board)
-    (cond (eqb k 2) (p .dealer)
-    (cond (eqb k 15) (p .auction)
-    (cond (eqb k 16) (p .play)
-    (cond (eqb k 17) (p .notes)
-    (cond (eqb k 18) (p .table)
-    (cond (eqb k 19) false
-    (cond (eqb k 20) (p .score)
-    (cond (eqb k 21) (p .par) true))))))))
+    cond (eqb k boardName) (p .board)
+    (cond (eqb k dealerName) (p .dealer)
+    (cond (eqb k auctionName) (p .auction)
+    (cond (eqb k playName) (p .play)
+    (cond (eqb k noteName) (p .notes)
+    (cond (eqb k doubleDummyTricksName) (p .table)
+    (cond (eqb k optimumResultTableName) false
+    (cond (eqb k optimumScoreName) (p .score)
+    (cond (eqb k parContractName) (p .par) true))))))))

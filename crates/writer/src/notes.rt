@@ -18,6 +18,7 @@ use crate::put::put_number;
 use crate::remarks::put_after;
 use crate::tags::put_close;
 use crate::tags::put_open;
+use reader::names::NOTE;
 use reader::names::tag_number;
 use tables::numbers::Number;
 use tables::numbers::read_number;
@@ -52,7 +53,7 @@ fn note_at(text: &[u8], entries: &[u32], e: usize) -> usize
     ensures { λ r. ⌜ (r ≡ noteNumberAt (now (text .entry)) (now (entries .entry)) e) × (r ≤ 256) ⌝ }
 {
     if entry_word(entries, e, 0) == 1 {
-        if tag_number(bytes_at(text, entries, e)) == 17 {
+        if tag_number(bytes_at(text, entries, e)) == NOTE {
             return note_number(bytes_at(text, entries, e + 1));
         }
         return 256;

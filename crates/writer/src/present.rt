@@ -1,6 +1,7 @@
 // Which tags of a board are written, decided by the numbers of their names.
 ghost use mathlib.Core.Path.{_≡_};
 ghost use Rattle.writer.specs.Steps.{isWritten};
+use reader::names;
 
 // What of a board there is: an id, a dealer, a table, an optimum score, a par contract, an auction, notes of it, a play.
 pub struct Present {
@@ -19,15 +20,15 @@ pub fn is_written(p: Present, k: u8) -> bool
     ensures { λ r. ⌜ r ≡ isWritten p k ⌝ }
 {
     match k {
-        1 => p.board,
-        2 => p.dealer,
-        15 => p.auction,
-        16 => p.play,
-        17 => p.notes,
-        18 => p.table,
-        19 => false,
-        20 => p.score,
-        21 => p.par,
+        names::BOARD => p.board,
+        names::DEALER => p.dealer,
+        names::AUCTION => p.auction,
+        names::PLAY => p.play,
+        names::NOTE => p.notes,
+        names::DOUBLE_DUMMY_TRICKS => p.table,
+        names::OPTIMUM_RESULT_TABLE => false,
+        names::OPTIMUM_SCORE => p.score,
+        names::PAR_CONTRACT => p.par,
         _ => true,
     }
 }
