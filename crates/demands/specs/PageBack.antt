@@ -63,7 +63,7 @@ pub data AllWritable : List PlainBoard → Type 0 where
   all-none : AllWritable []
   all-one : {b : PlainBoard} {bs : List PlainBoard} → Writable b → AllWritable bs → AllWritable (b ∷ bs)
 
--- A data line has no LF, is trimmed, and starts as no other line does: with no `{` (123), `;` (59), `%` (37) or `[` (91).
+-- A data line has no LF (10), is trimmed, and starts as no other line does: with no `{` (123), `;` (59), `%` (37) or `[` (91).
 abbrev pub startsData : ℕ → Bool
 startsData b = not (isWhite b || (eqb b 123 || (eqb b 59 || (eqb b 37 || eqb b 91))))
 
@@ -89,11 +89,11 @@ abbrev pub upToBrace : List ℕ → List (List ℕ) → List ℕ
 upToBrace l [] = take (lastBrace l) l
 upToBrace l (m ∷ ms) = l ++ upToBrace m ms
 
--- A directive that starts with `;` or `%`, not with `{`.
+-- A directive that starts with `;` or `%`, not with `{` (123).
 abbrev pub isSigned : List ℕ → Bool
 isSigned d = not (eqb (getD d 0 0) 123)
 
--- A written line and the lines of its text, each with its LF. A tag is a plain tag of that name and value; data and a directive have
+-- A written line and the lines of its text, each with its LF (10). A tag is a plain tag of that name and value; data and a directive have
 -- those bytes; a directive that starts with `{` is commentary on one line, and a block is commentary whose text it is, from behind the `{`
 -- (123). None of these is blank.
 pub data ReadsAs : Line → List (List ℕ) → Type 0 where
@@ -109,7 +109,7 @@ pub data ReadsAs : Line → List (List ℕ) → Type 0 where
 abbrev pub ownText : Conventions → PlainBoard → List ℕ
 ownText c b = linesText (leadingLines b) ++ bodyText c b
 
--- One record for each board, its lines; the empty line between two boards ends the earlier one. own are those of the first.
+-- One record for each board, its lines; the empty line (an LF, 10) between two boards ends the earlier one. own are those of the first.
 abbrev pub recordsAfter : Conventions → List ℕ → List PlainBoard → List (List ℕ)
 recordsAfter c own [] = own ∷ []
 recordsAfter c own (b ∷ bs) = (own ++ 10 ∷ []) ∷ recordsAfter c (ownText c b) bs

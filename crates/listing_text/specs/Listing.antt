@@ -38,7 +38,7 @@ stateText (Near k) = ascii " state=near"
 stateText (Twin k) = ascii " state=twin"
 stateText Solve = ascii " state=solve"
 
--- A board's line: its position, its state and its source board.
+-- A board's line: its position, its state and its source board. Each line ends with an LF (10).
 unfoldable pub boardLine : ℕ → BoardState → List ℕ
 boardLine p s = pair (ascii "board=") p ++ stateText s ++ pair (ascii " from=") (fromOf s) ++ (10 ∷ [])
 
@@ -46,13 +46,13 @@ abbrev pub boardLines : List Judged → List ℕ
 boardLines [] = []
 boardLines (j ∷ js) = boardLine (j .position) (j .state) ++ boardLines js
 
--- The totals.
+-- The totals, and an LF (10).
 unfoldable pub totalLine : Totals → List ℕ
 totalLine t =
     pair (ascii "total=") (t .boards) ++ pair (ascii " blank=") (t .blank) ++ pair (ascii " own=") (t .own) ++ pair (ascii " old=") (t .old)
     ++ pair (ascii " near=") (t .near) ++ pair (ascii " twin=") (t .twin) ++ pair (ascii " solve=") (t .solve) ++ (10 ∷ [])
 
--- A refusal of the old edition, or of the new; one of slips is told of the new, whose boards they are.
+-- A refusal of the old edition, or of the new; one of slips is told of the new, whose boards they are. An LF (10) ends it.
 unfoldable pub refusedLine : PlanRefusal → List ℕ
 refusedLine f = pair (ascii "refused=") (planNumber f) ++ ascii " edition=" ++ cond (eqb (planEdition f) 1) (ascii "old") (ascii "new") ++ (10 ∷ [])
 

@@ -90,10 +90,11 @@ digitsTable (refuses f) = record { kind = 0; cells = replicate 20 0 }
 unfoldable pub tableBy : ℕ → List ℕ → TableCard → TableCard
 tableBy k value t = cond (eqb k doubleDummyTricksName && not (eqb (t .kind) 2)) (digitsTable (tableOfDigits value)) t
 
--- Contract, where it is kept: the trump that a play takes from it.
+-- A contract is kept where it is neither empty nor `?` (63).
 abbrev pub isKeptContract : List ℕ → Bool
 isKeptContract value = not (eqb (length value) 0) && not (same (63 ∷ []) value)
 
+-- Contract, where it is kept: the trump that a play takes from it.
 unfoldable pub contractBy : Conventions → ℕ → List ℕ → ℕ → ℕ
 contractBy c k value trump = cond (eqb k contractName && isKeptContract value) (contractTrump c value) trump
 

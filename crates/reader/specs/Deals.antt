@@ -53,7 +53,7 @@ abbrev pub withCard : ℕ → Option (List ℕ) → Option (List ℕ)
 withCard k none = none
 withCard k (some ks) = some (k ∷ ks)
 
--- The cards that a text names, its suits from s down to clubs (0): a dot ends a suit, any other byte is a rank's letter.
+-- The cards that a text names, its suits from s down to clubs (0): a dot (46) ends a suit, any other byte is a rank's letter.
 abbrev pub cardsIn : Conventions → List ℕ → ℕ → Option (List ℕ)
 cardsIn c [] s = cond (eqb s 0) (some []) none
 cardsIn c (b ∷ bs) s =
@@ -66,7 +66,7 @@ abbrev pub atMost : ℕ → Option (List ℕ) → Option (List ℕ)
 atMost n none = none
 atMost n (some ks) = cond (leb (length ks) n) (some ks) none
 
--- Is it a dash alone?
+-- Is it a dash (45) alone?
 abbrev pub isDash : List ℕ → Bool
 isDash [] = false
 isDash (b ∷ []) = eqb b 45
@@ -127,7 +127,7 @@ abbrev pub turnedDeal : ℕ → DealRead → DealRead
 turnedDeal seat NoDeal = NoDeal
 turnedDeal seat (Dealt h) = Dealt (turned seat h)
 
--- A seat's letter, a colon right after it, and the hands from that seat on.
+-- A seat's letter, a colon (58) right after it, and the hands from that seat on.
 abbrev pub dealIn : Conventions → List ℕ → DealRead
 dealIn c [] = NoDeal
 dealIn c (a ∷ []) = NoDeal
@@ -180,6 +180,7 @@ abbrev pub toStep : ℕ → ℕ → HandRead → HandStep
 toStep s n NoHand = Off
 toStep s n (Held x) = To (record { cards = x; suit = s; room = n })
 
+-- One byte: a dot (46) ends a suit, any other byte is a card.
 unfoldable pub stepOf : Conventions → PartHand → ℕ → HandStep
 stepOf c h b =
     cond (eqb b 46)
@@ -248,7 +249,7 @@ ranksText c s (suc r) x = cardText c s r x ++ ranksText c s r x
 unfoldable pub suitText : Conventions → ℕ → ℕ → List ℕ
 suitText c s x = ranksText c s 13 x
 
--- A hand: a dash for no card, else four suits, spades first, with dots between them.
+-- A hand: a dash (45) for no card, else four suits, spades first, with dots (46) between them.
 unfoldable pub handText : Conventions → ℕ → List ℕ
 handText c x =
     cond (eqb x 0) (45 ∷ [])
@@ -263,10 +264,11 @@ abbrev pub clockwise : ℕ → Hands → Hands
 clockwise zero h = h
 clockwise (suc seat) h = clockwise seat (back h)
 
+-- Four hands with a blank (32) between them.
 abbrev pub handsText : Conventions → Hands → List ℕ
 handsText c h = handText c (h .north) ++ (32 ∷ []) ++ handText c (h .east) ++ (32 ∷ []) ++ handText c (h .south) ++ (32 ∷ []) ++ handText c (h .west)
 
--- A deal, from a seat on: its letter, a colon, four hands with a blank between them.
+-- A deal, from a seat on: its letter, a colon (58), four hands.
 unfoldable pub dealText : Conventions → ℕ → Hands → List ℕ
 dealText c seat h = (seatLetter c seat ∷ 58 ∷ []) ++ handsText c (clockwise seat h)
 

@@ -25,7 +25,7 @@ isBlank line = eqb (length (trimmed line)) 0
 unfoldable pub hasBrace : List ℕ → Bool
 hasBrace line = among 125 line
 
--- The place of the last `}`, the line's length where there is none.
+-- The place of the last `}` (125), the line's length where there is none.
 abbrev pub lastBrace : List ℕ → ℕ
 lastBrace [] = 0
 lastBrace (b ∷ bs) = cond (eqb b 125 && not (among 125 bs)) 0 (suc (lastBrace bs))

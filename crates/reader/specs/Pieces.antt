@@ -14,7 +14,7 @@ glue true b ls = (b ∷ []) ∷ ls
 glue false b [] = (b ∷ []) ∷ []
 glue false b (l ∷ ls) = (b ∷ l) ∷ ls
 
--- The lines of a text, each with its LF; the last may have none.
+-- The lines of a text, each with its LF (10); the last may have none.
 abbrev pub rawLines : List ℕ → List (List ℕ)
 rawLines [] = []
 rawLines (b ∷ bs) = glue (eqb b 10) b (rawLines bs)

@@ -154,7 +154,7 @@ abbrev pub remarksIn : ℕ → List Item → List Remark
 remarksIn k [] = []
 remarksIn k (i ∷ is) = cond (eqb (i .kind) k) (record { bytes = i .bytes; before = i .mark } ∷ remarksIn k is) (remarksIn k is)
 
--- A block's value drops a CR before each LF.
+-- A block's value drops a CR (13) before each LF (10).
 abbrev pub startsLine : List ℕ → Bool
 startsLine [] = false
 startsLine (b ∷ bs) = eqb b 10
@@ -282,11 +282,11 @@ pub data Anchored : ℕ → List Entry → Type 0 where
 
 -- ---- what can be written
 
--- A directive stands on one line and starts with `%` (37), with `;`, or with a `{` that is closed on the line.
+-- A directive stands on one line, so that it has no LF (10), and starts with `%` (37), with `;`, or with a `{` that is closed on the line.
 unfoldable pub goodDirective : List ℕ → Bool
 goodDirective d = not (among 10 d) && (eqb (getD d 0 0) 37 || isComment d)
 
--- A block has no `}` (125) before an LF: commentary ends at the first line with a `}`.
+-- A block has no `}` (125) before an LF (10): commentary ends at the first line with a `}`.
 abbrev pub goodBlock : List ℕ → Bool
 goodBlock [] = true
 goodBlock (b ∷ bs) = not (eqb b 125 && among 10 bs) && goodBlock bs

@@ -73,7 +73,7 @@ abbrev pub closedLast : Bool → Scan → List (List ℕ) → Bool
 closedLast b s [] = b
 closedLast b s (l ∷ ls) = closedLast (closesRecord s l) (cond (closesRecord s l) fresh (scanned s l)) ls
 
--- Whether a text ends just after an LF; b is what counts for an empty one.
+-- Whether a text ends just after an LF (10); b is what counts for an empty one.
 abbrev pub endsLine : Bool → List ℕ → Bool
 endsLine b [] = b
 endsLine b (x ∷ xs) = endsLine (eqb x 10) xs

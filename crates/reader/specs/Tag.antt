@@ -70,7 +70,7 @@ closeAt k f (b ∷ bs) = cond (eqb b 93 && endsQuoted f) (At k) (closeAt (k + 1)
 unfoldable pub nameOf : List ℕ → Name
 nameOf s = cond (ltb (length (word s)) (length s)) (Len (length (word s))) NoName
 
--- A value has an opening and a closing quote, which are two bytes.
+-- A value has an opening and a closing quote (34), which are two bytes.
 unfoldable pub isQuoted : List ℕ → Bool
 isQuoted s = cond (ltb (length s) 2) false (eqb (getD s 0 0) 34 && eqb (lastByte s) 34)
 
@@ -132,7 +132,7 @@ abbrev pub findAt : ℕ → ℕ → List ℕ → Close
 findAt x k [] = Nothing
 findAt x k (b ∷ bs) = cond (eqb b x) (At k) (findAt x (k + 1) bs)
 
--- The first `]` after the second quote, once the second quote, and the first one, are known.
+-- The first `]` (93) after the second quote (34), once the second quote, and the first one, are known.
 abbrev pub afterSecond : Close → List ℕ → Close
 afterSecond Nothing line = Nothing
 afterSecond (At q) line = findAt 93 (q + 1) (drop (q + 1) line)

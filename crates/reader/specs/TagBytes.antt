@@ -28,11 +28,11 @@ abbrev pub push : ℕ → Option Cut → Option Cut
 push b none = none
 push b (some k) = some (record { front = b ∷ k .front; rest = k .rest })
 
--- Whether a text that ends with b ends with a quote, white space apart, where q says it of the text before b.
+-- Whether a text that ends with b ends with a quote (34), white space apart, where q says it of the text before b.
 abbrev pub quoted : Bool → ℕ → Bool
 quoted q b = cond (isWhite b) q (eqb b 34)
 
--- Cut at the first `]` with a quote before it, white space apart. The `]` is in neither part.
+-- Cut at the first `]` (93) with a quote before it, white space apart. The `]` is in neither part.
 abbrev pub close : Bool → List ℕ → Option Cut
 close q [] = none
 close q (b ∷ bs) = cond (eqb b 93 && q) (some (record { front = []; rest = bs })) (push b (close (quoted q b) bs))
@@ -52,7 +52,7 @@ ahead x [] = none
 ahead x (b ∷ []) = cond (eqb b x) (some []) none
 ahead x (b ∷ c ∷ cs) = ahead x (c ∷ cs) >>= λ l. some (b ∷ l)
 
--- What stands between two quotes.
+-- What stands between two quotes (34).
 abbrev pub unquote : List ℕ → Option (List ℕ)
 unquote t = behind 34 t >>= ahead 34
 
@@ -71,7 +71,7 @@ pub record TagBytes : Type 0 where
   pub value : List ℕ
   pub comment : Option (List ℕ)
 
--- A tag and the comment after it.
+-- A tag, whose line starts with `[` (91), and the comment after it.
 unfoldable pub readTag : List ℕ → Option TagBytes
 readTag line = do
   body ← behind 91 (trimmed line)
@@ -86,7 +86,7 @@ pub record SplitBytes : Type 0 where
   pub value : List ℕ
   pub section : List ℕ
 
--- A tag up to the first `]` after the line's second quote, and the data behind it.
+-- A tag up to the first `]` (93) after the line's second quote (34), and the data behind it.
 unfoldable pub readSplit : List ℕ → Option SplitBytes
 readSplit line = do
   a ← past 34 line
@@ -108,7 +108,7 @@ splitBytes (Data t d) line = some (record { name = cut (t .name) line; value = c
 
 -- ---- what can be written
 
--- No `]` with a quote before it, white space apart; q says whether a quote stands before the text.
+-- No `]` (93) with a quote before it, white space apart; q says whether a quote stands before the text.
 abbrev pub unclosed : Bool → List ℕ → Bool
 unclosed q [] = true
 unclosed q (b ∷ bs) = not (eqb b 93 && q) && unclosed (quoted q b) bs
@@ -117,13 +117,14 @@ unclosed q (b ∷ bs) = not (eqb b 93 && q) && unclosed (quoted q b) bs
 unfoldable pub goodName : List ℕ → Bool
 goodName n = every isWord n && unclosed false n
 
--- A value has no LF, and no `]` that stands first or after a quote, white space apart.
+-- A value has no LF (10), and no `]` that stands first or after a quote, white space apart.
 unfoldable pub goodValue : List ℕ → Bool
 goodValue v = not (among 10 v) && unclosed true v
 
--- The line `[name "value"]`.
+-- The line `[name "value"]`: `[` (91), the name, a blank (32), a quote (34), the value, a quote, `]` (93).
 unfoldable pub tagText : List ℕ → List ℕ → List ℕ
 tagText n v = 91 ∷ (n ++ 32 ∷ 34 ∷ (v ++ 34 ∷ 93 ∷ []))
 
+-- 0 to 9 (48 to 57).
 abbrev pub isDigit : ℕ → Bool
 isDigit b = leb 48 b && leb b 57

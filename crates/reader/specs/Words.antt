@@ -26,7 +26,7 @@ sameWord (x ∷ xs) (y ∷ ys) = eqb x (capital y) && sameWord xs ys
 
 -- ---- calls
 
--- The digits 1 to 7 are levels; any other byte is 0.
+-- The digits 1 to 7 (49 to 55; 0 is 48) are levels; any other byte is 0.
 unfoldable pub levelOf : ℕ → ℕ
 levelOf b = cond (ltb b 49) 0 (cond (ltb 55 b) 0 (b - 48))
 
@@ -47,6 +47,7 @@ bidOf c (l ∷ s) = bidCode (levelOf l) (strainOf c s)
 unfoldable pub isPass : List ℕ → Bool
 isPass t = sameWord (ascii "PASS") t || sameWord (ascii "P") t || same (ascii "-") t
 
+-- `_` (95).
 abbrev pub isUnderscore : ℕ → Bool
 isUnderscore b = eqb 95 b
 
@@ -70,7 +71,7 @@ signCode t =
 unfoldable pub callOf : Conventions → List ℕ → ℕ
 callOf c t = cond (ltb (bidOf c t) 47) (bidOf c t) (signCode t)
 
--- As written: Pass, a level and a strain's letter or NT, X, XX, +, underscores.
+-- As written: Pass, a level (1 is 49) and a strain's letter or NT, X, XX, +, underscores (95).
 abbrev pub bidToken : Conventions → ℕ → List ℕ
 bidToken c n = (49 + n / 5) ∷ strainToken c (n % 5)
 
@@ -85,7 +86,7 @@ callToken c k =
 
 -- ---- what stands beside calls
 
--- An annotation begins with = ! ? or $ .
+-- An annotation begins with `=` (61), `!` (33), `?` (63) or `$` (36).
 unfoldable pub isMark : ℕ → Bool
 isMark b = eqb b 61 || eqb b 33 || eqb b 63 || eqb b 36
 

@@ -22,10 +22,11 @@ honourLetters c = take 5 (drop 8 (c .letters))
 unfoldable pub builtIn : Conventions
 builtIn = record { letters = ascii "NESWSHDCAKQJT" }
 
+-- A to Z (65 to 90).
 unfoldable pub isCapital : ℕ → Bool
 isCapital b = leb 65 b && leb b 90
 
--- A letter a to z as its capital, any other byte as it is.
+-- A letter a to z (97 to 122) as its capital, which is 32 below; any other byte as it is.
 unfoldable pub capital : ℕ → ℕ
 capital b = cond (ltb b 97) b (cond (ltb 122 b) b (b - 32))
 
@@ -46,21 +47,21 @@ suitOf c b = downFrom 3 4 4 (indexIn (suitLetters c) (capital b))
 unfoldable pub honourOf : Conventions → ℕ → ℕ
 honourOf c b = downFrom 12 5 13 (indexIn (honourLetters c) (capital b))
 
--- Spot cards are the digits 2 to 9.
+-- Spot cards are the digits 2 to 9 (50 to 57).
 unfoldable pub rankOf : Conventions → ℕ → ℕ
 rankOf c b = cond (ltb b 50) (honourOf c b) (cond (ltb 57 b) (honourOf c b) (b - 50))
 
 abbrev pub suitStrain : ℕ → ℕ
 suitStrain s = cond (ltb s 4) s 5
 
--- N or NT is notrump in every language; else a suit's letter.
+-- N (78) or NT (78, 84) is notrump in every language; else a suit's letter.
 abbrev pub strainOf : Conventions → List ℕ → ℕ
 strainOf c [] = 5
 strainOf c (a ∷ []) = cond (eqb (capital a) 78) 4 (suitStrain (suitOf c a))
 strainOf c (a ∷ b ∷ []) = cond (eqb (capital a) 78 && eqb (capital b) 84) 4 5
 strainOf c (a ∷ b ∷ d ∷ ds) = 5
 
--- As written: of a seat, a suit, a strain and a rank.
+-- As written: of a seat, a suit, a strain (NT is 78, 84) and a rank (2 is 50).
 abbrev pub seatLetter : Conventions → ℕ → ℕ
 seatLetter c s = getD (c .letters) s 0
 
@@ -74,7 +75,7 @@ abbrev pub rankLetter : Conventions → ℕ → ℕ
 rankLetter c r = cond (ltb r 8) (50 + r) (getD (c .letters) (20 - r) 0)
 
 -- Which letters are allowed: thirteen of A to Z; seats differ from each other, suits from each other, honours from each
--- other; no suit is N or X.
+-- other; no suit is N (78) or X (88).
 abbrev pub every : (ℕ → Bool) → List ℕ → Bool
 every p [] = true
 every p (x ∷ xs) = p x && every p xs
@@ -96,6 +97,6 @@ pub record Accepted (c : Conventions) : Type 0 where
   pub no-suit-n : among 78 (suitLetters c) ≡ false
   pub no-suit-x : among 88 (suitLetters c) ≡ false
 
--- What a letter never is: white space, a quote, a bracket, a colon, a dot, a digit.
+-- What a letter never is: white space, a quote (34), `[` (91), `]` (93), a colon (58), a dot (46), a digit (48 to 57).
 unfoldable pub isPlain : ℕ → Bool
 isPlain b = not (isWhite b || (eqb b 34 || (eqb b 91 || (eqb b 93 || (eqb b 58 || (eqb b 46 || (leb 48 b && leb b 57)))))))

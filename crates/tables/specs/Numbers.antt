@@ -6,7 +6,7 @@ use lib.Dec.{ltb, eqb}
 use Rattle.tables.specs.declared.numbers.Number.{Number}
 use Rattle.tables.specs.declared.numbers.Number.the-variants.{Value, Bad}
 
--- Digits behind the number v; above the limit is no number.
+-- Digits, 0 to 9 (48 to 57), behind the number v; above the limit is no number.
 abbrev pub digitsFrom : ℕ → List ℕ → ℕ → Number
 digitsFrom limit [] v = Value v
 digitsFrom limit (b ∷ bs) v =
@@ -24,7 +24,7 @@ abbrev pub someDigits : ℕ → List ℕ → Number
 someDigits limit [] = Bad
 someDigits limit (b ∷ bs) = digitsFrom limit (b ∷ bs) 0
 
--- A number from 0 to the limit.
+-- A number from 0 to the limit; `+` (43) may stand before it.
 abbrev pub numberOf : ℕ → List ℕ → Number
 numberOf limit [] = Bad
 numberOf limit (b ∷ bs) = cond (eqb b 43) (someDigits limit bs) (someDigits limit (b ∷ bs))
@@ -37,12 +37,12 @@ abbrev pub lowered : ℕ → Number → Number
 lowered half Bad = Bad
 lowered half (Value v) = Value (half - v)
 
--- A signed number from -half to half - 1, given as the number plus half.
+-- A signed number from -half to half - 1, given as the number plus half; `-` (45) or `+` may stand before it.
 abbrev pub signedOf : ℕ → List ℕ → Number
 signedOf half [] = Bad
 signedOf half (b ∷ bs) = cond (eqb b 45) (lowered half (someDigits half bs)) (raised half (numberOf (half - 1) (b ∷ bs)))
 
--- The decimal digits of n before acc, at most f + 1 of them.
+-- The decimal digits (0 is 48) of n before acc, at most f + 1 of them.
 unfoldable pub digits : ℕ → ℕ → List ℕ → List ℕ
 digits zero n acc = (48 + n % 10) ∷ acc
 digits (suc f) n acc = cond (ltb n 10) ((48 + n % 10) ∷ acc) (digits f (n / 10) ((48 + n % 10) ∷ acc))

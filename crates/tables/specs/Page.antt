@@ -43,6 +43,6 @@ pub record Digits (n : ℕ) (buf : List ℕ) (r : ℕ) : Type 0 where
   pub stand : drop r buf ≡ decimal n
   pub inside : r ≤ 9
 
--- A text to the right in w places: spaces before one that is shorter.
+-- A text to the right in w places: blanks (32) before one that is shorter.
 unfoldable pub right : ℕ → List ℕ → List ℕ
 right w bs = replicate (w - length bs) 32 ++ bs

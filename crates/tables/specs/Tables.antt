@@ -31,7 +31,7 @@ tableRead (refuses f) = record { answer = Refused f; table = replicate 20 0 }
 
 -- ---- DoubleDummyTricks: twenty base-14 digits
 
--- 0 to 9, then a to d; larger counts are written d.
+-- 0 to 9 (48 to 57), then a to d (97 to 100); larger counts are written d.
 unfoldable pub digitByte : ℕ → ℕ
 digitByte t = cond (ltb t 10) (48 + t) (cond (ltb t 13) (87 + t) 100)
 
@@ -39,7 +39,7 @@ digitByte t = cond (ltb t 10) (48 + t) (cond (ltb t 13) (87 + t) 100)
 abbrev pub digitsText : List ℕ → List ℕ
 digitsText cells = map digitByte cells
 
--- The tricks of a digit, in either case; 14 where the character is none.
+-- The tricks of a digit: 0 to 9 (48 to 57), A to D (65 to 68), a to d (97 to 100); 14 where the character is none.
 unfoldable pub digitOf : ℕ → ℕ
 digitOf b =
     cond (ltb b 48) 14
@@ -71,6 +71,7 @@ abbrev pub widthOf : List ℕ → ℕ
 widthOf [] = 1
 widthOf (t ∷ ts) = cond (ltb 9 t) 2 (widthOf ts)
 
+-- The result column's width, a digit (0 is 48), and `R` (82) end the header.
 unfoldable pub headerText : List ℕ → List ℕ
 headerText cells = ascii "Declarer;Denomination\\2R;Result\\" ++ ((48 + widthOf cells) ∷ []) ++ (82 ∷ [])
 
@@ -82,15 +83,15 @@ rowOrder k = cond (eqb k 1) 2 (cond (eqb k 2) 1 k)
 unfoldable pub cellOf : ℕ → ℕ → ℕ
 cellOf seat strain = 5 * rowOrder seat + (4 - strain)
 
--- The strain of a column, to the right in two places.
+-- The strain of a column, to the right in two places: NT (78, 84), or a blank (32) and a suit's letter.
 unfoldable pub columnText : Conventions → ℕ → List ℕ
 columnText c k = cond (eqb k 0) (78 ∷ 84 ∷ []) (32 ∷ suitLetter c (4 - k) ∷ [])
 
--- The row of a cell: declarer, denomination, result.
+-- The row of a cell: declarer, denomination, result, a blank (32) between them.
 unfoldable pub rowText : Conventions → ℕ → ℕ → ℕ → List ℕ
 rowText c w cell tricks = (seatLetter c (rowOrder (cell / 5)) ∷ []) ++ (32 ∷ []) ++ columnText c (cell % 5) ++ (32 ∷ []) ++ right w (decimal tricks)
 
--- The rows from a cell on, an LF after each.
+-- The rows from a cell on, an LF (10) after each.
 abbrev pub rowsFrom : Conventions → ℕ → ℕ → List ℕ → List ℕ
 rowsFrom c w cell [] = []
 rowsFrom c w cell (t ∷ ts) = (rowText c w cell t ++ (10 ∷ [])) ++ rowsFrom c w (cell + 1) ts

@@ -12,7 +12,7 @@ abbrev pub ascii : String → List ℕ
 ascii S.[] = []
 ascii (S._∷_ c s) = code c ∷ ascii s
 
--- White space is bytes 9 to 13 and 32.
+-- White space is tab, LF, VT, FF, CR (9 to 13) and blank (32).
 unfoldable pub isWhite : ℕ → Bool
 isWhite b = leb 9 b && leb b 13 || eqb b 32
 
@@ -69,7 +69,7 @@ word s = front isWord s
 abbrev pub pastWord : List ℕ → List ℕ
 pastWord s = beyond isWord s
 
--- Lines end at LF (byte 10). What follows the last LF is a line where it is not empty.
+-- Lines end at LF (10). What follows the last LF is a line where it is not empty.
 abbrev pub lines : List ℕ → List (List ℕ)
 lines [] = []
 lines (b ∷ bs) = cond (eqb b 10) ([] ∷ lines bs) (prepend b (lines bs))
@@ -81,11 +81,11 @@ differs x b = not (eqb b x)
 abbrev pub before : ℕ → List ℕ → List ℕ
 before x s = front (differs x) s
 
--- The bytes before the first LF.
+-- The bytes before the first LF (10).
 abbrev pub line : List ℕ → List ℕ
 line s = before 10 s
 
--- Bytes 80 to BF (hexadecimal) stand inside a character.
+-- Bytes 80 to BF (hexadecimal; 128 to 191) stand inside a character.
 unfoldable pub isInside : ℕ → Bool
 isInside b = leb 128 b && leb b 191
 

@@ -157,10 +157,11 @@ bodyHeld c text cards entries b =
 
 -- ---- the page
 
--- The file's header: the directives before the first board's first tag and an empty line, or the built-in one.
+-- The file's header: the directives before the first board's first tag and an empty line (an LF, 10), or the built-in one.
 unfoldable pub headerHeld : List ℕ → List ℕ
 headerHeld lead = cond (eqb (length lead) 0) builtInHeader (lead ++ 10 ∷ [])
 
+-- Any other board, an empty line (an LF, 10) before it.
 unfoldable pub nextHeld : Conventions → List ℕ → List ℕ → List ℕ → ℕ → List ℕ
 nextHeld c text cards entries b = (10 ∷ []) ++ leadHeld text cards entries b ++ bodyHeld c text cards entries b
 

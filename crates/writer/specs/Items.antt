@@ -41,7 +41,7 @@ isFirst Leading = true
 isFirst Under = false
 isFirst (Lost p) = false
 
--- A directive (3) on its line, a block (4) in braces.
+-- A directive (3) on its line, a block (4) in braces, `{` (123) and `}` (125); an LF (10) ends each.
 abbrev pub remarkText : ℕ → List ℕ → List ℕ
 remarkText k bs = cond (eqb k 4) (123 ∷ (withoutReturns bs ++ 125 ∷ 10 ∷ [])) (bs ++ 10 ∷ [])
 
@@ -58,7 +58,7 @@ afterText fresh n is = remarksText (soughtBy Under n) false 3 is ++ cond fresh (
 
 -- ---- tags
 
--- A tag on its line.
+-- A tag on its line: `[` (91), the name, a blank (32), a quote (34), the value, a quote, `]` (93), an LF (10).
 unfoldable pub tagLineText : List ℕ → List ℕ → List ℕ
 tagLineText n v = ((91 ∷ []) ++ n ++ (32 ∷ 34 ∷ [])) ++ v ++ (34 ∷ 93 ∷ 10 ∷ [])
 
@@ -91,11 +91,12 @@ resultIn met result = record { «number_met» = 0; number = 0; dealer = 4; vulne
 
 -- ---- auctions
 
--- What stands before the call number n, from 0: nothing, an LF where a line begins, else a blank.
+-- What stands before the call number n, from 0: nothing, an LF (10) where a line begins, else a blank (32).
 unfoldable pub beforeCall : ℕ → List ℕ
 beforeCall n = cond (eqb n 0) [] (cond (eqb (n % 4) 0) (10 ∷ []) (32 ∷ []))
 
 -- The calls of entries in a row, n calls before them; called says that an annotation would belong to the last call.
+-- An LF (10) ends the last line.
 abbrev pub callsText : Conventions → ℕ → Bool → List Item → List ℕ
 callsText c n called [] = cond (eqb n 0) [] (10 ∷ [])
 callsText c n called (i ∷ is) =
@@ -107,16 +108,17 @@ abbrev pub lastCode : ℕ → List Item → ℕ
 lastCode k [] = k
 lastCode k (i ∷ is) = lastCode (cond (eqb (i .kind) 6) (i .mark) k) is
 
--- The end's line, unless the last call is `+`.
+-- The end's line: `+` (43) or `*` (42), and an LF (10).
 unfoldable pub endText : ℕ → List ℕ
 endText end = cond (eqb end 1) (43 ∷ 10 ∷ []) (cond (eqb end 2) (42 ∷ 10 ∷ []) [])
 
+-- The calls, then the end's line, unless the last call is `+` (code 38).
 unfoldable pub auctionText : Conventions → ℕ → List Item → List ℕ
 auctionText c end is = callsText c 0 false is ++ cond (eqb (lastCode 47 is) 38) [] (endText end)
 
 -- ---- plays
 
--- A card behind n others of its trick.
+-- A card behind n others of its trick, a blank (32) between two.
 abbrev pub slotText : Conventions → ℕ → ℕ → List ℕ
 slotText c n k = cond (ltb k 52) (cond (eqb n 0) [] (32 ∷ []) ++ cardToken c k) []
 
@@ -124,7 +126,7 @@ slotText c n k = cond (ltb k 52) (cond (eqb n 0) [] (32 ∷ []) ++ cardToken c k
 abbrev pub oneMore : ℕ → ℕ → ℕ
 oneMore n k = cond (ltb k 52) (n + 1) n
 
--- A trick's line from its slots, n cards before them; the LF where there are any.
+-- A trick's line from its slots, n cards before them; the LF (10) where there are any.
 abbrev pub slotsText : Conventions → ℕ → List ℕ → List ℕ
 slotsText c n [] = cond (eqb n 0) [] (10 ∷ [])
 slotsText c n (k ∷ ks) = slotText c n k ++ slotsText c (oneMore n k) ks
@@ -142,7 +144,7 @@ playText c end is = tricksText c is ++ endText end
 
 -- ---- tags in a row
 
--- Data lines, each with its LF.
+-- Data lines, each with its LF (10).
 abbrev pub rowsText : List (List ℕ) → List ℕ
 rowsText [] = []
 rowsText (d ∷ ds) = (d ++ 10 ∷ []) ++ rowsText ds
@@ -189,7 +191,7 @@ abbrev pub orNone : Number → ℕ
 orNone Bad = 256
 orNone (Value v) = v
 
--- The number of a note's value, 256 where it has no colon or no number before it.
+-- The number of a note's value, 256 where it has no colon (58) or no number before it.
 unfoldable pub noteNumber : List ℕ → ℕ
 noteNumber v = cond (ltb (length (before 58 v)) (length v)) (orNone (numberOf 255 (trimmed (before 58 v)))) 256
 
@@ -212,7 +214,7 @@ nextNote text entries n best e (suc m) =
     (cond (better n (best .number) (noteNumberAt text entries e)) (record { number = noteNumberAt text entries e; place = e }) best)
     (e + 1) m
 
--- A note's value is its number, a colon and what follows the first colon of the value at its place.
+-- A note's value is its number, a colon (58) and what follows the first colon of the value at its place.
 unfoldable pub noteText : List ℕ → List ℕ → Note → List ℕ
 noteText text entries note =
     decimal (note .number) ++ (58 ∷ []) ++ drop (length (before 58 (placeBytes text entries (note .place + 1))) + 1) (placeBytes text entries (note .place + 1))

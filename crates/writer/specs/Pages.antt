@@ -23,12 +23,12 @@ bodyText c b = linesText (bodyLines b (writtenTags c b (ownPlay c (b .play))))
 unfoldable pub builtInHeader : List ℕ
 builtInHeader = ascii "% PBN 2.1\n% EXPORT\n\n"
 
--- Directives before the first board's first tag are the file's header, and an empty line follows them.
+-- Directives before the first board's first tag are the file's header, and an empty line (an LF, 10) follows them.
 abbrev pub headerText : List Line → List ℕ
 headerText [] = builtInHeader
 headerText (l ∷ ls) = linesText (l ∷ ls) ++ 10 ∷ []
 
--- The part of the first board, with the file's header; and that of any other, an empty line before it.
+-- The part of the first board, with the file's header; and that of any other, an empty line (an LF, 10) before it.
 unfoldable pub firstPart : Conventions → PlainBoard → List ℕ
 firstPart c b = headerText (leadingLines b) ++ bodyText c b
 

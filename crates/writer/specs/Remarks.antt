@@ -126,7 +126,7 @@ boardLines c b play = leadingLines b ++ bodyLines b (writtenTags c b play)
 
 -- ---- bytes
 
--- A line with its LF. A block stands in braces.
+-- A line with its LF (10). A block stands in braces, `{` (123) and `}` (125).
 unfoldable pub lineText : Line → List ℕ
 lineText (tagLine n v) = tagText n v ++ 10 ∷ []
 lineText (dataLine d) = d ++ 10 ∷ []

@@ -13,7 +13,7 @@ use Rattle.reader.specs.declared.play.Slots.{Slots}
 use Rattle.reader.specs.Words.{same, callToken, cardToken}
 use Rattle.reader.specs.Plain.{TagPair, PlainCall, PlainAuction, PlainTrick, PlainPlay}
 
--- Tokens in a row, one blank between them.
+-- Tokens in a row, one blank (32) between them.
 abbrev pub spaced : List (List ℕ) → List ℕ
 spaced [] = []
 spaced (t ∷ []) = t
@@ -49,7 +49,7 @@ auctionLines c a = rounds (map (callText c) (a .calls)) ++ cond (endsContinued (
 
 -- ---- notes
 
--- What follows the first colon; none where there is no colon.
+-- What follows the first colon (58); none where there is no colon.
 abbrev pub afterColon : List ℕ → Option (List ℕ)
 afterColon [] = none
 afterColon (b ∷ bs) = cond (eqb b 58) (some bs) (afterColon bs)
@@ -58,7 +58,7 @@ abbrev pub isNumber : ℕ → Number → Bool
 isNumber n Bad = false
 isNumber n (Value v) = eqb v n
 
--- The text of the note n that a tag gives: a Note tag whose bytes before its first colon, trimmed, are the number n, from 0 to 255. The
+-- The text of the note n that a tag gives: a Note tag whose bytes before its first colon (58), trimmed, are the number n, from 0 to 255. The
 -- text is all that follows the colon.
 unfoldable pub noteIn : ℕ → TagPair → Option (List ℕ)
 noteIn n t =
@@ -73,7 +73,7 @@ abbrev pub noteAt : ℕ → List TagPair → Option (List ℕ)
 noteAt n [] = none
 noteAt n (t ∷ ts) = later (noteAt n ts) (noteIn n t)
 
--- The values of the notes from the number n on, k numbers long, by rising number: `n:text`.
+-- The values of the notes from the number n on, k numbers long, by rising number: `n:text`, with a colon (58).
 abbrev pub noteValue : ℕ → Option (List ℕ) → List (List ℕ)
 noteValue n none = []
 noteValue n (some text) = (decimal n ++ 58 ∷ text) ∷ []

@@ -48,7 +48,7 @@ seatText c s = cond (ltb s 4) (seatLetter c s ∷ []) []
 abbrev pub vulnerability : Identity → ℕ
 vulnerability i = cond (eqb (i .vulnerability) 4) 0 (i .vulnerability)
 
--- A result in decimal, `-` before a negative one; it is kept as the result plus 128.
+-- A result in decimal, `-` (45) before a negative one; it is kept as the result plus 128.
 unfoldable pub resultText : Identity → List ℕ
 resultText i = cond (eqb (i .«result_met») 0) [] (cond (ltb (i .result) 128) (45 ∷ decimal (128 - i .result)) (decimal (i .result - 128)))
 
