@@ -82,7 +82,7 @@ pub line-counts : (c : Conventions) (r : List ℕ) (s : State) (p : ℕ) (l : Li
 unfolding lineOut
 line-counts c r s p l = counts-cond (s .noting) s (inNote r s p l) (lineBy c r s p l (lineKind l)) (note-counts r s p l) (by-counts c r s p l (lineKind l))
 
-lines-counts : (c : Conventions) (r : List ℕ) (s : State) (p : ℕ) (ls : List (List ℕ)) → Counts s (linesOut c r s p ls)
+pub lines-counts : (c : Conventions) (r : List ℕ) (s : State) (p : ℕ) (ls : List (List ℕ)) → Counts s (linesOut c r s p ls)
 lines-counts c r s p [] = closed-counts c r s
 lines-counts c r s p (l ∷ ls) = counts-then s (lineOut c r s p l) (linesOut c r (lineOut c r s p l .state) (p + length l) ls) (line-counts c r s p l) (lines-counts c r (lineOut c r s p l .state) (p + length l) ls)
 

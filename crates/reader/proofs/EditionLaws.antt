@@ -1,13 +1,12 @@
 -- Laws of cards, and of reading record after record.
-use Prim.Native.Nat.{ℕ, suc, _+_, _*_, _-_, _/_, _%_, _≤_, _<_}
+use Prim.Native.Nat.{ℕ, _+_, _*_, _-_, _/_, _%_, _≤_, _<_}
 use mathlib.Core.Path.{_≡_, refl, sym, ap, _∙_}
 use mathlib.Core.Bool.{Bool, true, false, cond, not}
 use mathlib.Core.List.{List, [], _∷_, _++_, map, append-nil}
-use native.Mathlib.Nat.{add-zero}
 use native.Mathlib.Omega.{arith}
 use borrow.Author.Tests.{ltb-false, lt-ltb, le-ltb}
 use lib.Dec.{ltb}
-use lib.ListN.{length, take, drop, set, replicate, length-append, length-map, length-take, length-drop, length-replicate}
+use lib.ListN.{length, take, drop, replicate, length-append, length-map, length-take, length-drop, length-replicate}
 use lib.Seq.{sets, sets-eq, drop-length}
 use Rattle.tables.specs.declared.letters.Conventions.{Conventions}
 use Rattle.tables.proofs.Laws.{clash, stop}
@@ -28,6 +27,7 @@ use Rattle.reader.specs.Editions.{isTaken, headWords, backWords, cardWor
 use Rattle.reader.proofs.Seams.{no-records}
 use Rattle.reader.proofs.StoreLaws.{putAll-append, Blocks, blocks-append, blocks-map, put-zeros}
 use Rattle.reader.proofs.BoardLaws.{record-counts}
+use Rattle.reader.proofs.Counts.{EntriesFew, TextEntriesFew}
 use Rattle.reader.proofs.StoreLaws as store
 
 -- ---- stores one behind the other
@@ -82,17 +82,20 @@ word-sum n x = omega arith
 pub own-length : (t : List ℕ) (a e : ℕ) → a ≤ e → e ≤ length t → a + length (take (e - a) (drop a t)) ≡ e
 own-length t a e h₁ h₂ = omega (arith, length-take (e - a) (drop a t), length-drop a t)
 
+-- A record's state counts at most four entries for each byte.
+pub record-few : (c : Conventions) (r : List ℕ) {s : State} → s ≡ recordOut c r .state → s .n ≤ 4 * length r
+record-few c r e = omega (arith, ap (λ (x : State). x .n) e, record-counts c r, EntriesFew c r)
+
 pub record-in : {c : Conventions} {r : List ℕ} {a e k n : ℕ} {cards entries : List ℕ} {s : State} (m : ℕ) (cards′ entries′ : List ℕ) → e ≡ a + length r
-    → Emits a n entries entries′ s (recordOut c r) → s .n ≤ 100663300 * length r + 100663300
+    → Emits a n entries entries′ s (recordOut c r)
     → (cards′ ≡ put 64 cards k (cardWords a e n (s .n) (s .board))) × (length (cardWords a e n (s .n) (s .board)) ≡ 64)
     → m ≡ n + s .n → RecordIn c r a k n cards entries m cards′ entries′
-record-in {c} {r} {a} {e} {k} {n} {cards} {entries} {s} m cards′ entries′ ee em few p eq =
+record-in {c} {r} {a} {e} {k} {n} {cards} {entries} {s} m cards′ entries′ ee em p eq =
     let es : s .n ≡ length (recordOut c r .entries) = ap (λ (x : State). x .n) (em .answer) ∙ record-counts c r in
     let eb : s .board ≡ recordOut c r .state .board = ap (λ (x : State). x .board) (em .answer) in
     let w : cardWords a e n (s .n) (s .board) ≡ cardOf c a n r = rw (ee, es, eb) in
     record {
       answer = eq ∙ ap (λ (x : ℕ). n + x) es;
-      few = omega arith;
       card = p .0 ∙ ap (put 64 cards k) w;
       words = em .words;
       whole = sym (ap length w) ∙ p .1;
@@ -143,14 +146,13 @@ left-none l =
 pub record Turn (c : Conventions) (text cards₀ entries₀ cards entries : List ℕ) (a boards n : ℕ) : Type 0 where
   pub inside : a ≤ length text
   pub few-boards : boards ≤ a
-  pub few : n ≤ 201326600 * a
   pub cards-length : length cards ≡ length cards₀
   pub entries-length : length entries ≡ length entries₀
   pub left : Left c text cards₀ entries₀ (recordsOf (drop a text)) a cards entries boards n
 
 pub turn-first : (c : Conventions) (text cards entries : List ℕ) → Turn c text cards entries cards entries 0 0 0
 turn-first c text cards entries =
-    record { inside = omega arith; few-boards = omega arith; few = omega arith; cards-length = refl; entries-length = refl; left = left-all c text cards entries }
+    record { inside = omega arith; few-boards = omega arith; cards-length = refl; entries-length = refl; left = left-all c text cards entries }
 
 unmet : (b : Bool) → not b ≡ true → b ≡ false
 unmet true e = clash e
@@ -161,6 +163,10 @@ met-so true e = refl
 met-so false e = clash (sym e)
 
 module _ {c : Conventions} {text cards₀ entries₀ cards entries : List ℕ} {a boards n : ℕ} (i : Turn c text cards₀ entries₀ cards entries a boards n) where
+  -- There are never more entries than those of the text.
+  pub turn-few : n ≤ 4 * length text
+  turn-few = omega (arith, i .left .entries-in, TextEntriesFew c text)
+
   -- A record is read.
   pub turn-next : {r : RecordEnd} (m : ℕ) (cards′ entries′ : List ℕ) → EndsAt text a r → not (r .met) ≡ false → length cards′ ≡ length cards → length entries′ ≡ length entries
       → RecordIn c (take (r .end - a) (drop a text)) a boards n cards entries m cards′ entries′
@@ -175,7 +181,6 @@ module _ {c : Conventions} {text cards₀ entries₀ cards entries : List ℕ} {
       record {
         inside = h₂;
         few-boards = omega (arith, i .few-boards);
-        few = omega (arith, i .few, k .few);
         cards-length = lc ∙ i .cards-length;
         entries-length = le ∙ i .entries-length;
         left = rw ee at (left-less (rw first at (i .left)) k);

@@ -1,17 +1,15 @@
 -- Laws of the lines of a record.
-use Prim.Native.Nat.{ℕ, suc, _+_, _-_, _*_, _≤_, _<_}
+use Prim.Native.Nat.{ℕ, suc, _+_, _-_, _*_, _≤_}
 use mathlib.Core.Path.{_≡_, refl, sym, ap, _∙_}
-use mathlib.Core.Bool.{Bool, true, false, cond, not}
-use mathlib.Core.List.{List, [], _∷_, _++_, map, append-nil}
-use native.Mathlib.Nat.{add-zero}
+use mathlib.Core.Bool.{Bool, true, false, cond}
+use mathlib.Core.List.{List, [], _∷_, _++_, map}
 use native.Mathlib.Omega.{arith}
 use lib.Dec.{eqb, eqb·suc-suc}
-use lib.ListN.{length, take, drop, length-append}
-use borrow.Author.Tests.{eq-eqb, ne-eqb}
-use Rattle.tables.specs.Text.{isWhite, lead, front}
+use lib.ListN.{length, length-append}
+use borrow.Author.Tests.{ne-eqb}
+use Rattle.tables.specs.Text.{isWhite, lead}
 use Rattle.tables.specs.Letters.{every}
 use Rattle.tables.specs.declared.dd.TableRead.{TableRead}
-use Rattle.tables.specs.declared.dd.Decoded.{Decoded}
 use Rattle.tables.specs.declared.dd.Decoded.the-variants.{Table, Refused}
 use Rattle.tables.specs.Tables.{Reading, holds, refuses, tableRead}
 use Rattle.tables.proofs.Laws.{by-cases}
@@ -71,43 +69,29 @@ last-stored a n w kind l l′ t k e few =
 pub last-kept : (a n : ℕ) (w : Walk) (kind : ℕ) (l : List ℕ) → eqb kind 2 ≡ false → LastStored a n kind w l l (w .bidding .count + w .tricks .count)
 last-kept a n w kind l k = record { stored = rw k; counted = rw k (omega arith); few = omega arith }
 
--- A state without an open section is sound wherever its block is.
-pub section-sound : (p : ℕ) (s : State) (b : Board) (k : ℕ) → s .block ≤ p + 1 → Sound p (closedState s b k)
-section-sound p s b k h =
-    record {
-      kind-low = omega arith;
-      seat-low = omega arith;
-      leader-low = λ e. omega arith;
-      lines-before = omega arith;
-      split-before = omega arith;
-      block-before = h;
-    }
-
 -- A section is closed: what the walk stored, what the last trick added, and the board.
 pub section-closed : (c : Conventions) (r : List ℕ) (s : State) (a base most : ℕ) (l l₁ l₂ : List ℕ) (w : Walk) (k : ℕ) (b : Board) (t : State)
-    → eqb (s .section .kind) 0 ≡ false → Sound (length r) s
+    → eqb (s .section .kind) 0 ≡ false
     → Walks a (base + s .n) most l l₁ w (walkedAll c r (s .section) (s .board .contract))
     → LastStored a (base + s .n) (s .section .kind) w l₁ l₂ k
     → b ≡ boardClosed (s .board) (s .section) (s .n) w → t ≡ closedState s b k → most ≤ 6 * length r
-    → Stepped a (base + s .n) (6 * length r + 1) (length r) s l l₂ t (closed c r s)
+    → Emits a (base + s .n) l l₂ t (closed c r s) × (t .n ≤ s .n + 6 * length r + 1)
 unfolding closed
-section-closed c r s a base most l l₁ l₂ w k b t z ok e g eb et h =
+section-closed c r s a base most l l₁ l₂ w k b t z e g eb et h =
     let ws = walkedAll c r (s .section) (s .board .contract) in
     let en : countOf w ≡ length (ws .entries) = ap countOf (e .emits .answer) ∙ section-count c r (s .section) (s .board .contract) in
     let ek : k ≡ length (ws .entries ++ lastEntries (s .section .kind) (ws .state)) =
     g .counted ∙ rw (en, e .emits .answer) (sym (length-append (ws .entries) (lastEntries (s .section .kind) (ws .state)))) in
     let words : l₂ ≡ putAll 4 l (base + s .n) (map (entryWords a) (ws .entries ++ lastEntries (s .section .kind) (ws .state))) =
-    g .stored ∙ rw (en, e .emits .answer, e .emits .words) (sym (put-run a (base + s .n) l (ws .entries) (lastEntries (s .section .kind) (ws .state)))) in
-    record {
-      emits = record { answer = rw z (et ∙ rw (eb, e .emits .answer, ek)); words = rw z words };
-      sound = rw et (section-sound (length r) s b k (ok .block-before));
-      grows = omega (arith, g .few, e .few, ap (λ (x : State). x .n) et);
-    }
+    g .stored ∙ rw (en, e .emits .answer, e .emits .words) (sym (put-run a (base + s .n) l (ws .entries) (lastEntries (s .section .kind) (ws .state)))) in (
+      record { answer = rw z (et ∙ rw (eb, e .emits .answer, ek)); words = rw z words },
+      omega (arith, g .few, e .few, ap (λ (x : State). x .n) et),
+    )
 
 -- There is none to close.
-pub section-none : (c : Conventions) (r : List ℕ) (s : State) (a n most : ℕ) (l : List ℕ) → eqb (s .section .kind) 0 ≡ true → Sound (length r) s → Stepped a n most (length r) s l l s (closed c r s)
+pub section-none : (c : Conventions) (r : List ℕ) (s : State) (a n : ℕ) (l : List ℕ) → eqb (s .section .kind) 0 ≡ true → Emits a n l l s (closed c r s)
 unfolding closed
-section-none c r s a n most l z ok = record { emits = record { answer = rw z; words = rw z }; sound = ok; grows = omega arith }
+section-none c r s a n l z = record { answer = rw z; words = rw z }
 
 -- ---- commentary
 
@@ -174,9 +158,9 @@ sound-noted {p} {s} t k q h e g =
       block-before = g;
     }
 
-module _ (c : Conventions) (r : List ℕ) (s : State) (p : ℕ) (l : List ℕ) (a n most : ℕ) (ok : Sound p s) (m : 1 ≤ most) where
-  skipped : {w : List ℕ} {o : Out State} → o ≡ record { state = s; entries = [] } → Stepped a n most (p + length l) s w w s o
-  skipped e = rw e (record { emits = record { answer = refl; words = refl }; sound = sound-later (omega arith) ok; grows = omega arith })
+module _ (c : Conventions) (r : List ℕ) (s : State) (p : ℕ) (l : List ℕ) (a n : ℕ) (ok : Sound p s) where
+  skipped : {w : List ℕ} {o : Out State} → o ≡ record { state = s; entries = [] } → Stepped a n (p + length l) w w s o
+  skipped e = rw e (record { emits = record { answer = refl; words = refl }; sound = sound-later (omega arith) ok })
 
   out-plain : (k : Line) → s .noting ≡ false → lineKind l ≡ k → lineOut c r s p l ≡ lineBy c r s p l k
   unfolding lineOut
@@ -187,73 +171,52 @@ module _ (c : Conventions) (r : List ℕ) (s : State) (p : ℕ) (l : List ℕ) (
   unfolding lineOut
   out-noting e = ap (λ (b : Bool). cond b (inNote r s p l) (lineBy c r s p l (lineKind l))) e
 
-  -- Blank lines and `[` lines that are no tags.
-  pub line-blank : {w : List ℕ} → s .noting ≡ false → lineKind l ≡ Blank → Stepped a n most (p + length l) s w w s (lineOut c r s p l)
-  line-blank e k = skipped (out-plain Blank e k)
-
-  pub line-bracket : {w : List ℕ} → s .noting ≡ false → lineKind l ≡ Bracket → Stepped a n most (p + length l) s w w s (lineOut c r s p l)
+  -- `[` lines that are no tags.
+  pub line-bracket : {w : List ℕ} → s .noting ≡ false → lineKind l ≡ Bracket → Stepped a n (p + length l) w w s (lineOut c r s p l)
   line-bracket e k = skipped (out-plain Bracket e k)
 
-  added : {w w′ : List ℕ} {t : State} (es : List Entry) → length es ≤ 1 → Emits a n w w′ t (adding s es) → Stepped a n most (p + length l) s w w′ t (adding s es)
-  added {w} {w′} {t} es h e =
+  added : {w w′ : List ℕ} {t : State} (es : List Entry) → Emits a n w w′ t (adding s es) → Stepped a n (p + length l) w w′ t (adding s es)
+  added {w} {w′} {t} es e =
       record {
         emits = e;
         sound = sound-noted t ok (p + length l) (omega arith) (ap (λ (x : State). x .section) (e .answer)) (omega (arith, ap (λ (x : State). x .block) (e .answer), ok .block-before));
-        grows = omega (arith, ap (λ (x : State). x .n) (e .answer));
       }
 
   -- Directives and data.
-  pub line-directed : {w w′ : List ℕ} {t : State} (d : Span) → s .noting ≡ false → lineKind l ≡ Directive d → Emits a n w w′ t (directed s p d) → Stepped a n most (p + length l) s w w′ t (lineOut c r s p l)
-  line-directed d e k g = rw (out-plain (Directive d) e k) (added _ (omega arith) g)
+  pub line-directed : {w w′ : List ℕ} {t : State} (d : Span) → s .noting ≡ false → lineKind l ≡ Directive d → Emits a n w w′ t (directed s p d) → Stepped a n (p + length l) w w′ t (lineOut c r s p l)
+  line-directed d e k g = rw (out-plain (Directive d) e k) (added _ g)
 
-  data-few : (d : Span) → length {A = Entry} (cond (eqb (s .section .kind) 0) [] (entry 5 (p + d .start) (d .len) (s .section .kind) ∷ [])) ≤ 1
-  data-few d = by-cases (eqb (s .section .kind) 0) (λ e. rw e (omega arith)) (λ e. rw e (omega arith))
-
-  pub line-dated : {w w′ : List ℕ} {t : State} (d : Span) → s .noting ≡ false → lineKind l ≡ Data d → Emits a n w w′ t (dated s p d) → Stepped a n most (p + length l) s w w′ t (lineOut c r s p l)
-  line-dated d e k g = rw (out-plain (Data d) e k) (added _ (data-few d) g)
+  pub line-dated : {w w′ : List ℕ} {t : State} (d : Span) → s .noting ≡ false → lineKind l ≡ Data d → Emits a n w w′ t (dated s p d) → Stepped a n (p + length l) w w′ t (lineOut c r s p l)
+  line-dated d e k g = rw (out-plain (Data d) e k) (added _ g)
 
   -- A tag.
-  pub line-tag : {w w′ : List ℕ} {t : State} (x : TagReading) → s .noting ≡ false → lineKind l ≡ TagOn x → Stepped a n most (p + length l) s w w′ t (readTag c r s p l x) → Stepped a n most (p + length l) s w w′ t (lineOut c r s p l)
+  pub line-tag : {w w′ : List ℕ} {t : State} (x : TagReading) → s .noting ≡ false → lineKind l ≡ TagOn x → Stepped a n (p + length l) w w′ t (readTag c r s p l x) → Stepped a n (p + length l) w w′ t (lineOut c r s p l)
   line-tag x e k g = rw (out-plain (TagOn x) e k) g
 
-  -- Commentary: what it leaves of the section, and how much it adds.
-  block-kept : {w w′ : List ℕ} {t : State} (i j : ℕ) → Emits a n w w′ t (blocked r s i j) → (t .section ≡ s .section) × (t .n ≤ s .n + 1)
-  unfolding blocked
-  block-kept {w} {w′} {t} i j e =
-      by-cases (isAllWhite r i j)
-      (λ h. let g = rw h at (e .answer) in (ap (λ (x : State). x .section) g, omega (arith, ap (λ (x : State). x .n) g)))
-      (λ h. let g = rw h at (e .answer) in (ap (λ (x : State). x .section) g, omega (arith, ap (λ (x : State). x .n) g)))
+  -- Commentary leaves the section as it was.
+  noted-step : {w w′ : List ℕ} {t : State} {o : Out State} → Emits a n w w′ t o → o .state .section ≡ s .section → t .block ≤ p + length l + 1 → Stepped a n (p + length l) w w′ t o
+  noted-step {w} {w′} {t} e es eb = record { emits = e; sound = sound-noted t ok (p + length l) (omega arith) (rw (e .answer) es) eb }
 
-  noted-step : {w w′ : List ℕ} {t : State} {o : Out State} → Emits a n w w′ t o → t .section ≡ s .section → t .n ≤ s .n + 1 → t .block ≤ p + length l + 1 → Stepped a n most (p + length l) s w w′ t o
-  noted-step {w} {w′} {t} e es en eb = record { emits = e; sound = sound-noted t ok (p + length l) (omega arith) es eb; grows = omega arith }
+  brace-kept : braced r s p l .state .section ≡ s .section
+  unfolding braced blocked
+  brace-kept = by-cases (hasBrace l) (λ b. rw b) (λ b. rw b)
 
-  brace-kept : {w w′ : List ℕ} {t : State} → Emits a n w w′ t (braced r s p l) → (t .section ≡ s .section) × (t .n ≤ s .n + 1)
-  unfolding braced
-  brace-kept {w} {w′} {t} g =
-      by-cases (hasBrace l)
-      (λ b. block-kept _ _ (rw b at g))
-      (λ b. let f = rw b at (g .answer) in (ap (λ (x : State). x .section) f, omega (arith, ap (λ (x : State). x .n) f)))
+  pub line-braced : {w w′ : List ℕ} {t : State} → s .noting ≡ false → lineKind l ≡ Brace → Emits a n w w′ t (braced r s p l) → t .block ≤ p + length l + 1 → Stepped a n (p + length l) w w′ t (lineOut c r s p l)
+  line-braced {w} {w′} {t} e k g h = rw (out-plain Brace e k) (noted-step g brace-kept h)
 
-  pub line-braced : {w w′ : List ℕ} {t : State} → s .noting ≡ false → lineKind l ≡ Brace → Emits a n w w′ t (braced r s p l) → t .block ≤ p + length l + 1 → Stepped a n most (p + length l) s w w′ t (lineOut c r s p l)
-  line-braced {w} {w′} {t} e k g h = let q = brace-kept g in rw (out-plain Brace e k) (noted-step g (q .0) (q .1) h)
+  note-kept : inNote r s p l .state .section ≡ s .section
+  unfolding inNote blocked
+  note-kept = by-cases (hasBrace l) (λ b. rw b) (λ b. rw b)
 
-  note-kept : {w w′ : List ℕ} {t : State} → Emits a n w w′ t (inNote r s p l) → (t .section ≡ s .section) × (t .n ≤ s .n + 1)
-  unfolding inNote
-  note-kept {w} {w′} {t} g =
-      by-cases (hasBrace l)
-      (λ b. block-kept _ _ (rw b at g))
-      (λ b. let f = rw b at (g .answer) in (ap (λ (x : State). x .section) f, omega (arith, ap (λ (x : State). x .n) f)))
-
-  pub line-noted : {w w′ : List ℕ} {t : State} → s .noting ≡ true → Emits a n w w′ t (inNote r s p l) → t .block ≤ p + 1 → Stepped a n most (p + length l) s w w′ t (lineOut c r s p l)
-  line-noted {w} {w′} {t} e g h = let q = note-kept g in rw (out-noting e) (noted-step g (q .0) (q .1) (omega arith))
+  pub line-noted : {w w′ : List ℕ} {t : State} → s .noting ≡ true → Emits a n w w′ t (inNote r s p l) → t .block ≤ p + 1 → Stepped a n (p + length l) w w′ t (lineOut c r s p l)
+  line-noted {w} {w′} {t} e g h = rw (out-noting e) (noted-step g note-kept (omega arith))
 
   -- A line that counts as blank.
   pub line-quiet : {w w′ : List ℕ} {t : State} {k : Line} → k ≡ cond (s .noting) Blank (lineKind l) → k ≡ Blank
-      → Emits a n w w′ t (cond (s .noting) (inNote r s p l) (unchanged s)) → t .block ≤ p + 1 → Stepped a n most (p + length l) s w w′ t (lineOut c r s p l)
+      → Emits a n w w′ t (cond (s .noting) (inNote r s p l) (unchanged s)) → t .block ≤ p + 1 → Stepped a n (p + length l) w w′ t (lineOut c r s p l)
   line-quiet {w} {w′} {t} {k} e h g b =
       by-cases (s .noting)
       (λ z. line-noted z (rw (quiet-noted r s p l z) at g) b)
       (λ z.
       let x : lineKind l ≡ Blank = sym (ap (λ (v : Bool). cond v Blank (lineKind l)) z) ∙ (sym e ∙ h) in
-      let q = rw (quiet-plain r s p l z) at g in
-      rw (out-plain Blank z x) (noted-step q (ap (λ (y : State). y .section) (q .answer)) (omega (arith, ap (λ (y : State). y .n) (q .answer))) (omega arith)))
+      rw (out-plain Blank z x) (noted-step (rw (quiet-plain r s p l z) at g) refl (omega arith)))

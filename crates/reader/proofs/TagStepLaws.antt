@@ -1,5 +1,5 @@
 -- Laws of a tag's line.
-use Prim.Native.Nat.{ℕ, _+_, _*_, _≤_}
+use Prim.Native.Nat.{ℕ, _+_, _≤_}
 use mathlib.Core.Path.{_≡_, refl, ap}
 use mathlib.Core.Bool.{Bool, true, false, cond}
 use mathlib.Core.List.{List, [], _∷_}
@@ -19,7 +19,7 @@ use Rattle.reader.specs.declared.section.Walk.{Walk}
 use Rattle.reader.specs.declared.store.Entry.{Entry}
 use Rattle.reader.specs.declared.tag.Span.{Span}
 use Rattle.reader.specs.declared.tag.Tag.{Tag}
-use Rattle.reader.specs.Boards.{Sound, Stepped, applied, openBy, noSpan, at, adding, countedState, closed, closedBy, tagged, directed, dated, tagIn, splitIn, readBy, readTag, noted, blocked, braced, inNote, lineBy, lineOut}
+use Rattle.reader.specs.Boards.{Sound, Stepped, applied, openBy, noSpan, at, adding, countedState, closed, closedBy, tagged, directed, dataEntries, dated, tagIn, splitIn, readBy, readTag, noted, blocked, braced, inNote, lineBy, lineOut}
 use Rattle.reader.specs.Lines.{lineKind, hasBrace, lastBrace, readingPlaced}
 use Rattle.reader.specs.Names.{tagNumber}
 use Rattle.reader.specs.Pieces.{Out, Emits, andThen, entry}
@@ -88,74 +88,63 @@ pub tag-stepped :
     value ≡ cut (t .value) l →
     board ≡ applied c k value (s .n + 2) (s .board) →
     section ≡ openBy c k value q split →
-    Stepped a n 2 q s e e″ (record { board = board; section = section; tags = s .tags + 1; n = s .n + 2; noting = false; block = s .block }) (tagged c s p l q t split)
+    Stepped a n q e e″ (record { board = board; section = section; tags = s .tags + 1; n = s .n + 2; noting = false; block = s .block }) (tagged c s p l q t split)
 unfolding tagged
 tag-stepped c l t split {s} {p} {q} {a} {n} {k} {name} {value} {e} {e′} {e″} {board} {section} h pq sq e1 e2 en ek ev eb es =
     record {
       emits = record { answer = rw (eb, es, ek, en, ev); words = rw (e2, e1) };
       sound = opened-sound c k value p q split s _ h pq sq es refl;
-      grows = omega arith;
     }
 
 -- ---- a tag with its comment or its data
 
 stepped-then :
-    (base : ℕ) {a q : ℕ} {s r r′ : State} {e e′ e″ : List ℕ} {o : Out State} (f : State → List Entry) →
-    ((x : State) → length (f x) ≤ 1) →
-    Stepped a (base + s .n) 2 q s e e′ r o →
+    (base : ℕ) (s : State) {a q : ℕ} {r r′ : State} {e e′ e″ : List ℕ} {o : Out State} (f : State → List Entry) →
+    Stepped a (base + s .n) q e e′ r o →
     o .state .n ≡ s .n + length (o .entries) →
     Emits a (base + r .n) e′ e″ r′ (adding r (f r)) →
-    Stepped a (base + s .n) 3 q s e e″ r′ (andThen o (adding (o .state) (f (o .state))))
-stepped-then base {a} {q} {s} {r} {r′} {e} {e′} {e″} {o} f few h n k =
+    Stepped a (base + s .n) q e e″ r′ (andThen o (adding (o .state) (f (o .state))))
+stepped-then base s {r = r} {o = o} f h n k =
     let m : r .n ≡ s .n + length (o .entries) = rw (h .emits .answer) n in
-    let g : r′ .n ≡ r .n + length (f r) = ap (λ (x : State). x .n) (k .answer) in
     record {
       emits = emits-then {m = base + r .n} (h .emits) (omega (arith, m)) (rw (← h .emits .answer) k);
       sound = rw (k .answer) (counted-sound (length (f r)) (h .sound));
-      grows = omega (arith, g, few r, h .grows);
     }
 
 pub read-plain :
-    (c : Conventions) (p : ℕ) (l : List ℕ) {a n q : ℕ} {s r : State} {e e′ : List ℕ} {t : TagReading} {tag x : Tag} {split : Span} →
+    (c : Conventions) (s : State) (p : ℕ) (l : List ℕ) {a n q : ℕ} {r : State} {e e′ : List ℕ} {t : TagReading} {tag x : Tag} {split : Span} →
     t ≡ Plain x →
     tag ≡ tagIn t →
     split ≡ splitIn p t →
-    Stepped a n 2 q s e e′ r (tagged c s p l q tag split) →
-    Stepped a n 3 q s e e′ r (readBy c s p l q t)
-read-plain c p l {a} {n} {q} {s} {r} {e} {e′} {t} {tag} {x} {split} et eg es h =
-    let k : Stepped a n 2 q s e e′ r (tagged c s p l q x noSpan) = rw (← ap tagIn et, ← ap (splitIn p) et, ← eg, ← es) h in
-    rw et (record { emits = k .emits; sound = k .sound; grows = omega (arith, k .grows) })
+    Stepped a n q e e′ r (tagged c s p l q tag split) →
+    Stepped a n q e e′ r (readBy c s p l q t)
+read-plain c s p l {a} {n} {q} {r} {e} {e′} {x = x} et eg es h =
+    let k : Stepped a n q e e′ r (tagged c s p l q x noSpan) = rw (← ap tagIn et, ← ap (splitIn p) et, ← eg, ← es) h in
+    rw et k
 
 pub read-comment :
-    (c : Conventions) (base p : ℕ) (l : List ℕ) {a q : ℕ} {s r r′ : State} {e e′ e″ : List ℕ} {t : TagReading} {tag x : Tag} {split d : Span} →
+    (c : Conventions) (base : ℕ) (s : State) (p : ℕ) (l : List ℕ) {a q : ℕ} {r r′ : State} {e e′ e″ : List ℕ} {t : TagReading} {tag x : Tag} {split d : Span} →
     t ≡ WithComment x d →
     tag ≡ tagIn t →
     split ≡ splitIn p t →
-    Stepped a (base + s .n) 2 q s e e′ r (tagged c s p l q tag split) →
+    Stepped a (base + s .n) q e e′ r (tagged c s p l q tag split) →
     Emits a (base + r .n) e′ e″ r′ (directed r p d) →
-    Stepped a (base + s .n) 3 q s e e″ r′ (readBy c s p l q t)
-read-comment c base p l {a} {q} {s} {r} {r′} {e} {e′} {e″} {t} {tag} {x} {split} {d} et eg es h f =
-    let k : Stepped a (base + s .n) 2 q s e e′ r (tagged c s p l q x noSpan) = rw (← ap tagIn et, ← ap (splitIn p) et, ← eg, ← es) h in
-    rw et (stepped-then base (λ (y : State). entry 3 (p + d .start) (d .len) (y .tags) ∷ []) (λ y. omega arith) k (tagged-counts c s p l q x noSpan) f)
+    Stepped a (base + s .n) q e e″ r′ (readBy c s p l q t)
+read-comment c base s p l {a} {q} {r} {e = e} {e′ = e′} {x = x} {d = d} et eg es h f =
+    let k : Stepped a (base + s .n) q e e′ r (tagged c s p l q x noSpan) = rw (← ap tagIn et, ← ap (splitIn p) et, ← eg, ← es) h in
+    rw et (stepped-then base s (λ (y : State). entry 3 (p + d .start) (d .len) (y .tags) ∷ []) k (tagged-counts c s p l q x noSpan) f)
 
 pub read-data :
-    (c : Conventions) (base p : ℕ) (l : List ℕ) {a q : ℕ} {s r r′ : State} {e e′ e″ : List ℕ} {t : TagReading} {tag x : Tag} {split d : Span} →
+    (c : Conventions) (base : ℕ) (s : State) (p : ℕ) (l : List ℕ) {a q : ℕ} {r r′ : State} {e e′ e″ : List ℕ} {t : TagReading} {tag x : Tag} {split d : Span} →
     t ≡ WithData x d →
     tag ≡ tagIn t →
     split ≡ splitIn p t →
-    Stepped a (base + s .n) 2 q s e e′ r (tagged c s p l q tag split) →
+    Stepped a (base + s .n) q e e′ r (tagged c s p l q tag split) →
     Emits a (base + r .n) e′ e″ r′ (dated r p d) →
-    Stepped a (base + s .n) 3 q s e e″ r′ (readBy c s p l q t)
-read-data c base p l {a} {q} {s} {r} {r′} {e} {e′} {e″} {t} {tag} {x} {split} {d} et eg es h f =
-    let k : Stepped a (base + s .n) 2 q s e e′ r (tagged c s p l q x (at p d)) = rw (← ap tagIn et, ← ap (splitIn p) et, ← eg, ← es) h in
-    rw et (stepped-then base (λ (x : State). cond (eqb (x .section .kind) 0) [] (entry 5 (p + d .start) (d .len) (x .section .kind) ∷ [])) few k (tagged-counts c s p l q x (at p d)) f)
-  where
-    go : (x : State) (t : Bool) → length (cond t [] (entry 5 (p + d .start) (d .len) (x .section .kind) ∷ [])) ≤ 1
-    go y true = omega arith
-    go y false = omega arith
-
-    few : (x : State) → length (cond (eqb (x .section .kind) 0) [] (entry 5 (p + d .start) (d .len) (x .section .kind) ∷ [])) ≤ 1
-    few y = go y (eqb (y .section .kind) 0)
+    Stepped a (base + s .n) q e e″ r′ (readBy c s p l q t)
+read-data c base s p l {a} {q} {r} {e = e} {e′ = e′} {x = x} {d = d} et eg es h f =
+    let k : Stepped a (base + s .n) q e e′ r (tagged c s p l q x (at p d)) = rw (← ap tagIn et, ← ap (splitIn p) et, ← eg, ← es) h in
+    rw et (stepped-then base s (λ (x : State). dataEntries (x .section .kind) p d) k (tagged-counts c s p l q x (at p d)) f)
 
 -- ---- sections closed before a tag
 
@@ -184,17 +173,16 @@ closed-sound {p} c r s h = go (eqb (s .section .kind) 0) (walkedAll c r (s .sect
         }
 
 pub read-closed :
-    (c : Conventions) (base p : ℕ) (w l : List ℕ) (t : TagReading) {a m : ℕ} {s r r′ : State} {e e′ e″ : List ℕ} →
-    Stepped a (base + s .n) (6 * m + 1) m s e e′ r (closed c w s) →
-    Stepped a (base + r .n) 3 (p + length l) r e′ e″ r′ (readBy c r p l (p + length l) t) →
-    Stepped a (base + s .n) (6 * m + 4) (p + length l) s e e″ r′ (readTag c w s p l t)
+    (c : Conventions) (base : ℕ) (s : State) (p : ℕ) (w l : List ℕ) (t : TagReading) {a : ℕ} {r r′ : State} {e e′ e″ : List ℕ} →
+    Emits a (base + s .n) e e′ r (closed c w s) →
+    Stepped a (base + r .n) (p + length l) e′ e″ r′ (readBy c r p l (p + length l) t) →
+    Stepped a (base + s .n) (p + length l) e e″ r′ (readTag c w s p l t)
 unfolding readTag
-read-closed c base p w l t {a} {m} {s} {r} {r′} {e} {e′} {e″} h k =
-    let n : r .n ≡ s .n + length (closed c w s .entries) = rw (h .emits .answer) (closed-counts c w s) in
+read-closed c base s p w l t {r = r} h k =
+    let n : r .n ≡ s .n + length (closed c w s .entries) = rw (h .answer) (closed-counts c w s) in
     record {
-      emits = emits-then {m = base + r .n} (h .emits) (omega (arith, n)) (rw (← h .emits .answer) (k .emits));
+      emits = emits-then {m = base + r .n} h (omega (arith, n)) (rw (← h .answer) (k .emits));
       sound = k .sound;
-      grows = omega (arith, h .grows, k .grows);
     }
 
 -- ---- where the data of a tag's line ends

@@ -351,11 +351,10 @@ pub record Sound (p : ℕ) (s : State) : Type 0 where
   pub split-before : s .section .split .start + s .section .split .len ≤ p
   pub block-before : s .block ≤ p + 1
 
--- The contract of a step: its answer and its entries, what holds after it at q, and how many entries it adds at most.
-pub record Stepped (a n most q : ℕ) (s : State) (entries entries′ : List ℕ) (r : State) (o : Out State) : Type 0 where
+-- The contract of a step: its answer and its entries, and what holds after it at q.
+pub record Stepped (a n q : ℕ) (entries entries′ : List ℕ) (r : State) (o : Out State) : Type 0 where
   pub emits : Emits a n entries entries′ r o
   pub sound : Sound q r
-  pub grows : r .n ≤ s .n + most
 
 -- The contract of storing the last trick behind the entries of a section that stand from n on; r is how many there then are.
 pub record LastStored (a n kind : ℕ) (w : Walk) (entries entries′ : List ℕ) (r : ℕ) : Type 0 where

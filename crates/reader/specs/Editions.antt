@@ -1,5 +1,5 @@
 -- An edition: the cards and entries of its records, as they are handed back, and refusals 1 to 3.
-use Prim.Native.Nat.{ℕ, _+_, _*_, _/_, _≤_}
+use Prim.Native.Nat.{ℕ, _+_, _/_}
 use mathlib.Core.Path.{_≡_}
 use mathlib.Core.List.{List, [], _∷_, _++_, map}
 use mathlib.Core.Bool.{Bool, true, false, cond}
@@ -119,7 +119,6 @@ lentAfter r n bs = cond (isTaken r) (padded n (flat bs)) (replicate n 0)
 -- A record r at a read as the k-th board, n entries before it: how many entries there are then, its card and its entries.
 pub record RecordIn (c : Conventions) (r : List ℕ) (a k n : ℕ) (cards entries : List ℕ) (m : ℕ) (cards′ entries′ : List ℕ) : Type 0 where
   pub answer : m ≡ n + length (recordOut c r .entries)
-  pub few : m ≤ n + 100663300 * length r + 100663300
   pub card : cards′ ≡ put 64 cards k (cardOf c a n r)
   pub words : entries′ ≡ putAll 4 entries n (map (entryWords a) (recordOut c r .entries))
   pub whole : length (cardOf c a n r) ≡ 64

@@ -188,7 +188,7 @@ pub fn close_sections(
     entries: &mut [u32],
 ) -> State
     requires { ⌜ (a + length (now r) ≤ 16777215) × (base + s .n ≤ 2 ^ 57) × Sound (length (now r)) s ⌝ }
-    ensures { λ t. ⌜ Stepped a (base + s .n) (6 * length (now (r .entry)) + 1) (length (now (r .entry))) s (now (entries .entry)) (now (entries .exit)) t (closed c (now (r .entry)) s) ⌝ }
+    ensures { λ t. ⌜ Emits a (base + s .n) (now (entries .entry)) (now (entries .exit)) t (closed c (now (r .entry)) s) × (t .n ≤ s .n + 6 * length (now (r .entry)) + 1) ⌝ }
 {
     let o = s.section;
     let kind = o.kind;
@@ -213,7 +213,7 @@ fn close_open(
     entries: &mut [u32],
 ) -> State
     requires { ⌜ (a + length (now r) ≤ 16777215) × (base + s .n ≤ 2 ^ 57) × Sound (length (now r)) s ⌝ }
-    ensures { λ t. ⌜ Stepped a (base + s .n) (6 * length (now (r .entry)) + 1) (length (now (r .entry))) s (now (entries .entry)) (now (entries .exit)) t (closed c (now (r .entry)) s) ⌝ }
+    ensures { λ t. ⌜ Emits a (base + s .n) (now (entries .entry)) (now (entries .exit)) t (closed c (now (r .entry)) s) × (t .n ≤ s .n + 6 * length (now (r .entry)) + 1) ⌝ }
 {
     let o = s.section;
     if o.kind == 0 {
@@ -258,7 +258,7 @@ fn tag_step(
     entries: &mut [u32],
 ) -> State
     requires { ⌜ (a + p + length (now l) ≤ 16777215) × (base + s .n ≤ 2 ^ 58) × Sound p s × (s .tags ≤ 2 ^ 58) × TagInside tag (length (now l)) × (split .start + split .len ≤ p + length (now l)) ⌝ }
-    ensures { λ t. ⌜ Stepped a (base + s .n) 2 (p + length (now (l .entry))) s (now (entries .entry)) (now (entries .exit)) t (tagged c s p (now (l .entry)) (p + length (now (l .entry))) tag split) ⌝ }
+    ensures { λ t. ⌜ Stepped a (base + s .n) (p + length (now (l .entry))) (now (entries .entry)) (now (entries .exit)) t (tagged c s p (now (l .entry)) (p + length (now (l .entry))) tag split) ⌝ }
 {
     let name = tag.name;
     let value = tag.value;
@@ -382,7 +382,7 @@ fn tag_read(
     entries: &mut [u32],
 ) -> State
     requires { ⌜ (a + p + length (now l) ≤ 16777215) × (base + s .n ≤ 2 ^ 58) × Sound p s × (s .tags ≤ 2 ^ 58) × readingPlaced t (length (now l)) ⌝ }
-    ensures { λ r. ⌜ Stepped a (base + s .n) 3 (p + length (now (l .entry))) s (now (entries .entry)) (now (entries .exit)) r (readBy c s p (now (l .entry)) (p + length (now (l .entry))) t) ⌝ }
+    ensures { λ r. ⌜ Stepped a (base + s .n) (p + length (now (l .entry))) (now (entries .entry)) (now (entries .exit)) r (readBy c s p (now (l .entry)) (p + length (now (l .entry))) t) ⌝ }
 {
     let tag = tag_of(t);
     let split = split_of(p, l.len(), t);
@@ -407,7 +407,7 @@ fn tag_line(
     entries: &mut [u32],
 ) -> State
     requires { ⌜ (a + length (now r) ≤ 16777215) × (p + length (now l) ≤ length (now r)) × (base + s .n ≤ 2 ^ 57) × Sound p s × (s .tags ≤ 2 ^ 58) × readingPlaced t (length (now l)) ⌝ }
-    ensures { λ q. ⌜ Stepped a (base + s .n) (6 * length (now (r .entry)) + 4) (p + length (now (l .entry))) s (now (entries .entry)) (now (entries .exit)) q (readTag c (now (r .entry)) s p (now (l .entry)) t) ⌝ }
+    ensures { λ q. ⌜ Stepped a (base + s .n) (p + length (now (l .entry))) (now (entries .entry)) (now (entries .exit)) q (readTag c (now (r .entry)) s p (now (l .entry)) t) ⌝ }
 {
     let next = close_open(c, r, s, a, base, entries);
     tag_read(c, next, p, l, t, a, base, entries)
@@ -545,7 +545,7 @@ fn quiet_line(
 // count alone.
 pub fn read_board(c: Conventions, r: &[u8], a: usize, base: usize, entries: &mut [u32]) -> State
     requires { ⌜ (a + length (now r) ≤ 16777215) × (base ≤ 2 ^ 56) ⌝ }
-    ensures { λ t. ⌜ Emits a base (now (entries .entry)) (now (entries .exit)) t (recordOut c (now (r .entry))) × (t .n ≤ 100663300 * length (now (r .entry)) + 100663300) ⌝ }
+    ensures { λ t. ⌜ Emits a base (now (entries .entry)) (now (entries .exit)) t (recordOut c (now (r .entry))) ⌝ }
 {
     let mut s = no_state();
     let mut p = 0;

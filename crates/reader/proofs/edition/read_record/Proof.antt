@@ -3,7 +3,7 @@ use native.Mathlib.Omega.{arith}
 use mathlib.Core.Path.{_≡_, refl, sym, _∙_}
 use lib.ListN.{take, drop}
 use denote.Ref.{now}
-use Rattle.reader.proofs.EditionLaws.{own-length, record-in}
+use Rattle.reader.proofs.EditionLaws.{own-length, record-few, record-in}
 use borrow.Author.Needs.{needs}
 use Rattle.reader.proofs.edition.read_record.Statement.{statement}
 use Rattle.reader.proofs.edition.read_record.Tie as tie
@@ -34,7 +34,7 @@ add-result c =
     let a = c .before .before .before .before .before .before .before .before .before .before .before .before .before in
     let o = own-is (c .before .before .before .before .before .before .before .before) in
     let l = own-length (now (a .args .text)) (a .args .a) (a .args .e) (a .pre .0) (a .pre .1) in
-    let few = rw o at (c .before .before .before .before .before .before .read-board .ensures .1) in
+    let few = rw o at (record-few (a .args .c) _ (c .before .before .before .before .before .before .read-board .ensures .answer)) in
     omega (arith, l, few, a .pre .1, a .pre .2, a .pre .3)
 
 same-length : tie.Need-same-length
@@ -49,7 +49,7 @@ returns c =
     let o = own-is (c .before .before .before .before .before .before .before .before) in
     let r = c .before .before .before .before .before .before .read-board in
     record-in _ _ _ (sym (own-length (now (a .args .text)) (a .args .a) (a .args .e) (a .pre .0) (a .pre .1)))
-    (rw o at (r .ensures .0)) (rw o at (r .ensures .1)) (c .before .before .put-card .ensures) refl
+    (rw o at (r .ensures)) (c .before .before .put-card .ensures) refl
 
 pub read-record-spec : {M : Type 1} → statement M
 read-record-spec =

@@ -2,7 +2,7 @@ use Prim.Native.Nat.{_-_}
 use native.Mathlib.Omega.{arith}
 use lib.ListN.{length}
 use denote.Ref.{now}
-use Rattle.reader.proofs.EditionLaws.{Turn, turn-first, turn-next, turn-stop, turn-end}
+use Rattle.reader.proofs.EditionLaws.{Turn, turn-first, turn-few, turn-next, turn-stop, turn-end}
 use Rattle.reader.proofs.edition.read_records.Statement.{statement}
 use Rattle.reader.proofs.edition.read_records.Tie as tie
 
@@ -34,7 +34,7 @@ read-record-requires c κs =
     let i = c .before .before .before .before .before .loop .inv in
     let e = c .before .before .before .record-end .ensures in
     let p = c .before .before .before .before .before .before .before .before .before .pre in
-    (omega (arith, e .after), e .inside, p, omega (arith, i .few, i .inside, p))
+    (omega (arith, e .after), e .inside, p, omega (arith, turn-few i, p))
 
 add-boards : tie.Need-add-boards Inv-loop μ-loop
 add-boards c =

@@ -1,17 +1,15 @@
 use Rattle.reader.proofs.ReadingLaws.{section-none}
 use borrow.Author.Tests.{eq-eqb}
+use native.Mathlib.Omega.{arith}
 use denote.Ref.{now}
 use borrow.Author.Needs.{needs}
 use Rattle.reader.proofs.reading.close_open.Statement.{statement}
 use Rattle.reader.proofs.reading.close_open.Tie as tie
-use Rattle.reader.proofs.reading.close_open.Reads as reads
-use Rattle.reader.proofs.reading.close_open.Lts as lts
-use Rattle.reader.proofs.reading.close_sections.Reads as close-sections-reads
 
 returns : tie.Need-returns
 returns c =
     let a = c .before .before .before .before .before .args in
-    section-none (a .c) (now (a .r)) (a .s) (a .a) _ _ _ (eq-eqb _ _ (c .if1 .taken)) (c .before .before .before .before .before .pre .2)
+    (section-none (a .c) (now (a .r)) (a .s) (a .a) _ _ (eq-eqb _ _ (c .if1 .taken)), omega arith)
 
 close-sections-requires : tie.Need-close-sections-requires
 close-sections-requires c κs = search needs

@@ -5,17 +5,11 @@ use denote.Ref.{now}
 use borrow.Author.Needs.{needs}
 use Rattle.reader.proofs.reading.close_sections.Statement.{statement}
 use Rattle.reader.proofs.reading.close_sections.Tie as tie
-use Rattle.reader.proofs.reading.close_sections.Reads as reads
-use Rattle.reader.proofs.reading.close_sections.Lts as lts
-use Rattle.reader.proofs.reading.after_section.Reads as after-section-reads
-use Rattle.reader.proofs.reading.board_closed.Reads as board-closed-reads
-use Rattle.reader.proofs.reading.last_entries.Reads as last-entries-reads
-use Rattle.reader.proofs.section.walk_section.Reads as walk-section-reads
 
 returns : tie.Need-returns
 returns c =
     let a = c .before .before .before .before .args in
-    section-none (a .c) (now (a .r)) (a .s) _ _ _ _ (eq-eqb _ _ (c .if1 .taken)) (c .before .before .before .before .pre .2)
+    (section-none (a .c) (now (a .r)) (a .s) _ _ _ (eq-eqb _ _ (c .if1 .taken)), omega arith)
 
 add-walk-section : tie.Need-add-walk-section
 add-walk-section c = search needs
@@ -44,7 +38,7 @@ returns-2 : tie.Need-returns-2
 returns-2 c =
     let a = c .before .before .before .before .before .before .before .before .before .before .before .before .before .before .before .args in
     let p = c .before .before .before .before .before .before .before .before .before .before .before .before .before .before .before .pre in
-    section-closed (a .c) (now (a .r)) (a .s) (a .a) (a .base) _ _ _ _ _ _ _ _ (ne-eqb _ _ (c .before .before .before .before .before .before .before .before .before .before .before .if1 .left)) (p .2) (c .before .before .before .before .before .before .before .before .walk-section .ensures) (c .before .before .before .before .last-entries .ensures) (c .before .board-closed .ensures) (c .after-section .ensures) (omega (arith, p .2 .split-before))
+    section-closed (a .c) (now (a .r)) (a .s) (a .a) (a .base) _ _ _ _ _ _ _ _ (ne-eqb _ _ (c .before .before .before .before .before .before .before .before .before .before .before .if1 .left)) (c .before .before .before .before .before .before .before .before .walk-section .ensures) (c .before .before .before .before .last-entries .ensures) (c .before .board-closed .ensures) (c .after-section .ensures) (omega (arith, p .2 .split-before))
 
 pub close-sections-spec : {M : Type 1} → statement M
 close-sections-spec =

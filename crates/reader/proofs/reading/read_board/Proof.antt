@@ -1,4 +1,4 @@
-use Rattle.reader.proofs.LinesLaws.{LinesLeft, lines-start, lines-next, lines-done}
+use Rattle.reader.proofs.LinesLaws.{LinesLeft, lines-start, left-few, lines-next, lines-done}
 use Rattle.reader.proofs.ReadingLaws.{kind-data, kind-directive, kind-tag, kind-brace, kind-bracket, line-bracket, line-directed, line-dated, line-tag, line-braced, line-quiet}
 use Rattle.reader.proofs.TagStepLaws.{sound-later}
 use Rattle.reader.proofs.SectionLaws.{LineAt, line-at}
@@ -8,22 +8,9 @@ use mathlib.Core.Path.{ap}
 use denote.Ref.{now}
 use Prim.Native.Nat.{_-_}
 use lib.ListN.{length}
-use Prim.Native.Nat.{_-_, _≤_}
-use mathlib.Core.Path.{_≡_}
-use lib.ListN.{length, drop}
 use borrow.Author.Needs.{needs}
 use Rattle.reader.proofs.reading.read_board.Statement.{statement}
 use Rattle.reader.proofs.reading.read_board.Tie as tie
-use Rattle.reader.proofs.reading.read_board.Reads as reads
-use Rattle.reader.proofs.reading.read_board.Lts as lts
-use Rattle.reader.proofs.reading.brace_line.Reads as brace-line-reads
-use Rattle.reader.proofs.reading.close_sections.Reads as close-sections-reads
-use Rattle.reader.proofs.reading.directive_step.Reads as directive-step-reads
-use Rattle.reader.proofs.reading.kind_in.Reads as kind-in-reads
-use Rattle.reader.proofs.reading.no_state.Reads as no-state-reads
-use Rattle.reader.proofs.reading.put_data.Reads as put-data-reads
-use Rattle.reader.proofs.reading.quiet_line.Reads as quiet-line-reads
-use Rattle.reader.proofs.reading.tag_line.Reads as tag-line-reads
 
 abbrev Inv-loop : tie.InvT-loop
 Inv-loop c r a base entries₀ s₀ p₀ entries s p = LinesLeft c r a base entries₀ entries s p
@@ -52,7 +39,7 @@ enum-known-d : tie.Need-enum-known-d Inv-loop μ-loop
 enum-known-d c = search needs
 
 add-put-data : tie.Need-add-put-data Inv-loop μ-loop
-add-put-data c = omega (arith, c .before .before .before .before .before .before .before .before .loop .inv .few, c .before .before .before .before .before .before .before .before .loop .inv .inside, c .before .before .before .before .before .before .before .before .before .before .before .before .pre .0, c .before .before .before .before .before .before .before .before .before .before .before .before .pre .1)
+add-put-data c = omega (arith, left-few (c .before .before .before .before .before .before .before .before .loop .inv), c .before .before .before .before .before .before .before .before .before .before .before .before .pre .0, c .before .before .before .before .before .before .before .before .before .before .before .before .pre .1)
 
 put-data-requires : tie.Need-put-data-requires Inv-loop μ-loop
 put-data-requires c κs =
@@ -61,7 +48,7 @@ put-data-requires c κs =
     omega (arith, x .inside, c .before .before .before .before .before .before .before .before .before .before .before .before .before .pre .0, k)
 
 add-s : tie.Need-add-s Inv-loop μ-loop
-add-s c = omega (arith, c .before .before .before .put-data .ensures .1, c .before .before .before .before .before .before .before .before .before .before .before .before .before .loop .inv .few, c .before .before .before .before .before .before .before .before .before .before .before .before .before .loop .inv .inside, c .before .before .before .before .before .before .before .before .before .before .before .before .before .before .before .before .before .pre .0)
+add-s c = omega (arith, c .before .before .before .put-data .ensures .1, left-few (c .before .before .before .before .before .before .before .before .before .before .before .before .before .loop .inv), c .before .before .before .before .before .before .before .before .before .before .before .before .before .before .before .before .before .pre .0)
 
 add-p : tie.Need-add-p Inv-loop μ-loop
 add-p c =
@@ -80,8 +67,8 @@ loop-again c =
     let x = line-of (c .before .before .before .before .before .before .before .before .before .before .before) in
     let k = kind-data (c .before .before .before .before .before .before .before .before .before .before .kind-in .ensures .0) (c .before .before .before .before .before .before .before .before .d .given .1) in
     lines-next (v .inv) _ x _ _
-    (line-dated (a .c) (now (a .r)) (v .s) (v .p) (now (c .before .before .before .before .before .before .before .before .before .before .before .line-at .result)) (a .a) _ _ (v .inv .sound) (omega arith) _ (k .0) (k .1) (record { answer = ap (countedState (v .s)) (c .before .before .before .put-data .ensures .0 .answer); words = c .before .before .before .put-data .ensures .0 .words }))
-    (omega (arith, c .before .before .before .before .before .before .before .before .before .before .before .before .before .before .before .before .before .pre .0)) (search needs)
+    (line-dated (a .c) (now (a .r)) (v .s) (v .p) (now (c .before .before .before .before .before .before .before .before .before .before .before .line-at .result)) (a .a) _ (v .inv .sound) _ (k .0) (k .1) (record { answer = ap (countedState (v .s)) (c .before .before .before .put-data .ensures .0 .answer); words = c .before .before .before .put-data .ensures .0 .words }))
+    (search needs)
 
 enum-known-t : tie.Need-enum-known-t Inv-loop μ-loop
 enum-known-t c = search needs
@@ -90,7 +77,7 @@ tag-line-requires : tie.Need-tag-line-requires Inv-loop μ-loop
 tag-line-requires c κs =
     let v = c .before .before .before .before .before .before .before .loop .inv in
     let x = line-of (c .before .before .before .before .before) in
-    (c .before .before .before .before .before .before .before .before .before .before .before .pre .0, x .inside, omega (arith, v .few, v .inside, c .before .before .before .before .before .before .before .before .before .before .before .pre .0, c .before .before .before .before .before .before .before .before .before .before .before .pre .1), v .sound, omega (arith, v .tags-few, v .inside, c .before .before .before .before .before .before .before .before .before .before .before .pre .0), rw (c .before .before .t .given .1) at (c .before .before .before .before .kind-in .ensures .1))
+    (c .before .before .before .before .before .before .before .before .before .before .before .pre .0, x .inside, omega (arith, left-few v, c .before .before .before .before .before .before .before .before .before .before .before .pre .0, c .before .before .before .before .before .before .before .before .before .before .before .pre .1), v .sound, omega (arith, v .tags-few, v .inside, c .before .before .before .before .before .before .before .before .before .before .before .pre .0), rw (c .before .before .t .given .1) at (c .before .before .before .before .kind-in .ensures .1))
 
 add-p-2 : tie.Need-add-p-2 Inv-loop μ-loop
 add-p-2 c =
@@ -109,8 +96,8 @@ loop-again-2 c =
     let x = line-of (c .before .before .before .before .before .before .before .before) in
     let k = kind-tag (c .before .before .before .before .before .before .before .kind-in .ensures .0) (c .before .before .before .before .before .t .given .1) in
     lines-next (v .inv) _ x _ _
-    (line-tag (a .c) (now (a .r)) (v .s) (v .p) (now (c .before .before .before .before .before .before .before .before .line-at .result)) (a .a) _ _ (v .inv .sound) (omega arith) _ (k .0) (k .1) (c .before .before .tag-line .ensures))
-    (omega (arith, c .before .before .before .before .before .before .before .before .before .before .before .before .before .before .pre .0)) (search needs)
+    (line-tag (a .c) (now (a .r)) (v .s) (v .p) (now (c .before .before .before .before .before .before .before .before .line-at .result)) (a .a) _ (v .inv .sound) _ (k .0) (k .1) (c .before .before .tag-line .ensures))
+    (search needs)
 
 enum-known-d-2 : tie.Need-enum-known-d-2 Inv-loop μ-loop
 enum-known-d-2 c = search needs
@@ -120,7 +107,7 @@ directive-step-requires c κs =
     let v = c .before .before .before .before .before .before .before .loop .inv in
     let x = line-of (c .before .before .before .before .before) in
     let k = rw (c .before .before .d2 .given .1) at (c .before .before .before .before .kind-in .ensures .1) in
-    (omega (arith, x .inside, c .before .before .before .before .before .before .before .before .before .before .before .pre .0, k), omega (arith, v .few, v .inside, c .before .before .before .before .before .before .before .before .before .before .before .pre .0, c .before .before .before .before .before .before .before .before .before .before .before .pre .1))
+    (omega (arith, x .inside, c .before .before .before .before .before .before .before .before .before .before .before .pre .0, k), omega (arith, left-few v, c .before .before .before .before .before .before .before .before .before .before .before .pre .0, c .before .before .before .before .before .before .before .before .before .before .before .pre .1))
 
 add-p-3 : tie.Need-add-p-3 Inv-loop μ-loop
 add-p-3 c =
@@ -139,8 +126,8 @@ loop-again-3 c =
     let x = line-of (c .before .before .before .before .before .before .before .before) in
     let k = kind-directive (c .before .before .before .before .before .before .before .kind-in .ensures .0) (c .before .before .before .before .before .d2 .given .1) in
     lines-next (v .inv) _ x _ _
-    (line-directed (a .c) (now (a .r)) (v .s) (v .p) (now (c .before .before .before .before .before .before .before .before .line-at .result)) (a .a) _ _ (v .inv .sound) (omega arith) _ (k .0) (k .1) (c .before .before .directive-step .ensures))
-    (omega (arith, c .before .before .before .before .before .before .before .before .before .before .before .before .before .before .pre .0)) (search needs)
+    (line-directed (a .c) (now (a .r)) (v .s) (v .p) (now (c .before .before .before .before .before .before .before .before .line-at .result)) (a .a) _ (v .inv .sound) _ (k .0) (k .1) (c .before .before .directive-step .ensures))
+    (search needs)
 
 enum-told : tie.Need-enum-told Inv-loop μ-loop
 enum-told c = search needs
@@ -149,7 +136,7 @@ brace-line-requires : tie.Need-brace-line-requires Inv-loop μ-loop
 brace-line-requires c κs =
     let v = c .before .before .before .before .before .before .loop .inv in
     let x = line-of (c .before .before .before .before) in
-    (omega (arith, x .inside, c .before .before .before .before .before .before .before .before .before .before .pre .0), omega (arith, v .few, v .inside, c .before .before .before .before .before .before .before .before .before .before .pre .0, c .before .before .before .before .before .before .before .before .before .before .pre .1))
+    (omega (arith, x .inside, c .before .before .before .before .before .before .before .before .before .before .pre .0), omega (arith, left-few v, c .before .before .before .before .before .before .before .before .before .before .pre .0, c .before .before .before .before .before .before .before .before .before .before .pre .1))
 
 add-p-4 : tie.Need-add-p-4 Inv-loop μ-loop
 add-p-4 c =
@@ -168,8 +155,8 @@ loop-again-4 c =
     let x = line-of (c .before .before .before .before .before .before .before) in
     let k = kind-brace (c .before .before .before .before .before .before .kind-in .ensures .0) (c .before .before .before .before .enum-told .given .1) in
     lines-next (v .inv) _ x _ _
-    (line-braced (a .c) (now (a .r)) (v .s) (v .p) (now (c .before .before .before .before .before .before .before .line-at .result)) (a .a) _ _ (v .inv .sound) (omega arith) (k .0) (k .1) (c .before .before .brace-line .ensures .0) (c .before .before .brace-line .ensures .1))
-    (omega (arith, c .before .before .before .before .before .before .before .before .before .before .before .before .before .pre .0)) (search needs)
+    (line-braced (a .c) (now (a .r)) (v .s) (v .p) (now (c .before .before .before .before .before .before .before .line-at .result)) (a .a) _ (v .inv .sound) (k .0) (k .1) (c .before .before .brace-line .ensures .0) (c .before .before .brace-line .ensures .1))
+    (search needs)
 
 enum-told-2 : tie.Need-enum-told-2 Inv-loop μ-loop
 enum-told-2 c = search needs
@@ -178,7 +165,7 @@ quiet-line-requires : tie.Need-quiet-line-requires Inv-loop μ-loop
 quiet-line-requires c κs =
     let v = c .before .before .before .before .before .before .loop .inv in
     let x = line-of (c .before .before .before .before) in
-    (omega (arith, x .inside, c .before .before .before .before .before .before .before .before .before .before .pre .0), omega (arith, v .few, v .inside, c .before .before .before .before .before .before .before .before .before .before .pre .0, c .before .before .before .before .before .before .before .before .before .before .pre .1), v .sound .block-before)
+    (omega (arith, x .inside, c .before .before .before .before .before .before .before .before .before .before .pre .0), omega (arith, left-few v, c .before .before .before .before .before .before .before .before .before .before .pre .0, c .before .before .before .before .before .before .before .before .before .before .pre .1), v .sound .block-before)
 
 add-p-5 : tie.Need-add-p-5 Inv-loop μ-loop
 add-p-5 c =
@@ -196,8 +183,8 @@ loop-again-5 c =
     let v = c .before .before .before .before .before .before .before .before .before .loop in
     let x = line-of (c .before .before .before .before .before .before .before) in
     lines-next (v .inv) _ x _ _
-    (line-quiet (a .c) (now (a .r)) (v .s) (v .p) (now (c .before .before .before .before .before .before .before .line-at .result)) (a .a) _ _ (v .inv .sound) (omega arith) (c .before .before .before .before .before .before .kind-in .ensures .0) (c .before .before .before .before .enum-told2 .given .1) (c .before .before .quiet-line .ensures .0) (c .before .before .quiet-line .ensures .1))
-    (omega (arith, c .before .before .before .before .before .before .before .before .before .before .before .before .before .pre .0)) (search needs)
+    (line-quiet (a .c) (now (a .r)) (v .s) (v .p) (now (c .before .before .before .before .before .before .before .line-at .result)) (a .a) _ (v .inv .sound) (c .before .before .before .before .before .before .kind-in .ensures .0) (c .before .before .before .before .enum-told2 .given .1) (c .before .before .quiet-line .ensures .0) (c .before .before .quiet-line .ensures .1))
+    (search needs)
 
 enum-told-3 : tie.Need-enum-told-3 Inv-loop μ-loop
 enum-told-3 c = search needs
@@ -219,19 +206,19 @@ loop-again-6 c =
     let x = line-of (c .before .before .before) in
     let k = kind-bracket (c .before .before .kind-in .ensures .0) (c .enum-told3 .given .1) in
     lines-next (v .inv) _ x _ _
-    (line-bracket (a .c) (now (a .r)) (v .s) (v .p) (now (c .before .before .before .line-at .result)) (a .a) _ _ (v .inv .sound) (omega arith) (k .0) (k .1))
-    (omega (arith, c .before .before .before .before .before .before .before .before .before .pre .0)) (search needs)
+    (line-bracket (a .c) (now (a .r)) (v .s) (v .p) (now (c .before .before .before .line-at .result)) (a .a) _ (v .inv .sound) (k .0) (k .1))
+    (search needs)
 
 close-sections-requires : tie.Need-close-sections-requires Inv-loop μ-loop
 close-sections-requires c κs =
     let v = c .before .before .loop .inv in
-    (c .before .before .before .before .before .before .pre .0, omega (arith, v .few, v .inside, c .before .before .before .before .before .before .pre .0, c .before .before .before .before .before .before .pre .1), sound-later (v .inside) (v .sound))
+    (c .before .before .before .before .before .before .pre .0, omega (arith, left-few v, c .before .before .before .before .before .before .pre .0, c .before .before .before .before .before .before .pre .1), sound-later (v .inside) (v .sound))
 
 same-length : tie.Need-same-length Inv-loop μ-loop
 same-length c = search needs
 
 returns : tie.Need-returns Inv-loop μ-loop
-returns c = lines-done (c .before .before .before .before .before .loop .inv) (c .before .before .before .before .loop-test .left) _ _ (c .before .before .close-sections .ensures) (omega (arith, c .before .before .before .before .before .before .before .before .before .pre .0))
+returns c = lines-done (c .before .before .before .before .before .loop .inv) (c .before .before .before .before .loop-test .left) _ _ (c .before .before .close-sections .ensures .0)
 
 pub read-board-spec : {M : Type 1} → statement M
 read-board-spec =

@@ -13,9 +13,9 @@ close-open-requires c κs =
 tag-read-requires : tie.Need-tag-read-requires
 tag-read-requires c κs =
     let s = c .before .before .before .before .before .before .before .before in
-    let k = c .before .before .before .close-open .ensures in
+    let k = c .before .before .before .close-open .ensures .0 in
     let w = now (s .args .r) in
-    (omega (arith, s .pre .0, s .pre .1), omega (arith, s .pre .0, s .pre .2, k .grows), rw (k .emits .answer) (closed-sound (s .args .c) w (s .args .s) (s .pre .3)), rw (k .emits .answer, closed-tags (s .args .c) w (s .args .s)) (s .pre .4), s .pre .5)
+    (omega (arith, s .pre .0, s .pre .1), omega (arith, s .pre .0, s .pre .2, c .before .before .before .close-open .ensures .1), rw (k .answer) (closed-sound (s .args .c) w (s .args .s) (s .pre .3)), rw (k .answer, closed-tags (s .args .c) w (s .args .s)) (s .pre .4), s .pre .5)
 
 same-length : tie.Need-same-length
 same-length c = search needs
@@ -23,7 +23,7 @@ same-length c = search needs
 returns : tie.Need-returns
 returns c =
     let a = c .before .before .before .before .before .before .before .before .before .before .before .args in
-    read-closed (a .c) (a .base) (a .p) (now (a .r)) (now (a .l)) (a .t) (c .before .before .before .before .before .before .close-open .ensures) (c .before .before .tag-read .ensures)
+    read-closed (a .c) (a .base) (a .s) (a .p) (now (a .r)) (now (a .l)) (a .t) (c .before .before .before .before .before .before .close-open .ensures .0) (c .before .before .tag-read .ensures)
 
 pub tag-line-spec : {M : Type 1} → statement M
 tag-line-spec = tie.close (tie.spec close-open-requires tag-read-requires same-length returns)
