@@ -11,7 +11,7 @@ ghost use Rattle.reader.specs.Lines.{lineKind, linePlaced, readingPlaced
 ghost use Rattle.reader.specs.declared.line.Line.the-variants.{Blank};
 ghost use Rattle.reader.specs.Play.{Seated};
 ghost use Rattle.reader.specs.Sections.{countOf};
-ghost use Rattle.reader.specs.Boards.{countedState, closedState, noSpan, at, noted, Sound, Stepped, noState, auctionClosed, playClosed, tableClosed, boardClosed, LastStored, closed, tagged, directed, dataOut, dated, tagIn, splitIn, readBy, readTag, blocked, braced, inNote, unchanged, recordOut};
+ghost use Rattle.reader.specs.Boards.{countedState, closedState, noSpan, at, noted, Sound, Stepped, noState, auctionClosed, playClosed, tableClosed, boardClosed, LastStored, closed, tagged, directed, dataOut, dated, tagIn, splitIn, readBy, blocked, braced, inNote, unchanged, recordOut};
 use crate::apply::apply_tag;
 use crate::apply::no_board;
 use crate::apply::no_open;
@@ -203,25 +203,6 @@ pub fn close_sections(
     after_section(s, board_closed(b, o, n, w), k)
 }
 
-// The same before a tag, where mostly none is open: the test stands in the caller, so that the state is not handed over for nothing.
-fn close_open(
-    c: Conventions,
-    r: &[u8],
-    s: State,
-    a: usize,
-    base: usize,
-    entries: &mut [u32],
-) -> State
-    requires { ⌜ (a + length (now r) ≤ 16777215) × (base + s .n ≤ 2 ^ 57) × Sound (length (now r)) s ⌝ }
-    ensures { λ t. ⌜ Emits a (base + s .n) (now (entries .entry)) (now (entries .exit)) t (closed c (now (r .entry)) s) × (t .n ≤ s .n + 6 * length (now (r .entry)) + 1) ⌝ }
-{
-    let o = s.section;
-    if o.kind == 0 {
-        return s;
-    }
-    close_sections(c, r, s, a, base, entries)
-}
-
 fn cut_span<'a>(s: &'a [u8], d: Span) -> &'a [u8]
     ensures { λ r. ⌜ now r ≡ cut d (now (s .entry)) ⌝ }
 {
@@ -394,25 +375,6 @@ fn tag_read(
     }
 }
 
-// A tag line: open sections are closed first.
-fn tag_line(
-    c: Conventions,
-    r: &[u8],
-    s: State,
-    p: usize,
-    l: &[u8],
-    t: TagReading,
-    a: usize,
-    base: usize,
-    entries: &mut [u32],
-) -> State
-    requires { ⌜ (a + length (now r) ≤ 16777215) × (p + length (now l) ≤ length (now r)) × (base + s .n ≤ 2 ^ 57) × Sound p s × (s .tags ≤ 2 ^ 58) × readingPlaced t (length (now l)) ⌝ }
-    ensures { λ q. ⌜ Stepped a (base + s .n) (p + length (now (l .entry))) (now (entries .entry)) (now (entries .exit)) q (readTag c (now (r .entry)) s p (now (l .entry)) t) ⌝ }
-{
-    let next = close_open(c, r, s, a, base, entries);
-    tag_read(c, next, p, l, t, a, base, entries)
-}
-
 // Whether all bytes are white.
 fn all_white(s: &[u8]) -> bool
     ensures { λ r. ⌜ r ≡ every isWhite (now (s .entry)) ⌝ }
@@ -551,15 +513,18 @@ pub fn read_board(c: Conventions, r: &[u8], a: usize, base: usize, entries: &mut
     let mut p = 0;
     while p < r.len() {
         let l = line_at(r, p);
+        let o = s.section;
         match kind_in(s.noting, l) {
             Line::Data(d) => {
-                let o = s.section;
                 let n = put_data(o.kind, p, d, a, base + s.n, entries);
                 s.n = s.n + n;
                 p += l.len();
             }
             Line::Tag(t) => {
-                s = tag_line(c, r, s, p, l, t, a, base, entries);
+                if o.kind != 0 {
+                    s = close_sections(c, r, s, a, base, entries);
+                }
+                s = tag_read(c, s, p, l, t, a, base, entries);
                 p += l.len();
             }
             Line::Directive(d) => {
