@@ -1,8 +1,9 @@
 // The auction section (parse_auction).
 ghost use mathlib.Core.Path.{_≡_};
-ghost use Prim.Native.Nat.{_+_, _*_, _≤_, _^_};
+ghost use Prim.Native.Nat.{_+_, _*_, _≤_, _<_, _^_};
 ghost use lib.ListN.{length};
-ghost use Rattle.reader.specs.Pieces.{Emits, piece};
+ghost use Rattle.reader.specs.Store.{put, entryWords};
+ghost use Rattle.reader.specs.Pieces.{Emits, piece, entry};
 ghost use Rattle.reader.specs.Auction.{callTokenOf, callInside, bidding, called, callOut, passesOut, calledPiece, noBidding};
 use crate::store::Entry;
 use crate::store::put_entry;
@@ -83,6 +84,34 @@ fn bid(made: bool, end: usize, stopped: bool, count: usize) -> Bidding
     }
 }
 
+// Stores, as the n-th entry, a call of `len` bytes at the place `at` of a record that starts at `a`.
+fn put_call_entry(entries: &mut [u32], n: usize, a: usize, at: usize, len: usize, code: usize)
+    requires { ⌜ a + at < 2 ^ 63 ⌝ }
+    ensures { λ _. ⌜ now (entries .exit) ≡ put 4 (now (entries .entry)) n (entryWords a (entry 6 at len code)) ⌝ }
+{
+    let e = Entry {
+        kind: 6,
+        x: at,
+        y: len,
+        z: code,
+    };
+    put_entry(entries, n, a, e);
+}
+
+// The same for an annotation.
+fn put_annotation(entries: &mut [u32], n: usize, a: usize, at: usize, len: usize)
+    requires { ⌜ a + at < 2 ^ 63 ⌝ }
+    ensures { λ _. ⌜ now (entries .exit) ≡ put 4 (now (entries .entry)) n (entryWords a (entry 7 at len 0)) ⌝ }
+{
+    let e = Entry {
+        kind: 7,
+        x: at,
+        y: len,
+        z: 0,
+    };
+    put_entry(entries, n, a, e);
+}
+
 // A call with its annotation, if it has one.
 fn put_call(
     b: Bidding,
@@ -98,29 +127,9 @@ fn put_call(
     ensures { λ r. ⌜ Emits a (base + b .count) (now (entries .entry)) (now (entries .exit)) r (callOut b at len k code) × (r .count ≤ b .count + 3) ⌝ }
 {
     let n = base + b.count;
-    put_entry(
-        entries,
-        n,
-        a,
-        Entry {
-            kind: 6,
-            x: at,
-            y: k,
-            z: code as usize,
-        },
-    );
+    put_call_entry(entries, n, a, at, k, code as usize);
     if k < len {
-        put_entry(
-            entries,
-            n + 1,
-            a,
-            Entry {
-                kind: 7,
-                x: at + k,
-                y: len - k,
-                z: 0,
-            },
-        );
+        put_annotation(entries, n + 1, a, at + k, len - k);
         return bid(true, b.end, false, b.count + 2);
     }
     bid(true, b.end, false, b.count + 1)
@@ -139,15 +148,9 @@ fn put_passes(
     ensures { λ r. ⌜ Emits a (base + b .count) (now (entries .entry)) (now (entries .exit)) r (passesOut b at len) × (r .count ≤ b .count + 3) ⌝ }
 {
     let n = base + b.count;
-    let e = Entry {
-        kind: 6,
-        x: at,
-        y: len,
-        z: 0,
-    };
-    put_entry(entries, n, a, e);
-    put_entry(entries, n + 1, a, e);
-    put_entry(entries, n + 2, a, e);
+    put_call_entry(entries, n, a, at, len, 0);
+    put_call_entry(entries, n + 1, a, at, len, 0);
+    put_call_entry(entries, n + 2, a, at, len, 0);
     bid(true, b.end, true, b.count + 3)
 }
 
@@ -170,17 +173,7 @@ fn call_step(
     }
     match call_token(c, t) {
         CallToken::Plus => {
-            put_entry(
-                entries,
-                base + b.count,
-                a,
-                Entry {
-                    kind: 6,
-                    x: at,
-                    y: t.len(),
-                    z: 38,
-                },
-            );
+            put_call_entry(entries, base + b.count, a, at, t.len(), 38);
             bid(true, 1, false, b.count + 1)
         }
         CallToken::Star => bid(b.made, 2, true, b.count),
@@ -188,17 +181,7 @@ fn call_step(
         CallToken::Annotation => {
             let made = b.made;
             if made {
-                put_entry(
-                    entries,
-                    base + b.count,
-                    a,
-                    Entry {
-                        kind: 7,
-                        x: at,
-                        y: t.len(),
-                        z: 0,
-                    },
-                );
+                put_annotation(entries, base + b.count, a, at, t.len());
                 return bid(true, b.end, false, b.count + 1);
             }
             bid(false, b.end, false, b.count)

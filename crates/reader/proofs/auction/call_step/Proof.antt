@@ -18,11 +18,11 @@ call-token-requires c κs = search needs
 enum-told : tie.Need-enum-told
 enum-told c = search needs
 
-add-put-entry : tie.Need-add-put-entry
-add-put-entry c = search needs
+add-put-call-entry : tie.Need-add-put-call-entry
+add-put-call-entry c = search needs
 
-put-entry-requires : tie.Need-put-entry-requires
-put-entry-requires c κs = search needs
+put-call-entry-requires : tie.Need-put-call-entry-requires
+put-call-entry-requires c κs = search needs
 
 add-bid : tie.Need-add-bid
 add-bid c = search needs
@@ -45,11 +45,11 @@ put-passes-requires c κs = search needs
 enum-told-4 : tie.Need-enum-told-4
 enum-told-4 c = search needs
 
-add-put-entry-2 : tie.Need-add-put-entry-2
-add-put-entry-2 c = search needs
+add-put-annotation : tie.Need-add-put-annotation
+add-put-annotation c = search needs
 
-put-entry-requires-2 : tie.Need-put-entry-requires-2
-put-entry-requires-2 c κs = search needs
+put-annotation-requires : tie.Need-put-annotation-requires
+put-annotation-requires c κs = search needs
 
 add-bid-2 : tie.Need-add-bid-2
 add-bid-2 c = search needs
@@ -63,7 +63,7 @@ same-length c = search needs
 returns-2 : tie.Need-returns-2
 returns-2 c =
     let x = c .before .before .before .before .before .before .before .before .before .before .before .before .before .before .args in
-    step-note (x .c) (x .b) (piece (x .at) (now (x .t))) (x .a) (x .base + x .b .count) (c .before .before .before .before .before .before .before .before .before .before .before .if1 .left) (sym (c .before .before .before .before .before .before .before .before .before .before .call-token .ensures .0) ∙ c .before .before .before .before .before .before .before .before .enum-told4 .given .1) (c .before .before .before .before .before .before .before .if2 .taken) (c .before .before .before .before .put-entry2 .ensures) (c .bid3 .ensures)
+    step-note (x .c) (x .b) (piece (x .at) (now (x .t))) (x .a) (x .base + x .b .count) (c .before .before .before .before .before .before .before .before .before .before .before .if1 .left) (sym (c .before .before .before .before .before .before .before .before .before .before .call-token .ensures .0) ∙ c .before .before .before .before .before .before .before .before .enum-told4 .given .1) (c .before .before .before .before .before .before .before .if2 .taken) (c .before .before .before .before .put-annotation .ensures) (c .bid3 .ensures)
 
 bid-requires-4 : tie.Need-bid-requires-4
 bid-requires-4 c κs = search needs
@@ -88,7 +88,7 @@ same-length-2 c = search needs
 returns-3 : tie.Need-returns-3
 returns-3 c =
     let x = c .before .before .before .before .before .before .before .before .before .before .before .before .before .args in
-    step-plus (x .c) (x .b) (piece (x .at) (now (x .t))) (x .a) (x .base + x .b .count) (c .before .before .before .before .before .before .before .before .before .before .if1 .left) (sym (c .before .before .before .before .before .before .before .before .before .call-token .ensures .0) ∙ c .before .before .before .before .before .before .before .enum-told .given .1) (c .before .before .before .before .put-entry .ensures) (c .bid .ensures)
+    step-plus (x .c) (x .b) (piece (x .at) (now (x .t))) (x .a) (x .base + x .b .count) (c .before .before .before .before .before .before .before .before .before .before .if1 .left) (sym (c .before .before .before .before .before .before .before .before .before .call-token .ensures .0) ∙ c .before .before .before .before .before .before .before .enum-told .given .1) (c .before .before .before .before .put-call-entry .ensures) (c .bid .ensures)
 
 returns-4 : tie.Need-returns-4
 returns-4 c =
@@ -128,8 +128,8 @@ call-step-spec =
     returns
     call-token-requires
     enum-told
-    add-put-entry
-    put-entry-requires
+    add-put-call-entry
+    put-call-entry-requires
     add-bid
     bid-requires
     enum-told-2
@@ -137,8 +137,8 @@ call-step-spec =
     enum-told-3
     put-passes-requires
     enum-told-4
-    add-put-entry-2
-    put-entry-requires-2
+    add-put-annotation
+    put-annotation-requires
     add-bid-2
     bid-requires-3
     same-length

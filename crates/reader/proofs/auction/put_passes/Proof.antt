@@ -7,20 +7,20 @@ use Rattle.reader.proofs.auction.put_passes.Tie as tie
 add-n : tie.Need-add-n
 add-n c = search needs
 
-put-entry-requires : tie.Need-put-entry-requires
-put-entry-requires c κs = search needs
+put-call-entry-requires : tie.Need-put-call-entry-requires
+put-call-entry-requires c κs = search needs
 
-add-put-entry : tie.Need-add-put-entry
-add-put-entry c = search needs
+add-put-call-entry : tie.Need-add-put-call-entry
+add-put-call-entry c = search needs
 
-put-entry-requires-2 : tie.Need-put-entry-requires-2
-put-entry-requires-2 c κs = search needs
+put-call-entry-requires-2 : tie.Need-put-call-entry-requires-2
+put-call-entry-requires-2 c κs = search needs
 
-add-put-entry-2 : tie.Need-add-put-entry-2
-add-put-entry-2 c = search needs
+add-put-call-entry-2 : tie.Need-add-put-call-entry-2
+add-put-call-entry-2 c = search needs
 
-put-entry-requires-3 : tie.Need-put-entry-requires-3
-put-entry-requires-3 c κs = search needs
+put-call-entry-requires-3 : tie.Need-put-call-entry-requires-3
+put-call-entry-requires-3 c κs = search needs
 
 add-bid : tie.Need-add-bid
 add-bid c = search needs
@@ -34,18 +34,18 @@ same-length c = search needs
 returns : tie.Need-returns
 returns c =
     let x = c .before .before .before .before .before .before .before .before .before .before .before .before .before .before .before .before .args in
-    passes-out (x .a) (x .base + x .b .count) (x .b) (x .at) (x .len) (c .before .before .before .before .before .before .before .before .before .before .before .before .put-entry .ensures) (c .before .before .before .before .before .before .before .before .put-entry2 .ensures) (c .before .before .before .before .put-entry3 .ensures) (c .bid .ensures)
+    passes-out (x .a) (x .base + x .b .count) (x .b) (x .at) (x .len) (c .before .before .before .before .before .before .before .before .before .before .before .before .put-call-entry .ensures) (c .before .before .before .before .before .before .before .before .put-call-entry2 .ensures) (c .before .before .before .before .put-call-entry3 .ensures) (c .bid .ensures)
 
 pub put-passes-spec : {M : Type 1} → statement M
 put-passes-spec =
     tie.close
     (tie.spec
     add-n
-    put-entry-requires
-    add-put-entry
-    put-entry-requires-2
-    add-put-entry-2
-    put-entry-requires-3
+    put-call-entry-requires
+    add-put-call-entry
+    put-call-entry-requires-2
+    add-put-call-entry-2
+    put-call-entry-requires-3
     add-bid
     bid-requires
     same-length
