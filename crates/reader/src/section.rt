@@ -191,17 +191,8 @@ fn walk_piece(
         };
     }
     if o.kind == 2 {
-        let played = play_piece(
-            c,
-            o.seat,
-            trump,
-            tricks,
-            s,
-            at,
-            a,
-            base + bidding.count,
-            entries,
-        );
+        let n = base + bidding.count;
+        let played = play_piece(c, o.seat, trump, tricks, s, at, a, n, entries);
         return Walk {
             bidding,
             tricks: played,

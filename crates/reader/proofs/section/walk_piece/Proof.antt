@@ -25,8 +25,8 @@ returns c =
     let e = c .before .before .call-piece .ensures in
     piece-called (a .c) (a .o) (a .trump) (a .w) (piece (a .at) (now (a .s))) (a .a) (a .base) (length (now (a .s))) _ _ _ (c .before .before .before .before .before .if1 .taken) (e .0) (e .1) (s .pre .0)
 
-add-play-piece : tie.Need-add-play-piece
-add-play-piece c = search needs
+add-n : tie.Need-add-n
+add-n c = search needs
 
 play-piece-requires : tie.Need-play-piece-requires
 play-piece-requires c κs =
@@ -60,7 +60,7 @@ walk-piece-spec =
     call-piece-requires
     same-length
     returns
-    add-play-piece
+    add-n
     play-piece-requires
     same-length-2
     returns-2
