@@ -271,11 +271,11 @@ pub fn open_by(c: Conventions, k: u8, value: &[u8], at: usize, split: Span) -> O
     }
 }
 
-// Before the first tag.
-pub fn no_board() -> Board
-    ensures { λ r. ⌜ r ≡ noBoard ⌝ }
+// No number, no result, no seat and no vulnerability.
+fn no_identity() -> Identity
+    ensures { λ r. ⌜ r ≡ noBoard .id ⌝ }
 {
-    let id = Identity {
+    Identity {
         number_met: 0,
         number: 0,
         dealer: 4,
@@ -283,8 +283,14 @@ pub fn no_board() -> Board
         declarer: 4,
         result_met: 0,
         result: 0,
-    };
-    let values = Values {
+    }
+}
+
+// No value is kept.
+fn no_values() -> Values
+    ensures { λ r. ⌜ r ≡ noBoard .values ⌝ }
+{
+    Values {
         id: 0,
         event: 0,
         site: 0,
@@ -297,7 +303,13 @@ pub fn no_board() -> Board
         deal: 0,
         score: 0,
         par: 0,
-    };
+    }
+}
+
+// Before the first tag.
+pub fn no_board() -> Board
+    ensures { λ r. ⌜ r ≡ noBoard ⌝ }
+{
     let none = Section {
         first: 0,
         count: 0,
@@ -305,7 +317,7 @@ pub fn no_board() -> Board
         end: 0,
     };
     Board {
-        id,
+        id: no_identity(),
         deal: DealCard {
             kind: 0,
             words: [0; 8],
@@ -314,7 +326,7 @@ pub fn no_board() -> Board
             kind: 0,
             cells: [0; 20],
         },
-        values,
+        values: no_values(),
         auction: none,
         play: none,
         trump: 4,
