@@ -66,10 +66,10 @@ module _ {c : Conventions} {old new : List ℕ} {boxes boxes′ : Boxes} {r : Ed
         let well : areBoth r ≡ true = ap areBoth e in
         boxes-kept (isListed q) (rw well at (b .boxes-after)) same (s .boxes-after)
 
-    pub counted-short : {f : PlanRefusal} → q ≡ planned.Refused f → IsCounted c old new boxes room boxes″ (record { answer = q; olds = 0; news = 0 })
+    pub counted-short : {f : PlanRefusal} → q ≡ planned.Refused f → IsCounted c old new boxes room boxes″ (record { answer = planned.Refused f; olds = 0; news = 0 })
     counted-short {f} h =
         let l : isListed q ≡ false = ap isListed h in
-        record { answer = answered; boxes-after = boxed; old-room = omega arith; new-room = omega arith; boards = rw l (no-boards (boxes″ .old-cards) (boxes″ .new-cards)) }
+        record { answer = sym h ∙ answered; boxes-after = rw l at boxed; old-room = omega arith; new-room = omega arith; boards = no-boards (boxes″ .old-cards) (boxes″ .new-cards) }
 
     pub counted-listed : {t′ : Totals} → q ≡ Listed t′ → IsCounted c old new boxes room boxes″ (record { answer = q; olds = m; news = n })
     counted-listed {t′} h =

@@ -3,6 +3,7 @@ ghost use mathlib.Core.Path.{_≡_};
 ghost use Prim.Native.Nat.{_+_, _*_, _≤_, _<_};
 ghost use lib.ListN.{length};
 ghost use Rattle.tables.specs.Letters.{builtIn};
+ghost use Rattle.planning.specs.declared.plan.Planned.the-variants.{Refused};
 ghost use Rattle.planning.specs.Cards.{cardHere};
 ghost use Rattle.planning.specs.Slips.{slipStruct, slipNumbers};
 ghost use Rattle.planning.specs.Plans.{IsPlanned};
@@ -107,6 +108,18 @@ pub fn fill_slips(
     }
 }
 
+// A refusal, after which the slips are of no card.
+fn refused(f: PlanRefusal) -> Counted
+    ensures { λ r. ⌜ r ≡ record { answer = Refused f; olds = 0; news = 0 } ⌝ }
+{
+    let answer = Planned::Refused(f);
+    Counted {
+        answer,
+        olds: 0,
+        news: 0,
+    }
+}
+
 // What planning answers where so many slips have room; both editions are then in their boxes, or all is 0.
 pub fn plan_counted(
     c: Conventions,
@@ -125,23 +138,12 @@ pub fn plan_counted(
         r ⌝ }
 {
     match read_both(c, old, new, old_cards, old_entries, new_cards, new_entries) {
-        Editions::Refused(f) => {
-            let answer = Planned::Refused(PlanRefusal::Edition(f));
-            Counted {
-                answer,
-                olds: 0,
-                news: 0,
-            }
-        }
+        Editions::Refused(f) => refused(PlanRefusal::Edition(f)),
         Editions::Both(olds, news) => {
             let t = count_boards(old_cards, olds as usize, new_cards, news as usize);
             let answer = settle(old_cards, old_entries, new_cards, new_entries, room, t);
             match answer {
-                Planned::Refused(_) => Counted {
-                    answer,
-                    olds: 0,
-                    news: 0,
-                },
+                Planned::Refused(f) => refused(f),
                 Planned::Listed(_) => Counted {
                     answer,
                     olds: olds as usize,
