@@ -183,14 +183,14 @@ module _ (js : List Judged) (slips : List ℕ) {boxes : Boxes} {ps : List ℕ} {
   answer-is = p .answer ∙ ap (λ (k : ℕ). listedBy (k / 5) t) el ∙ ap (listedBy (length slips / 5)) (f .0)
 
   -- The plan is refused.
-  pub boards-refused : {g : PlanRefusal} {page page₁ page′ : List ℕ} {n : ℕ} {r : Written} → q ≡ planned.Refused g → Put page 0 (refusedLine g) page₁ n → Finished n page₁ page′ r
+  pub boards-refused : {g : PlanRefusal} {page page′ : List ℕ} {r : Written} → q ≡ planned.Refused g → Wrote (refusedLine g) page page′ r
       → BoardsListed js boxes slips page boxes′ slips′ page′ r
   unfolding wellOn
-  boards-refused {g} e w z =
+  boards-refused {g} e w =
       listed-as
       (planned.Refused g)
       (sym e ∙ answer-is)
-      (finished w z)
+      w
       (subst (λ (x : Planned). Kept (isListed x) boxes boxes′) e (p .boxes-after))
       (subst (λ (x : Planned). slips′ ≡ cond (isListed x) ps (zeros ps)) e (p .slips-after) ∙ rw el)
 
@@ -245,14 +245,14 @@ slips-well true L k h e = e ∙ put-zeros 5 L k (h refl)
 slips-well false L k h e = e
 
 module _ {c : Conventions} {limit : ℕ} {old new : List ℕ} {boxes boxes′ : Boxes} {slips zs page : List ℕ} {r : Editions} (b : BothLimited c limit old new boxes boxes′ r) (z : zs ≡ zeros slips) where
-  pub list-refused : {f : EditionsRefusal} {n : ℕ} {page₁ page′ : List ℕ} {w : Written} → r ≡ editions.Refused f → Put page 0 (refusedLine (Edition f)) page₁ n → Finished n page₁ page′ w
+  pub list-refused : {f : EditionsRefusal} {page′ : List ℕ} {w : Written} → r ≡ editions.Refused f → Wrote (refusedLine (Edition f)) page page′ w
       → IsListing c limit old new boxes slips page boxes′ zs page′ w
   unfolding listedOf wellOn
-  list-refused {f} {n} {page₁} {page′} {w} e p g =
+  list-refused {f} e p =
       let a : limitedBoth c limit old new boxes ≡ editions.Refused f = sym (b .answer) ∙ e in
       let well : areBoth r ≡ false = ap areBoth e in
       record {
-        wrote = rw a (finished p g);
+        wrote = rw a p;
         boxes-after = rw a (rw well at (b .boxes-after));
         slips-after = rw a z;
       }

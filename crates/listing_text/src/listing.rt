@@ -4,10 +4,10 @@ ghost use mathlib.Core.List.{_++_};
 ghost use Prim.Native.Nat.{_+_, _*_, _≤_, _<_};
 ghost use lib.ListN.{length};
 ghost use Rattle.tables.specs.Letters.{builtIn};
-ghost use Rattle.tables.specs.Page.{Put};
+ghost use Rattle.tables.specs.Page.{Put, Wrote};
 ghost use Rattle.planning.specs.Cards.{cardsIn};
 ghost use Rattle.planning.specs.States.{judged};
-ghost use Rattle.listing_text.specs.Listing.{boardLines, totalLine, Countable, PageKept, BoardsListed, IsListing};
+ghost use Rattle.listing_text.specs.Listing.{boardLines, totalLine, refusedLine, Countable, PageKept, BoardsListed, IsListing};
 use crate::limited::read_both_limited;
 use crate::lines::put_board;
 use crate::lines::put_refused;
@@ -63,6 +63,14 @@ fn put_listed(
     put_total(page, at, t)
 }
 
+// Writes the line of a refusal, and nothing else.
+fn write_refused(page: &mut [u8], f: PlanRefusal) -> Written
+    ensures { λ r. ⌜ Wrote (refusedLine f) (now (page .entry)) (now (page .exit)) r ⌝ }
+{
+    let n = put_refused(page, 0, f);
+    finish(page, n)
+}
+
 // The end of a page on which n bytes were put; all other lent words are set to 0 where they do not fit.
 fn finish_listing(
     old_cards: &mut [u32],
@@ -105,19 +113,9 @@ fn list_taken(
         (record { old-cards = now («old_cards» .exit); old-entries = now («old_entries» .exit); new-cards = now («new_cards» .exit); new-entries = now («new_entries» .exit) })
         (now (slips .exit)) (now (page .exit)) r ⌝ }
 {
-    let totals = list_boards(old_cards, olds, new_cards, news, slips);
-    match finish_plan(
-        old_cards,
-        old_entries,
-        new_cards,
-        new_entries,
-        slips,
-        totals,
-    ) {
-        Planned::Refused(f) => {
-            let n = put_refused(page, 0, f);
-            finish(page, n)
-        }
+    let t = list_boards(old_cards, olds, new_cards, news, slips);
+    match finish_plan(old_cards, old_entries, new_cards, new_entries, slips, t) {
+        Planned::Refused(f) => write_refused(page, f),
         Planned::Listed(t) => {
             let n = put_listed(page, old_cards, olds, new_cards, news, t);
             finish_listing(
@@ -163,10 +161,7 @@ pub fn list_with(
         new_cards,
         new_entries,
     ) {
-        Editions::Refused(f) => {
-            let n = put_refused(page, 0, PlanRefusal::Edition(f));
-            finish(page, n)
-        }
+        Editions::Refused(f) => write_refused(page, PlanRefusal::Edition(f)),
         Editions::Both(olds, news) => list_taken(
             old_cards,
             old_entries,

@@ -9,12 +9,11 @@ use Rattle.listing_text.proofs.listing.list_taken.Statement.{statement}
 use Rattle.listing_text.proofs.listing.list_taken.Tie as tie
 use Rattle.listing_text.proofs.listing.list_taken.Reads as reads
 use Rattle.listing_text.proofs.listing.list_taken.Lts as lts
-use Rattle.listing_text.proofs.lines.put_refused.Reads as put-refused-reads
+use Rattle.listing_text.proofs.listing.write_refused.Reads as write-refused-reads
 use Rattle.listing_text.proofs.listing.finish_listing.Reads as finish-listing-reads
 use Rattle.listing_text.proofs.listing.put_listed.Reads as put-listed-reads
 use Rattle.planning.proofs.plan.finish_plan.Reads as finish-plan-reads
 use Rattle.planning.proofs.plan.list_boards.Reads as list-boards-reads
-use Rattle.tables.proofs.page.finish.Reads as finish-reads
 
 list-boards-requires : tie.Need-list-boards-requires
 list-boards-requires c κs = search needs
@@ -25,11 +24,8 @@ finish-plan-requires c κs = search needs
 enum-known-f : tie.Need-enum-known-f
 enum-known-f c = search needs
 
-put-refused-requires : tie.Need-put-refused-requires
-put-refused-requires c κs = search needs
-
-finish-requires : tie.Need-finish-requires
-finish-requires c κs = search needs
+write-refused-requires : tie.Need-write-refused-requires
+write-refused-requires c κs = search needs
 
 enum-known-t : tie.Need-enum-known-t
 enum-known-t c = search needs
@@ -59,7 +55,7 @@ same-length-6 : tie.Need-same-length-6
 same-length-6 c = search needs
 
 returns : tie.Need-returns
-returns c = let a = c .before .before .before .before .before .before .before .before .before .before .before .before .before .before .before .before .before .before .before .before .before .before .before .before .before .before .before .before .before .before .before .before .before .before .before .before .before .before .before .args in let js = judged (cardsIn (a .olds) (now (a .old-cards))) (cardsIn (a .news) (now (a .new-cards))) in let l = c .before .before .before .before .before .before .before .before .before .before .before .before .before .before .before .before .before .before .before .before .before .before .before .before .before .before .before .before .before .list-boards in let p = c .before .before .before .before .before .before .before .before .before .before .before .before .before .before .before .before .before .before .before .before .before .finish-plan in boards-refused js (now (a .slips)) (l .ensures) (l .kept .1 .1 .1 .1 .0) (p .ensures) (c .before .before .before .before .before .before .before .before .before .f .given .1) (c .before .before .before .before .before .before .put-refused .ensures) (c .before .before .finish .ensures)
+returns c = let a = c .before .before .before .before .before .before .before .before .before .before .before .before .before .before .before .before .before .before .before .before .before .before .before .before .before .before .before .before .before .before .before .before .before .before .before .args in let js = judged (cardsIn (a .olds) (now (a .old-cards))) (cardsIn (a .news) (now (a .new-cards))) in let l = c .before .before .before .before .before .before .before .before .before .before .before .before .before .before .before .before .before .before .before .before .before .before .before .before .before .list-boards in let p = c .before .before .before .before .before .before .before .before .before .before .before .before .before .before .before .before .before .finish-plan in boards-refused js (now (a .slips)) (l .ensures) (l .kept .1 .1 .1 .1 .0) (p .ensures) (c .before .before .before .before .before .f .given .1) (c .before .before .write-refused .ensures)
 
 same-length-7 : tie.Need-same-length-7
 same-length-7 c = c .before .before .before .before .before .before .before .before .before .before .before .before .finish-listing .kept .0 ∙ c .before .before .before .before .before .before .before .before .before .before .before .before .before .before .before .before .before .before .before .before .before .before .before .before .before .before .before .before .before .before .before .before .before .before .before .before .before .before .finish-plan .kept .0
@@ -89,8 +85,7 @@ list-taken-spec =
     list-boards-requires
     finish-plan-requires
     enum-known-f
-    put-refused-requires
-    finish-requires
+    write-refused-requires
     enum-known-t
     put-listed-requires
     finish-listing-requires

@@ -4,11 +4,10 @@ use Rattle.listing_text.proofs.listing.list_with.Statement.{statement}
 use Rattle.listing_text.proofs.listing.list_with.Tie as tie
 use Rattle.listing_text.proofs.listing.list_with.Reads as reads
 use Rattle.listing_text.proofs.listing.list_with.Lts as lts
-use Rattle.listing_text.proofs.lines.put_refused.Reads as put-refused-reads
+use Rattle.listing_text.proofs.listing.write_refused.Reads as write-refused-reads
 use Rattle.listing_text.proofs.listing.list_taken.Reads as list-taken-reads
 use Rattle.listing_text.proofs.limited.read_both_limited.Reads as read-both-limited-reads
 use Rattle.planning.proofs.numbers.zero_numbers.Reads as zero-numbers-reads
-use Rattle.tables.proofs.page.finish.Reads as finish-reads
 
 zero-numbers-requires : tie.Need-zero-numbers-requires
 zero-numbers-requires c κs = search needs
@@ -19,11 +18,8 @@ read-both-limited-requires c κs = search needs
 enum-known-f : tie.Need-enum-known-f
 enum-known-f c = search needs
 
-put-refused-requires : tie.Need-put-refused-requires
-put-refused-requires c κs = search needs
-
-finish-requires : tie.Need-finish-requires
-finish-requires c κs = search needs
+write-refused-requires : tie.Need-write-refused-requires
+write-refused-requires c κs = search needs
 
 enum-known-olds : tie.Need-enum-known-olds
 enum-known-olds c = search needs
@@ -50,7 +46,7 @@ same-length-6 : tie.Need-same-length-6
 same-length-6 c = search needs
 
 returns : tie.Need-returns
-returns c = list-refused (c .before .before .before .before .before .before .before .before .before .before .before .before .before .before .before .before .before .before .before .read-both-limited .ensures) (c .before .before .before .before .before .before .before .before .before .before .before .before .before .before .before .before .before .before .before .before .before .before .before .before .before .before .zero-numbers .ensures) (c .before .before .before .before .before .before .before .before .before .f .given .1) (c .before .before .before .before .before .before .put-refused .ensures) (c .before .before .finish .ensures)
+returns c = list-refused (c .before .before .before .before .before .before .before .before .before .before .before .before .before .before .before .read-both-limited .ensures) (c .before .before .before .before .before .before .before .before .before .before .before .before .before .before .before .before .before .before .before .before .before .before .zero-numbers .ensures) (c .before .before .before .before .before .f .given .1) (c .before .before .write-refused .ensures)
 
 same-length-7 : tie.Need-same-length-7
 same-length-7 c = search needs
@@ -80,8 +76,7 @@ list-with-spec =
     zero-numbers-requires
     read-both-limited-requires
     enum-known-f
-    put-refused-requires
-    finish-requires
+    write-refused-requires
     enum-known-olds
     list-taken-requires
     same-length
