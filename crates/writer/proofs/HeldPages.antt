@@ -24,7 +24,7 @@ use Rattle.writer.specs.Pages.{ownPlay, bodyText, headerText, builtInHea
 use Rattle.writer.specs.Steps.{isThere, isAny, hasNotes, presentOf}
 use Rattle.writer.specs.Held.{cardWord, cardPart, itemsAt, valueHeld, boardItems, itemsUpTo, sectionItems, auctionHeld, playHeld, valuesHeld, boardHeld, boardsHeld}
 use Rattle.writer.specs.Items.{soughtBy, isFirst, remarksText, afterText, tagLineText, taggedText, extrasText, rowsText, fullText, groupText, notesText, auctionText, playText, tagsAt, scoringAt, dealPlace, isRemark, hasRemarks, resultIn}
-use Rattle.writer.specs.BoardTexts.{scanned, valueOf, optionalText, titleText, playersText, dealerText, headText, dealHeld, contractText, tableText, analysisText, sectionText, noteTags, biddingText, cardsText, presentHeld, scanOf, early, frontText, backText, leadHeld, bodyHeld, headerHeld, nextHeld, partsHeld, pageHeld}
+use Rattle.writer.specs.BoardTexts.{scanned, valueOf, optionalText, titleText, playersText, dealerText, headText, dealHeld, contractText, tableText, analysisText, sectionText, noteTags, biddingText, cardsText, presentHeld, scanOf, early, frontText, lostText, backText, leadHeld, bodyHeld, headerHeld, nextHeld, partsHeld, pageHeld}
 use Rattle.writer.proofs.RemarkTexts.{MarkedItems, remarks-none, after-none}
 use Rattle.writer.proofs.GroupLines.{auctionTag}
 use Rattle.writer.proofs.GroupTexts.{groups-join, group-none, notes-none}
@@ -166,12 +166,10 @@ module _ (c : Conventions) (text cards entries : List ℕ) (k : ℕ) where
   abbrev whole : List Item → List ℕ
   whole is =
       remarksText (soughtBy Leading []) (isFirst Leading) 4 is
-      ++ (tagsPart c (boardHeld text cards entries k) play is
-      ++ (remarksText (soughtBy (Lost (presentOf (boardHeld text cards entries k))) []) (isFirst (Lost (presentOf (boardHeld text cards entries k)))) 4 is
-      ++ remarksText (soughtBy (Lost (presentOf (boardHeld text cards entries k))) []) (isFirst (Lost (presentOf (boardHeld text cards entries k)))) 3 is))
+      ++ (tagsPart c (boardHeld text cards entries k) play is ++ lostText (presentOf (boardHeld text cards entries k)) is)
 
-  regroup : (r h e d a l b p x y : List ℕ) → (r ++ h ++ e ++ d ++ a) ++ (l ++ b ++ p ++ x ++ y) ≡ r ++ ((h ++ (e ++ ((d ++ a) ++ (l ++ (b ++ p))))) ++ (x ++ y))
-  regroup r h e d a l b p x y = simp append-assoc
+  regroup : (r h e d a l b p x : List ℕ) → (r ++ h ++ e ++ d ++ a) ++ (l ++ b ++ p ++ x) ≡ r ++ ((h ++ (e ++ ((d ++ a) ++ (l ++ (b ++ p))))) ++ x)
+  regroup r h e d a l b p x = simp append-assoc
 
   scoring : EntriesHeld text cards entries k
       → scoringAt text entries (cardWord cards k 0) (cardWord cards k 1) ≡ firstValue (ascii "Scoring") (boardHeld text cards entries k .tags)
@@ -201,8 +199,7 @@ module _ (c : Conventions) (text cards entries : List ℕ) (k : ℕ) where
       (extrasText text entries (cardWord cards k 0) is (cardWord cards k 0 + early text cards entries k) (cardWord cards k 1 - early text cards entries k))
       (biddingText c text cards entries k is)
       (cardsText c text cards entries k is)
-      (remarksText (soughtBy (Lost (presentHeld text cards entries k)) []) (isFirst (Lost (presentHeld text cards entries k))) 4 is)
-      (remarksText (soughtBy (Lost (presentHeld text cards entries k)) []) (isFirst (Lost (presentHeld text cards entries k))) 3 is)
+      (lostText (presentHeld text cards entries k) is)
       ∙ rw (
         present-same f,
         head-group is,

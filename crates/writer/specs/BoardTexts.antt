@@ -129,6 +129,10 @@ scanOf text cards entries b = cond (hasRemarks (boardItems text cards entries b)
 abbrev pub early : List ℕ → List ℕ → List ℕ → ℕ → ℕ
 early text cards entries b = dealPlace text entries (cardWord cards b 0) (cardWord cards b 1)
 
+-- What belongs to a tag that is not written, p saying what there is: blocks, then directives.
+abbrev pub lostText : Present → List Item → List ℕ
+lostText p is = remarksText (soughtBy (Lost p) []) (isFirst (Lost p)) 4 is ++ remarksText (soughtBy (Lost p) []) (isFirst (Lost p)) 3 is
+
 -- Up to the late supplemental tags, and from there on.
 unfoldable pub frontText : Conventions → List ℕ → List ℕ → List ℕ → ℕ → List Item → List ℕ
 frontText c text cards entries b is =
@@ -143,8 +147,7 @@ backText c text cards entries b is =
     extrasText text entries (cardWord cards b 0) is (cardWord cards b 0 + early text cards entries b) (cardWord cards b 1 - early text cards entries b)
     ++ biddingText c text cards entries b is
     ++ cardsText c text cards entries b is
-    ++ remarksText (soughtBy (Lost (presentHeld text cards entries b)) []) (isFirst (Lost (presentHeld text cards entries b))) 4 is
-    ++ remarksText (soughtBy (Lost (presentHeld text cards entries b)) []) (isFirst (Lost (presentHeld text cards entries b))) 3 is
+    ++ lostText (presentHeld text cards entries b) is
 
 -- The directives before every tag; the other lines.
 unfoldable pub leadHeld : List ℕ → List ℕ → List ℕ → ℕ → List ℕ

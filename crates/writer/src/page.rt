@@ -8,7 +8,7 @@ ghost use Rattle.writer.specs.Puts.{Puts};
 ghost use Rattle.writer.specs.Held.{cardWord, itemsAt};
 ghost use Rattle.writer.specs.Pages.{builtInHeader};
 ghost use Rattle.writer.specs.Items.{hasRemarks, dealPlace};
-ghost use Rattle.writer.specs.BoardTexts.{scanned, presentHeld, scanOf, frontText, backText, leadHeld, bodyHeld, headerHeld, nextHeld, partsHeld, pageHeld};
+ghost use Rattle.writer.specs.BoardTexts.{scanned, presentHeld, scanOf, frontText, lostText, backText, leadHeld, bodyHeld, headerHeld, nextHeld, partsHeld, pageHeld};
 use crate::board::less;
 use crate::board::put_analysis;
 use crate::board::put_bidding;
@@ -129,6 +129,25 @@ fn put_front(
     put_analysis(text, cards, entries, b, scan, page, g)
 }
 
+// What belongs to a tag that is not written: blocks, then directives.
+fn put_lost(
+    text: &[u8],
+    cards: &[u32],
+    entries: &[u32],
+    b: usize,
+    scan: usize,
+    page: &mut [u8],
+    at: usize,
+) -> usize
+    requires { ⌜ scan ≤ 4294967296 ⌝ }
+    ensures { λ r. ⌜ Puts (now (page .entry)) at (lostText (presentHeld (now (text .entry)) (now (cards .entry)) (now (entries .entry)) b) (scanned (now (text .entry)) (now (cards .entry)) (now (entries .entry)) b scan)) (now (page .exit)) r ⌝ }
+{
+    let first = card_word(cards, b, 0);
+    let lost = Sought::Lost(present_at(text, cards, entries, b));
+    let d = put_remarks(text, entries, first, scan, lost, b"", 4, page, at);
+    put_remarks(text, entries, first, scan, lost, b"", 3, page, d)
+}
+
 // The tags from the late supplemental ones on, and what is put at the end.
 fn put_back(
     text: &[u8],
@@ -146,7 +165,6 @@ fn put_back(
     let first = card_word(cards, b, 0);
     let count = card_word(cards, b, 1);
     let early = deal_place(text, entries, first, count);
-    let present = present_at(text, cards, entries, b);
     let d = put_extras(
         text,
         entries,
@@ -159,28 +177,7 @@ fn put_back(
     );
     let e = put_bidding(text, cards, entries, b, scan, c, page, d);
     let f = put_cards(text, cards, entries, b, scan, c, page, e);
-    let g = put_remarks(
-        text,
-        entries,
-        first,
-        scan,
-        Sought::Lost(present),
-        b"",
-        4,
-        page,
-        f,
-    );
-    put_remarks(
-        text,
-        entries,
-        first,
-        scan,
-        Sought::Lost(present),
-        b"",
-        3,
-        page,
-        g,
-    )
+    put_lost(text, cards, entries, b, scan, page, f)
 }
 
 // The directives before every tag.

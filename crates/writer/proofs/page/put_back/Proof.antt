@@ -1,6 +1,6 @@
 use native.Mathlib.Omega.{arith}
 use Rattle.writer.specs.BoardTexts.{backText}
-use Rattle.writer.proofs.PutLaws.{puts-then, puts-as, puts-nothing}
+use Rattle.writer.proofs.PutLaws.{puts-then}
 use borrow.Author.Needs.{needs}
 use Rattle.writer.proofs.page.put_back.Statement.{statement}
 use Rattle.writer.proofs.page.put_back.Tie as tie
@@ -10,8 +10,7 @@ use Rattle.writer.proofs.board.put_bidding.Reads as put-bidding-reads
 use Rattle.writer.proofs.board.put_cards.Reads as put-cards-reads
 use Rattle.writer.proofs.held.card_word.Reads as card-word-reads
 use Rattle.writer.proofs.page.deal_place.Reads as deal-place-reads
-use Rattle.writer.proofs.page.present_at.Reads as present-at-reads
-use Rattle.writer.proofs.remarks.put_remarks.Reads as put-remarks-reads
+use Rattle.writer.proofs.page.put_lost.Reads as put-lost-reads
 use Rattle.writer.proofs.tags.put_extras.Reads as put-extras-reads
 
 card-word-requires : tie.Need-card-word-requires
@@ -23,9 +22,6 @@ card-word-requires-2 c κs = search needs
 deal-place-requires : tie.Need-deal-place-requires
 deal-place-requires c κs = search needs
 
-present-at-requires : tie.Need-present-at-requires
-present-at-requires c κs = search needs
-
 add-put-extras : tie.Need-add-put-extras
 add-put-extras c = search needs
 
@@ -34,38 +30,28 @@ sub-put-extras c = search needs
 
 put-extras-requires : tie.Need-put-extras-requires
 put-extras-requires c κs =
-    (omega arith, omega (arith, c .before .before .deal-place .ensures .1, c .before .before .before .before .card-word .ensures .1, c .before .before .before .card-word2 .ensures .1), omega (arith, c .before .before .before .before .card-word .ensures .1, c .before .before .before .before .before .before .before .before .before .pre))
+    (omega arith, omega (arith, c .before .deal-place .ensures .1, c .before .before .before .card-word .ensures .1, c .before .before .card-word2 .ensures .1), omega (arith, c .before .before .before .card-word .ensures .1, c .before .before .before .before .before .before .before .before .pre))
 
 put-bidding-requires : tie.Need-put-bidding-requires
 put-bidding-requires c κs =
-    c .before .before .before .before .before .before .before .before .before .before .before .before .before .pre
+    c .before .before .before .before .before .before .before .before .before .before .before .before .pre
 
 put-cards-requires : tie.Need-put-cards-requires
 put-cards-requires c κs =
-    c .before .before .before .before .before .before .before .before .before .before .before .before .before .before .before .before .before .pre
+    c .before .before .before .before .before .before .before .before .before .before .before .before .before .before .before .before .pre
 
-slice-aggregate-put-remarks : tie.Need-slice-aggregate-put-remarks
-slice-aggregate-put-remarks c = search needs
-
-put-remarks-requires : tie.Need-put-remarks-requires
-put-remarks-requires c κs =
-    (omega (arith, c .before .before .before .before .before .before .before .before .before .before .before .before .before .before .before .before .before .card-word .ensures .1, c .before .before .before .before .before .before .before .before .before .before .before .before .before .before .before .before .before .before .before .before .before .before .pre), omega arith)
-
-slice-aggregate-put-remarks-2 : tie.Need-slice-aggregate-put-remarks-2
-slice-aggregate-put-remarks-2 c = search needs
-
-put-remarks-requires-2 : tie.Need-put-remarks-requires-2
-put-remarks-requires-2 c κs =
-    (omega (arith, c .before .before .before .before .before .before .before .before .before .before .before .before .before .before .before .before .before .before .before .before .before .before .card-word .ensures .1, c .before .before .before .before .before .before .before .before .before .before .before .before .before .before .before .before .before .before .before .before .before .before .before .before .before .before .before .pre), omega arith)
+put-lost-requires : tie.Need-put-lost-requires
+put-lost-requires c κs =
+    c .before .before .before .before .before .before .before .before .before .before .before .before .before .before .before .before .before .before .before .before .pre
 
 same-length : tie.Need-same-length
 same-length c =
-    (puts-then (puts-then (puts-then (puts-then (c .before .before .before .before .before .before .before .before .before .before .before .before .before .before .before .before .before .before .before .before .put-extras .ensures) (c .before .before .before .before .before .before .before .before .before .before .before .before .before .before .before .before .put-bidding .ensures)) (c .before .before .before .before .before .before .before .before .before .before .before .before .put-cards .ensures)) (c .before .before .before .before .before .before .before .put-remarks .ensures)) (c .before .before .put-remarks2 .ensures)) .kept
+    (puts-then (puts-then (puts-then (c .before .before .before .before .before .before .before .before .before .before .before .before .before .before .put-extras .ensures) (c .before .before .before .before .before .before .before .before .before .before .put-bidding .ensures)) (c .before .before .before .before .before .before .put-cards .ensures)) (c .before .before .put-lost .ensures)) .kept
 
 returns : tie.Need-returns
 unfolding backText
 returns c =
-    puts-then (puts-then (puts-then (puts-then (rw (c .before .before .before .before .before .before .before .before .before .before .before .before .before .before .before .before .before .before .before .before .before .before .before .deal-place .ensures .0, c .before .before .before .before .before .before .before .before .before .before .before .before .before .before .before .before .before .before .before .before .before .before .before .before .before .card-word .ensures .0, c .before .before .before .before .before .before .before .before .before .before .before .before .before .before .before .before .before .before .before .before .before .before .before .before .card-word2 .ensures .0) at (c .before .before .before .before .before .before .before .before .before .before .before .before .before .before .before .before .before .before .before .before .put-extras .ensures)) (c .before .before .before .before .before .before .before .before .before .before .before .before .before .before .before .before .put-bidding .ensures)) (c .before .before .before .before .before .before .before .before .before .before .before .before .put-cards .ensures)) (rw (c .before .before .before .before .before .before .before .before .before .before .before .before .before .before .before .before .before .before .before .before .before .before .present-at .ensures, c .before .before .before .before .before .before .before .before .before .before .before .before .before .before .before .before .before .before .before .before .before .before .before .before .before .card-word .ensures .0) at (c .before .before .before .before .before .before .before .put-remarks .ensures))) (rw (c .before .before .before .before .before .before .before .before .before .before .before .before .before .before .before .before .before .before .before .before .before .before .present-at .ensures, c .before .before .before .before .before .before .before .before .before .before .before .before .before .before .before .before .before .before .before .before .before .before .before .before .before .card-word .ensures .0) at (c .before .before .put-remarks2 .ensures))
+    puts-then (puts-then (puts-then (rw (c .before .before .before .before .before .before .before .before .before .before .before .before .before .before .before .before .deal-place .ensures .0, c .before .before .before .before .before .before .before .before .before .before .before .before .before .before .before .before .before .before .card-word .ensures .0, c .before .before .before .before .before .before .before .before .before .before .before .before .before .before .before .before .before .card-word2 .ensures .0) at (c .before .before .before .before .before .before .before .before .before .before .before .before .before .before .put-extras .ensures)) (c .before .before .before .before .before .before .before .before .before .before .put-bidding .ensures)) (c .before .before .before .before .before .before .put-cards .ensures)) (c .before .before .put-lost .ensures)
 
 pub put-back-spec : {M : Type 1} → statement M
 put-back-spec =
@@ -74,15 +60,11 @@ put-back-spec =
     card-word-requires
     card-word-requires-2
     deal-place-requires
-    present-at-requires
     add-put-extras
     sub-put-extras
     put-extras-requires
     put-bidding-requires
     put-cards-requires
-    slice-aggregate-put-remarks
-    put-remarks-requires
-    slice-aggregate-put-remarks-2
-    put-remarks-requires-2
+    put-lost-requires
     same-length
     returns)
