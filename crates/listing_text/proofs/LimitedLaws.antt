@@ -1,10 +1,8 @@
 -- Laws of both editions with a limit: one for each answer.
-use Prim.Native.Nat.{ℕ, _-_, _≤_, _<_}
-use mathlib.Core.Path.{_≡_, _∙_}
-use mathlib.Core.Bool.{true, false}
+use Prim.Native.Nat.{ℕ, _≤_, _<_}
+use mathlib.Core.Path.{_≡_, refl, _∙_}
+use mathlib.Core.Bool.{false}
 use mathlib.Core.List.{List}
-use native.Mathlib.Omega.{arith}
-use lib.Dec.{ltb}
 use lib.ListN.{length}
 use borrow.Author.Tests.{lt-ltb, le-ltb}
 use Rattle.tables.specs.declared.letters.Conventions.{Conventions}
@@ -13,69 +11,42 @@ use Rattle.reader.specs.declared.edition.ReadRefusal.the-variants.{Overlong}
 use Rattle.reader.specs.declared.edition.Reading.{Reading}
 use Rattle.reader.specs.declared.edition.Reading.the-variants.{Taken}
 use Rattle.reader.specs.declared.edition.Reading.the-variants as reading
-use Rattle.reader.specs.Store.{zeros}
 use Rattle.reader.specs.Editions.{IsRead}
-use Rattle.planning.specs.declared.editions.EditionsRefusal.the-variants.{Old, New}
-use Rattle.planning.specs.declared.editions.Editions.the-variants.{Both}
+use Rattle.planning.specs.declared.editions.EditionsRefusal.the-variants.{Old}
+use Rattle.planning.specs.declared.editions.Editions.{Editions}
 use Rattle.planning.specs.declared.editions.Editions.the-variants as editions
-use Rattle.listing_text.specs.Limited.{limitedOf, limitedBoth, IsLimited, BothLimited}
+use Rattle.planning.specs.Plans.{Boxes, bothAfter, editionsOf, areBoth, BothRead}
+use Rattle.planning.specs.Steps.{Kept}
 use Rattle.planning.proofs.BoxLaws.{four}
+use Rattle.listing_text.specs.Limited.{limitedOf, limitedBoth, BothLimited}
 
--- ---- an edition with a limit
-
-pub limited-long : {c : Conventions} {limit n : ℕ} {text cards entries cards′ entries′ : List ℕ} → n ≡ length text → limit < n → cards′ ≡ zeros cards → entries′ ≡ zeros entries
-    → IsLimited c limit text cards entries (reading.Refused (Overlong n)) cards′ entries′
-unfolding limitedOf
-limited-long {c} {limit} {n} {text} en h ec ee =
-    let e : ltb limit (length text) ≡ true = lt-ltb limit (length text) (omega arith) in
-    record { answer = rw (e, en); cards-after = ec; entries-after = ee }
-
-pub limited-read : {c : Conventions} {limit n : ℕ} {text cards entries cards′ entries′ : List ℕ} {r : Reading} → n ≡ length text → n ≤ limit → IsRead c text cards entries r cards′ entries′
-    → IsLimited c limit text cards entries r cards′ entries′
-unfolding limitedOf
-limited-read {c} {limit} {n} {text} en h i =
-    let e : ltb limit (length text) ≡ false = le-ltb limit (length text) (omega arith) in
-    record { answer = rw e (i .answer); cards-after = i .cards-after; entries-after = i .entries-after }
-
--- ---- both editions with a limit: one law for each answer
-
-module _ {c : Conventions} {limit : ℕ} {old new oc oe nc ne oc′ oe′ : List ℕ} {r : Reading} (i : IsLimited c limit old oc oe r oc′ oe′) where
-  pub old-refused : {f : ReadRefusal} {nc′ ne′ : List ℕ} → r ≡ reading.Refused f → nc′ ≡ zeros nc → ne′ ≡ zeros ne
-      → BothLimited c limit old new (four oc oe nc ne) (four oc′ oe′ nc′ ne′) (editions.Refused (Old f))
-  unfolding limitedBoth
-  old-refused e ec ee = record {
-    answer = rw (← i .answer, e);
-    boxes-after = record {
-      old-cards = rw e at (i .cards-after);
-      old-entries = rw e at (i .entries-after);
-      new-cards = ec;
-      new-entries = ee;
-    };
+module _ {c : Conventions} {limit : ℕ} {old new : List ℕ} where
+  pub old-long : {boxes boxes′ : Boxes} → limit < length old → Kept false boxes boxes′
+      → BothLimited c limit old new boxes boxes′ (editions.Refused (Old (Overlong (length old))))
+  unfolding limitedBoth limitedOf
+  old-long h k = record {
+    answer = rw (lt-ltb limit (length old) h);
+    boxes-after = record { old-cards = k .old-cards; old-entries = k .old-entries; new-cards = k .new-cards; new-entries = k .new-entries };
   }
 
-  pub new-refused : {m x : ℕ} {f : ReadRefusal} {s : Reading} {nc′ ne′ oc″ oe″ : List ℕ} → r ≡ Taken m x → IsLimited c limit new nc ne s nc′ ne′ → s ≡ reading.Refused f
-      → length oc′ ≡ length oc → length oe′ ≡ length oe → oc″ ≡ zeros oc′ → oe″ ≡ zeros oe′
-      → BothLimited c limit old new (four oc oe nc ne) (four oc″ oe″ nc′ ne′) (editions.Refused (New f))
-  unfolding limitedBoth
-  new-refused e j e₂ lc le ec ee = record {
-    answer = rw (← i .answer, e, ← j .answer, e₂);
-    boxes-after = record {
-      old-cards = ec ∙ rw lc;
-      old-entries = ee ∙ rw le;
-      new-cards = rw e₂ at (j .cards-after);
-      new-entries = rw e₂ at (j .entries-after);
-    };
+  -- The old edition is read, and all words are set to 0.
+  pub new-long : {oc oe oc₁ oe₁ nc ne : List ℕ} {boxes′ : Boxes} {r s : Reading} → length old ≤ limit → limit < length new
+      → IsRead c old oc oe r oc₁ oe₁ → length oc₁ ≡ length oc → length oe₁ ≡ length oe → Kept false (four oc₁ oe₁ nc ne) boxes′ → r ≡ s
+      → BothLimited c limit old new (four oc oe nc ne) boxes′ (bothAfter s (reading.Refused (Overlong (length new))))
+  unfolding limitedBoth limitedOf
+  new-long {s = s} h l i lc le k e = record {
+    answer = rw (← e, le-ltb limit (length old) h, lt-ltb limit (length new) l, i .answer);
+    boxes-after = rw (not-both s (Overlong (length new))) record { old-cards = k .old-cards ∙ rw lc; old-entries = k .old-entries ∙ rw le; new-cards = k .new-cards; new-entries = k .new-entries };
   }
+    where
+      not-both : (s : Reading) (f : ReadRefusal) → areBoth (bothAfter s (reading.Refused f)) ≡ false
+      not-both (Taken b e) f = refl
+      not-both (reading.Refused g) f = refl
 
-  pub both-taken : {m x n y : ℕ} {s : Reading} {nc′ ne′ : List ℕ} → r ≡ Taken m x → IsLimited c limit new nc ne s nc′ ne′ → s ≡ Taken n y
-      → BothLimited c limit old new (four oc oe nc ne) (four oc′ oe′ nc′ ne′) (Both m n)
-  unfolding limitedBoth
-  both-taken e j e₂ = record {
-    answer = rw (← i .answer, e, ← j .answer, e₂);
-    boxes-after = record {
-      old-cards = rw e at (i .cards-after);
-      old-entries = rw e at (i .entries-after);
-      new-cards = rw e₂ at (j .cards-after);
-      new-entries = rw e₂ at (j .entries-after);
-    };
+  pub both-within : {boxes boxes′ : Boxes} {r : Editions} → length old ≤ limit → length new ≤ limit → BothRead c old new boxes boxes′ r
+      → BothLimited c limit old new boxes boxes′ r
+  unfolding limitedBoth limitedOf editionsOf
+  both-within h l b = record {
+    answer = rw (le-ltb limit (length old) h, le-ltb limit (length new) l) (b .answer);
+    boxes-after = b .boxes-after;
   }

@@ -9,7 +9,7 @@ use Rattle.tables.specs.declared.letters.Conventions.{Conventions}
 use Rattle.reader.specs.declared.edition.Reading.{Reading}
 use Rattle.reader.specs.declared.edition.Reading.the-variants as reading
 use Rattle.reader.specs.declared.edition.ReadRefusal.the-variants.{Overlong}
-use Rattle.reader.specs.Editions.{readingOf, cardsOf, entriesOf, lentAfter}
+use Rattle.reader.specs.Editions.{readingOf}
 use Rattle.planning.specs.declared.editions.Editions.{Editions}
 use Rattle.planning.specs.Plans.{Boxes, bothAfter, areBoth, BoxesAfter}
 
@@ -23,12 +23,6 @@ limitedBoth c limit old new boxes =
     bothAfter
     (limitedOf c limit old (length (boxes .old-cards)) (length (boxes .old-entries)))
     (limitedOf c limit new (length (boxes .new-cards)) (length (boxes .new-entries)))
-
--- An edition is read, if it is not longer than the limit.
-pub record IsLimited (c : Conventions) (limit : ℕ) (text cards entries : List ℕ) (r : Reading) (cards′ entries′ : List ℕ) : Type 0 where
-  pub answer : r ≡ limitedOf c limit text (length cards) (length entries)
-  pub cards-after : cards′ ≡ lentAfter r (length cards) (cardsOf c text)
-  pub entries-after : entries′ ≡ lentAfter r (length entries) (entriesOf c text)
 
 -- Both editions are read, if neither is longer than the limit.
 pub record BothLimited (c : Conventions) (limit : ℕ) (old new : List ℕ) (boxes boxes′ : Boxes) (r : Editions) : Type 0 where

@@ -1,41 +1,15 @@
-use Rattle.listing_text.proofs.LimitedLaws.{old-refused, new-refused, both-taken}
+use Rattle.listing_text.proofs.LimitedLaws.{old-long, new-long, both-within}
 use borrow.Author.Needs.{needs}
 use Rattle.listing_text.proofs.limited.read_both_limited.Statement.{statement}
 use Rattle.listing_text.proofs.limited.read_both_limited.Tie as tie
 use Rattle.listing_text.proofs.limited.read_both_limited.Reads as reads
 use Rattle.listing_text.proofs.limited.read_both_limited.Lts as lts
-use Rattle.listing_text.proofs.limited.read_limited.Reads as read-limited-reads
-use Rattle.reader.proofs.store.zero.Reads as zero-reads
+use Rattle.planning.proofs.editions.read_both.Reads as read-both-reads
+use Rattle.planning.proofs.plan.zero_boxes.Reads as zero-boxes-reads
+use Rattle.reader.proofs.edition.read_pbn_with.Reads as read-pbn-with-reads
 
-read-limited-requires : tie.Need-read-limited-requires
-read-limited-requires c κs = search needs
-
-enum-known-f : tie.Need-enum-known-f
-enum-known-f c = search needs
-
-zero-requires : tie.Need-zero-requires
-zero-requires c κs = search needs
-
-zero-requires-2 : tie.Need-zero-requires-2
-zero-requires-2 c κs = search needs
-
-enum-known-m : tie.Need-enum-known-m
-enum-known-m c = search needs
-
-read-limited-requires-2 : tie.Need-read-limited-requires-2
-read-limited-requires-2 c κs = search needs
-
-enum-known-f-2 : tie.Need-enum-known-f-2
-enum-known-f-2 c = search needs
-
-zero-requires-3 : tie.Need-zero-requires-3
-zero-requires-3 c κs = search needs
-
-zero-requires-4 : tie.Need-zero-requires-4
-zero-requires-4 c κs = search needs
-
-enum-known-n : tie.Need-enum-known-n
-enum-known-n c = search needs
+zero-boxes-requires : tie.Need-zero-boxes-requires
+zero-boxes-requires c κs = search needs
 
 same-length : tie.Need-same-length
 same-length c = search needs
@@ -50,7 +24,19 @@ same-length-4 : tie.Need-same-length-4
 same-length-4 c = search needs
 
 returns : tie.Need-returns
-returns c = old-refused (c .before .before .before .before .before .before .before .before .before .before .before .before .before .before .before .read-limited .ensures) (c .before .before .before .before .before .before .before .before .before .f .given .1) (c .before .before .before .before .before .before .zero .ensures) (c .before .before .zero2 .ensures)
+returns c = old-long (c .before .before .before .before .before .before .before .before .before .before .before .before .before .if1 .taken) (c .before .before .before .before .before .before .before .before .zero-boxes .ensures)
+
+read-pbn-with-requires : tie.Need-read-pbn-with-requires
+read-pbn-with-requires c κs = search needs
+
+zero-boxes-requires-2 : tie.Need-zero-boxes-requires-2
+zero-boxes-requires-2 c κs = search needs
+
+enum-known-first : tie.Need-enum-known-first
+enum-known-first c = search needs
+
+enum-told : tie.Need-enum-told
+enum-told c = search needs
 
 same-length-5 : tie.Need-same-length-5
 same-length-5 c = search needs
@@ -65,7 +51,7 @@ same-length-8 : tie.Need-same-length-8
 same-length-8 c = search needs
 
 returns-2 : tie.Need-returns-2
-returns-2 c = let o = c .before .before .before .before .before .before .before .before .before .before .before .before .before .before .before .before .before .before .before .before .before .before .before .before .before .read-limited in new-refused (o .ensures) (c .before .before .before .before .before .before .before .before .before .before .before .before .before .before .before .before .before .before .before .m .given .1) (c .before .before .before .before .before .before .before .before .before .before .before .before .before .before .before .read-limited2 .ensures) (c .before .before .before .before .before .before .before .before .before .f2 .given .1) (o .kept .1 .1 .1 .0) (o .kept .1 .1 .1 .1 .0) (c .before .before .before .before .before .before .zero3 .ensures) (c .before .before .zero4 .ensures)
+returns-2 c = let r = c .before .before .before .before .before .before .before .before .before .before .before .before .before .before .before .before .before .before .before .read-pbn-with in new-long (c .before .before .before .before .before .before .before .before .before .before .before .before .before .before .before .before .before .before .before .before .before .before .before .if1 .left) (c .before .before .before .before .before .before .before .before .before .before .before .before .before .before .before .before .before .before .before .before .before .before .if2 .taken) (r .ensures) (r .kept .1 .1 .0) (r .kept .1 .1 .1 .0) (c .before .before .before .before .before .before .before .before .before .before .zero-boxes2 .ensures) (c .enum-told .given .1)
 
 same-length-9 : tie.Need-same-length-9
 same-length-9 c = search needs
@@ -80,27 +66,40 @@ same-length-12 : tie.Need-same-length-12
 same-length-12 c = search needs
 
 returns-3 : tie.Need-returns-3
-returns-3 c = both-taken (c .before .before .before .before .before .before .before .before .before .before .before .before .before .before .before .before .before .read-limited .ensures) (c .before .before .before .before .before .before .before .before .before .before .before .m .given .1) (c .before .before .before .before .before .before .before .read-limited2 .ensures) (c .before .n .given .1)
+returns-3 c = let r = c .before .before .before .before .before .before .before .before .before .before .before .before .before .before .before .before .before .before .before .before .read-pbn-with in new-long (c .before .before .before .before .before .before .before .before .before .before .before .before .before .before .before .before .before .before .before .before .before .before .before .before .if1 .left) (c .before .before .before .before .before .before .before .before .before .before .before .before .before .before .before .before .before .before .before .before .before .before .before .if2 .taken) (r .ensures) (r .kept .1 .1 .0) (r .kept .1 .1 .1 .0) (c .before .before .before .before .before .before .before .before .before .before .before .zero-boxes2 .ensures) (c .before .first .given .1)
+
+read-both-requires : tie.Need-read-both-requires
+read-both-requires c κs = search needs
+
+same-length-13 : tie.Need-same-length-13
+same-length-13 c = search needs
+
+same-length-14 : tie.Need-same-length-14
+same-length-14 c = search needs
+
+same-length-15 : tie.Need-same-length-15
+same-length-15 c = search needs
+
+same-length-16 : tie.Need-same-length-16
+same-length-16 c = search needs
+
+returns-4 : tie.Need-returns-4
+returns-4 c = both-within (c .before .before .before .before .before .before .before .before .before .before .before .before .before .before .if1 .left) (c .before .before .before .before .before .before .before .before .before .before .before .before .before .if2 .left) (c .before .before .before .before .before .before .before .before .read-both .ensures)
 
 pub read-both-limited-spec : {M : Type 1} → statement M
 read-both-limited-spec =
     tie.close
     (tie.spec
-    read-limited-requires
-    enum-known-f
-    zero-requires
-    zero-requires-2
-    enum-known-m
-    read-limited-requires-2
-    enum-known-f-2
-    zero-requires-3
-    zero-requires-4
-    enum-known-n
+    zero-boxes-requires
     same-length
     same-length-2
     same-length-3
     same-length-4
     returns
+    read-pbn-with-requires
+    zero-boxes-requires-2
+    enum-known-first
+    enum-told
     same-length-5
     same-length-6
     same-length-7
@@ -110,4 +109,10 @@ read-both-limited-spec =
     same-length-10
     same-length-11
     same-length-12
-    returns-3)
+    returns-3
+    read-both-requires
+    same-length-13
+    same-length-14
+    same-length-15
+    same-length-16
+    returns-4)
