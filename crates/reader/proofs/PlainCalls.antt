@@ -13,7 +13,7 @@ use borrow.Author.Tests.{ltb-true, ltb-false, eqb-true, eqb-false, not-false}
 use Rattle.tables.specs.declared.letters.Conventions.{Conventions}
 use Rattle.tables.specs.Text.{isWhite, isWord, lead, ascii}
 use Rattle.tables.specs.Letters.{every, strainOf}
-use Rattle.tables.proofs.Laws.{by-cases, both, clash}
+use Rattle.tables.proofs.Laws.{by-cases, clash}
 use Rattle.tables.proofs.RowLaws.{every-append}
 use Rattle.reader.specs.declared.store.Entry.{Entry}
 use Rattle.reader.specs.declared.tag.Span.{Span}
@@ -27,6 +27,7 @@ use Rattle.reader.specs.declared.line.TagReading.{TagReading}
 use Rattle.reader.specs.declared.line.TagReading.the-variants.{Plain, WithComment, WithData}
 use Rattle.reader.specs.declared.section.Open.{Open}
 use Rattle.reader.specs.declared.section.Walk.{Walk}
+use Rattle.reader.specs.declared.board.Section.{Section}
 use Rattle.reader.specs.declared.board.State.{State}
 use Rattle.reader.specs.Words.{same, sameWord, levelOf, bidCode, bidOf, isPass, isUnderscore, underscoreCode, signCode, callOf, isMark, isCallByte, callPart, sectionEnd, isAllPass}
 use Rattle.reader.specs.Tag.{cut}
@@ -35,14 +36,14 @@ use Rattle.reader.specs.Pieces.{Piece, Out, prependToken, joinToken, tok
 use Rattle.reader.specs.Auction.{callTokenOf, annotation, bidding, calledBy, called, calledPiece}
 use Rattle.reader.specs.Sections.{noteAfter, stopsAt, dataPiece, pieceOf, dataIn, splitPiece, sectionData, walked, noWalk, walkedAll}
 use Rattle.reader.specs.Boards.{lastEntries, closedBy, closed, noSpan, at, tagged, dated, readBy, isAllWhite, blocked, recordOut}
-use Rattle.reader.specs.Plain.{bytesOf, itemOf, itemsOf, PlainCall, PlainAuction, annotationsFirst, callsIn, plainAuction, plainBy, plainOf}
+use Rattle.reader.specs.Plain.{Item, bytesOf, itemOf, itemsOf, PlainCall, PlainAuction, annotationsFirst, itemsWithin, callsIn, plainBy, plainOf}
 use Rattle.reader.proofs.EntryLaws.{All, none, one, all-append, all-map, Trick, out-all}
 use Rattle.reader.proofs.PlayLaws.{cond-low, TricksOnly, LastTrickOnly}
 use Rattle.reader.proofs.Inside.{LineInside}
 use Rattle.reader.proofs.SectionLaws.{LineAt, taken-len}
 use Rattle.reader.proofs.Counts.{chosen, cut-len, next-line}
 use Rattle.reader.proofs.PlainLaws.{PartPlaced, force-is}
-use Rattle.reader.proofs.PlainWords.{within-items}
+use Rattle.reader.proofs.PlainWords.{entriesWithin, within-items}
 use Rattle.reader.proofs.PlainSteps.{first-line, RecordSteps}
 use Rattle.reader.proofs.WordTokens.{every-take, every-drop}
 
@@ -398,24 +399,23 @@ calls-writable r (one {x = e} {xs = es} g a) =
     (one {x = record { code = e .z; annotation = annotationsFirst (itemsOf r es) }} (record { code-is-low = g .code-low (eqb-true (e .kind) 6 t); no-white = i .words; starts-marked = i .starts }) (calls-writable r a)))
     (λ t. rw t (calls-writable r a))
 
-pub all-drop : {P : Entry → Type 0} (n : ℕ) (es : List Entry) → All P es → All P (drop n es)
+all-drop : {P : Entry → Type 0} (n : ℕ) (es : List Entry) → All P es → All P (drop n es)
 all-drop zero es a = a
 all-drop (suc n) [] none = none
 all-drop (suc n) (e ∷ es) (one p a) = all-drop n es a
 
-pub all-take : {P : Entry → Type 0} (n : ℕ) (es : List Entry) → All P es → All P (take n es)
+all-take : {P : Entry → Type 0} (n : ℕ) (es : List Entry) → All P es → All P (take n es)
 all-take zero es a = none
 all-take (suc n) [] none = none
 all-take (suc n) (e ∷ es) (one p a) = one p (all-take n es a)
 
+-- What a section in force has is good, where every entry of the record is: its calls, or its tricks.
+pub forced-all : {X A : Type 0} {P : Entry → Type 0} {Q : X → Type 0} (r : List ℕ) (s : Section) {es : List Entry} (parts : List Item → List X) (had : A → List X) {x a : A}
+    → x ≡ a → had x ≡ parts (itemsWithin s (itemsOf r es)) → ((fs : List Entry) → All P fs → All Q (parts (itemsOf r fs))) → All P es → All Q (had a)
+forced-all r s {es} parts had e f good all =
+    rw (← e, f, within-items r s es) (good (entriesWithin s es) (all-take (s .count) (drop (s .first - 1) es) (all-drop (s .first - 1) es all)))
+
 -- THEOREM. Every call of a plain board can be written.
 pub PlainCalls : (c : Conventions) (r : List ℕ) (a : PlainAuction) → plainOf c r .auction ≡ some a → All CallWritable (a .calls)
 unfolding plainOf plainBy
-PlainCalls c r a e =
-    let es = recordOut c r .entries in
-    let s = recordOut c r .state .board .auction in
-    let f = ap (λ (x : PlainAuction). x .calls) (force-is s (plainAuction s (itemsOf r es)) a e) in
-    moved (ap callsIn (sym (within-items r s es)) ∙ f) (calls-writable r (all-take (s .count) (drop (s .first - 1) es) (all-drop (s .first - 1) es (CallsGood c r))))
-  where
-    moved : {xs ys : List PlainCall} → xs ≡ ys → All CallWritable xs → All CallWritable ys
-    moved e z = rw e at z
+PlainCalls c r a e = let s = recordOut c r .state .board .auction in forced-all r s callsIn (λ x. x .calls) (force-is s _ a e) refl (λ fs g. calls-writable r g) (CallsGood c r)

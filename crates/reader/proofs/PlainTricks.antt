@@ -1,12 +1,12 @@
 -- The tricks of a plain board: a trick's slots are those that were played, and each is empty or a card.
 use Prim.Native.Nat.{ℕ, _+_, _-_, _*_, _/_, _%_, _≤_}
-use mathlib.Core.Path.{_≡_, refl, sym, ap, _∙_}
+use mathlib.Core.Path.{_≡_, refl, sym}
 use mathlib.Core.Bool.{Bool, true, false, cond, _||_}
 use mathlib.Core.List.{List, [], _∷_}
 use mathlib.Core.Option.{some}
 use native.Mathlib.Omega.{arith}
 use lib.Dec.{ltb, eqb}
-use lib.ListN.{length, drop}
+use lib.ListN.{length}
 use borrow.Author.Tests.{ltb-true, eqb-true}
 use Rattle.tables.specs.declared.letters.Conventions.{Conventions}
 use Rattle.tables.specs.Text.{lead}
@@ -28,13 +28,12 @@ use Rattle.reader.specs.Auction.{calledPiece}
 use Rattle.reader.specs.Play.{noSlots, withSlot, trickEntry, newTrick, nextLeader, opened, taking, slotOf, withCard, isDash, played, playedBytes, playedToken, playedPiece, oneMore, lastTrick}
 use Rattle.reader.specs.Sections.{sectionData, walked, noWalk, walkedAll, rowedPiece}
 use Rattle.reader.specs.Boards.{lastEntries, closedBy, closed, noSpan, at, tagged, dated, readBy, isAllWhite, blocked, recordOut}
-use Rattle.reader.specs.Plain.{itemOf, itemsOf, PlainTrick, PlainPlay, slotsOf, tricksIn, plainPlay, plainBy, plainOf}
+use Rattle.reader.specs.Plain.{itemOf, itemsOf, PlainTrick, PlainPlay, slotsOf, tricksIn, plainBy, plainOf}
 use Rattle.reader.proofs.EntryLaws.{All, none, one, all-append, all-map, Inside}
 use Rattle.reader.proofs.AuctionLaws.{CallsInside}
 use Rattle.reader.proofs.Counts.{chosen}
 use Rattle.reader.proofs.PlainLaws.{force-is}
-use Rattle.reader.proofs.PlainWords.{within-items}
-use Rattle.reader.proofs.PlainCalls.{all-take, all-drop}
+use Rattle.reader.proofs.PlainCalls.{forced-all}
 use Rattle.reader.proofs.PlainSteps.{RecordSteps}
 
 -- Empty, or a card.
@@ -265,11 +264,4 @@ tricks-cards r (one {x = e} g a) =
 -- THEOREM. Every slot of a plain board's play is empty or a card.
 pub PlainTricks : (c : Conventions) (r : List ℕ) (a : PlainPlay) → plainOf c r .play ≡ some a → All TrickCards (a .tricks)
 unfolding plainOf plainBy
-PlainTricks c r a e =
-    let es = recordOut c r .entries in
-    let s = recordOut c r .state .board .play in
-    let f = ap (λ (x : PlainPlay). x .tricks) (force-is s (plainPlay s (itemsOf r es)) a e) in
-    moved (ap tricksIn (sym (within-items r s es)) ∙ f) (tricks-cards r (all-take (s .count) (drop (s .first - 1) es) (all-drop (s .first - 1) es (TricksGood c r))))
-  where
-    moved : {xs ys : List PlainTrick} → xs ≡ ys → All TrickCards xs → All TrickCards ys
-    moved e z = rw e at z
+PlainTricks c r a e = let s = recordOut c r .state .board .play in forced-all r s tricksIn (λ x. x .tricks) (force-is s _ a e) refl (λ fs g. tricks-cards r g) (TricksGood c r)
