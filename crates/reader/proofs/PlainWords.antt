@@ -297,10 +297,12 @@ entriesWithin s es = take (s .count) (drop (s .first - 1) es)
 pub within-items : (r : List ℕ) (s : Section) (es : List Entry) → itemsWithin s (itemsOf r es) ≡ itemsOf r (entriesWithin s es)
 within-items r s es = ap (take (s .count)) (map-drop (itemOf r) (s .first - 1) es) ∙ map-take (itemOf r) (s .count) (drop (s .first - 1) es)
 
-section-held : (c : Conventions) (text : List ℕ) (pre : List (List ℕ)) (r : List ℕ) (post : List (List ℕ)) (s : Section) → length text ≤ 16777215 → recordsOf text ≡ pre ++ r ∷ post
+-- THEOREM. The entries that a card's words 51 and 52, or 55 and 56, give are those of the record's auction, or play, in force: s is one of
+-- these, and CardRefers says that it lies in the record.
+pub SectionHeld : (c : Conventions) (text : List ℕ) (pre : List (List ℕ)) (r : List ℕ) (post : List (List ℕ)) (s : Section) → length text ≤ 16777215 → recordsOf text ≡ pre ++ r ∷ post
     → SectionIn (length (recordOut c r .entries)) s → 0 < s .first
     → take (s .count) (drop (placed (entriesIn c pre) (s .first) - 1) (entriesOf c text)) ≡ map (entryWords (length (flat pre))) (entriesWithin s (recordOut c r .entries))
-section-held c text pre r post s h e i p =
+SectionHeld c text pre r post s h e i p =
     let es = recordOut c r .entries in
     let n = entriesIn c pre in
     let k = s .first in
@@ -318,16 +320,3 @@ section-held c text pre r post s h e i p =
     let j : n + k - 1 ≡ length E + (k - 1) = omega arith in
     rw (ne-eqb k 0 (λ u. omega arith), w, t, j, drop-append-add E (M ++ F) (k - 1), drop-append-le (k - 1) M F (omega (arith, i .ends)), take-append-le (s .count) (drop (k - 1) M) F (omega (arith, i .ends)))
     (ap (take (s .count)) (map-drop f (k - 1) es) ∙ map-take f (s .count) (drop (k - 1) es))
-
--- THEOREM. The entries that a card's words 51 and 52, or 55 and 56, give are those of the record's auction, or play, in force.
-pub AuctionHeld : (c : Conventions) (text : List ℕ) (pre : List (List ℕ)) (r : List ℕ) (post : List (List ℕ)) → length text ≤ 16777215 → recordsOf text ≡ pre ++ r ∷ post
-    → 0 < recordOut c r .state .board .auction .first
-    → take (recordOut c r .state .board .auction .count) (drop (placed (entriesIn c pre) (recordOut c r .state .board .auction .first) - 1) (entriesOf c text))
-    ≡ map (entryWords (length (flat pre))) (entriesWithin (recordOut c r .state .board .auction) (recordOut c r .entries))
-AuctionHeld c text pre r post h e p = section-held c text pre r post (recordOut c r .state .board .auction) h e (CardRefers c r .auction-in) p
-
-pub PlayHeld : (c : Conventions) (text : List ℕ) (pre : List (List ℕ)) (r : List ℕ) (post : List (List ℕ)) → length text ≤ 16777215 → recordsOf text ≡ pre ++ r ∷ post
-    → 0 < recordOut c r .state .board .play .first
-    → take (recordOut c r .state .board .play .count) (drop (placed (entriesIn c pre) (recordOut c r .state .board .play .first) - 1) (entriesOf c text))
-    ≡ map (entryWords (length (flat pre))) (entriesWithin (recordOut c r .state .board .play) (recordOut c r .entries))
-PlayHeld c text pre r post h e p = section-held c text pre r post (recordOut c r .state .board .play) h e (CardRefers c r .play-in) p
