@@ -10,6 +10,7 @@ ghost use Rattle.writer.specs.GivenCards.{marked, cleared, changedAt, ch
 ghost use Rattle.writer.specs.Finishings.{finishNumber, finishCarries, finishEdition, firstAbove, IsFinished};
 use crate::give::give_tables;
 use crate::page::put_page;
+use crate::write::clear;
 use planning::cards::has_table;
 use planning::cards::is_whole;
 use planning::editions::Editions;
@@ -169,7 +170,7 @@ fn zero_all(
         × (now (page .exit) ≡ zeros (now (page .entry))) ⌝ }
 {
     zero_boxes(old_cards, old_entries, new_cards, new_entries);
-    tables::page::finish(page, 0);
+    clear(page);
 }
 
 // The answer for n bytes; all that was lent is set to 0 where they do not fit.
@@ -266,7 +267,7 @@ pub fn finish_with(
 {
     match read_both(c, old, new, old_cards, old_entries, new_cards, new_entries) {
         Editions::Refused(f) => {
-            tables::page::finish(page, 0);
+            clear(page);
             Finishing::Refused(FinishRefusal::Edition(f))
         }
         Editions::Both(olds, news) => finish_boards(

@@ -1,5 +1,4 @@
 use Rattle.planning.proofs.AnswerLaws.{there}
-use Rattle.writer.proofs.WriteLaws.{cleared-none}
 use Rattle.writer.proofs.FinishLaws.{finish-done, finish-refused}
 use borrow.Author.Needs.{needs}
 use Rattle.writer.proofs.finish.finish_with.Statement.{statement}
@@ -7,8 +6,8 @@ use Rattle.writer.proofs.finish.finish_with.Tie as tie
 use Rattle.writer.proofs.finish.finish_with.Reads as reads
 use Rattle.writer.proofs.finish.finish_with.Lts as lts
 use Rattle.planning.proofs.editions.read_both.Reads as read-both-reads
-use Rattle.tables.proofs.page.finish.Reads as finish-reads
 use Rattle.writer.proofs.finish.finish_boards.Reads as finish-boards-reads
+use Rattle.writer.proofs.write.clear.Reads as clear-reads
 
 read-both-requires : tie.Need-read-both-requires
 read-both-requires c κs = search needs
@@ -16,8 +15,8 @@ read-both-requires c κs = search needs
 enum-known-f : tie.Need-enum-known-f
 enum-known-f c = search needs
 
-finish-requires : tie.Need-finish-requires
-finish-requires c κs = search needs
+clear-requires : tie.Need-clear-requires
+clear-requires c κs = search needs
 
 enum-known-olds : tie.Need-enum-known-olds
 enum-known-olds c = search needs
@@ -41,7 +40,7 @@ same-length-5 : tie.Need-same-length-5
 same-length-5 c = search needs
 
 returns : tie.Need-returns
-returns c = finish-refused (c .before .before .before .before .before .before .before .before .before .before .before .before .before .before .before .read-both .ensures) (c .before .before .before .before .before .f .given .1) (cleared-none _ _ (c .before .before .finish .result) (c .before .before .finish .ensures))
+returns c = finish-refused (c .before .before .before .before .before .before .before .before .before .before .before .before .before .before .before .read-both .ensures) (c .before .before .before .before .before .f .given .1) (c .before .before .clear .ensures)
 
 same-length-6 : tie.Need-same-length-6
 same-length-6 c = search needs
@@ -68,7 +67,7 @@ finish-with-spec =
     (tie.spec
     read-both-requires
     enum-known-f
-    finish-requires
+    clear-requires
     enum-known-olds
     finish-boards-requires
     same-length
