@@ -91,18 +91,13 @@ abbrev kindCount : ℕ → List Item → ℕ
 kindCount k [] = 0
 kindCount k (i ∷ is) = once (eqb (i .kind) k) + kindCount k is
 
-count-take : (k n : ℕ) (is : List Item) → kindCount k (take n is) ≤ kindCount k is
-count-take k zero is = omega arith
-count-take k (suc n) [] = omega arith
-count-take k (suc n) (i ∷ is) = omega (arith, count-take k n is)
-
-count-drop : (k n : ℕ) (is : List Item) → kindCount k (drop n is) ≤ kindCount k is
-count-drop k zero is = omega arith
-count-drop k (suc n) [] = omega arith
-count-drop k (suc n) (i ∷ is) = omega (arith, count-drop k n is)
+count-split : (k n : ℕ) (is : List Item) → kindCount k (take n is) + kindCount k (drop n is) ≡ kindCount k is
+count-split k zero is = omega arith
+count-split k (suc n) [] = omega arith
+count-split k (suc n) (i ∷ is) = omega (arith, count-split k n is)
 
 count-within : (k : ℕ) (s : Section) (is : List Item) → kindCount k (itemsWithin s is) ≤ kindCount k is
-count-within k s is = omega (arith, count-take k (s .count) (drop (s .first - 1) is), count-drop k (s .first - 1) is)
+count-within k s is = omega (arith, count-split k (s .count) (drop (s .first - 1) is), count-split k (s .first - 1) is)
 
 calls-count : (is : List Item) → length (callsIn is) ≡ kindCount 6 is
 calls-count [] = refl
