@@ -22,9 +22,8 @@ use Rattle.planning.specs.Slips.{cardFrom, behindState, behindIn, behindAt, par
 use Rattle.planning.specs.Plans.{oldReading, newReading, bothAfter, editionsOf, behindBy, boardsOf}
 use Rattle.planning.specs.Demands.{recordAt, IsBehind, PlacesBehind, RecordsBehind}
 use Rattle.planning.proofs.BothLaws.{taken-short}
-use Rattle.planning.proofs.StateLaws.{reach, state-reach}
-use Rattle.demands.proofs.MeaningLaws.{state-here}
-use Rattle.demands.proofs.StatesMean.{take-few}
+use Rattle.planning.proofs.StateLaws.{reach}
+use Rattle.demands.proofs.StatesMean.{reach-here}
 use Rattle.demands.proofs.Inside.{stands-card, starts-at, ends-at}
 
 -- ---- a record and its places
@@ -75,10 +74,6 @@ behind-here : (olds news : List (List ℕ)) (i : ℕ) → i < length news
     → behindAt olds news (judged olds news) (suc i) ≡ behindState olds news (cardFrom news i) (stateAt (judged olds news) (suc i))
 unfolding judged
 behind-here olds news i h = from-behind olds news olds news 1 [] news i h
-
-reach-here : (olds news : List (List ℕ)) (i : ℕ) → i < length news → reach (length olds) (length news) (stateAt (judged olds news) (suc i))
-reach-here olds news i h =
-    rw (state-here olds news i h) (state-reach olds news (take i news) (cardFrom news i) (omega (arith, take-few i news)))
 
 -- The record at a position from 1.
 at-position : (text : List ℕ) (k : ℕ) {part : List ℕ} → WholeRecord text k part → part ≡ recordAt text (suc k)

@@ -2,10 +2,11 @@
 use Prim.Native.Nat.{ℕ, zero, suc, _-_, _≤_, _<_}
 use mathlib.Core.Path.{_≡_, refl, sym, _∙_, ap}
 use mathlib.Core.Bool.{true}
-use mathlib.Core.List.{List, [], _∷_}
+use mathlib.Core.List.{List}
 use native.Mathlib.Omega.{arith}
 use lib.Dec.{ltb}
 use lib.ListN.{length, take}
+use lib.Seq.{length-take-le}
 use borrow.Author.Tests.{ltb-true, ltb-false}
 use Rattle.tables.proofs.Laws.{by-cases}
 use Rattle.reader.specs.declared.deal.Hands.{Hands}
@@ -17,7 +18,9 @@ use Rattle.planning.specs.Slips.{cardFrom}
 use Rattle.planning.specs.Demands.{WithDeal, Tabled, None, FirstMeans, StatesMean, BlankOutside, TwinsOfSolve, NearOfOwn}
 use Rattle.planning.proofs.FoundLaws.{Tells, zero-none, none-zero, found-is-first, first-is-found, numbered, card-among, take-card}
 use Rattle.planning.proofs.CardLaws.{Handed, CardsHanded}
-use Rattle.demands.proofs.MeaningLaws.{SaysAt, here-says, state-none}
+use Rattle.planning.proofs.StateLaws.{reach, state-reach}
+use Rattle.writer.proofs.StateFacts.{near-own, twin-solve}
+use Rattle.demands.proofs.MeaningLaws.{here-says, state-here, state-none}
 
 pub states-mean : StatesMean
 states-mean c old new zero o l s = absurd (omega arith)
@@ -38,11 +41,6 @@ first-means tabled d cards =
     )
 
 -- ---- sources
-
-pub take-few : (n : ℕ) (xs : List (List ℕ)) → length (take n xs) ≤ n
-take-few zero xs = omega arith
-take-few (suc n) [] = omega arith
-take-few (suc n) (x ∷ xs) = omega (arith, take-few n xs)
 
 -- A position with a state other than blank is one of a board.
 pub record Board (news : List (List ℕ)) (p : ℕ) : Type 0 where
@@ -73,41 +71,39 @@ module _ (olds news : List (List ℕ)) (so : Handed olds) (sn : Handed news) whe
       before : None (WithDeal h) (take j news)
       before x a k =
           let n = numbered a in
-          let l : n .number < j = omega (arith, n .below, take-few j news) in
+          let l : n .number < j = omega (arith, n .below, length-take-le j news (omega arith)) in
           let q : cardFrom news (n .number) ≡ x = sym (take-card j (n .number) news l) ∙ n .is in
           nb (n .number) l (rw q k)
 
-  twin-source : (i k : ℕ) → i < length news → SaysAt olds news i (Twin k) → (1 ≤ k) × (k < suc i) × (stateAt (judged olds news) k ≡ Solve)
-  twin-source i zero b e = absurd (omega (arith, e .3 .from-one))
+-- A source is a board.
+pub reach-here : (olds news : List (List ℕ)) (i : ℕ) → i < length news → reach (length olds) (length news) (stateAt (judged olds news) (suc i))
+reach-here olds news i h =
+    rw (state-here olds news i h) (state-reach olds news (take i news) (cardFrom news i) (omega (arith, length-take-le i news (omega arith))))
+
+module _ (olds news : List (List ℕ)) where
+  twin-source : (i k : ℕ) → i < length news → stateAt (judged olds news) (suc i) ≡ Twin k → (1 ≤ k) × (k < suc i) × (stateAt (judged olds news) k ≡ Solve)
+  twin-source i zero b e = absurd (omega (arith, (rw e at (reach-here olds news i b)) .0))
   twin-source i (suc j) b e =
-      let f = e .3 in
-      let l : j < i = omega (arith, f .is-there, take-few i news) in
-      let d = rw (take-card i j news l) at (f .holds) in (
-        omega arith,
-        omega arith,
-        first-solves (handsOf (cardFrom news i)) j (omega arith) d (e .1) (e .2)
-            (λ m n w. f .none-before (suc m) (omega arith) (omega arith) (rw (take-card i m news (omega arith)) w)),
-      )
+      let s = twin-solve olds news i (omega arith) (cardFrom news i) j (sym (state-here olds news i b) ∙ e) in
+      (omega arith, omega (arith, s .0), state-here olds news j (omega (arith, s .0)) ∙ s .1)
 
-  near-source : (i k : ℕ) → i < length news → SaysAt olds news i (Near k) → stateAt (judged olds news) k ≡ Own
-  near-source i zero b e = absurd (omega (arith, e .2 .from-one))
+  near-source : (i k : ℕ) → i < length news → stateAt (judged olds news) (suc i) ≡ Near k → stateAt (judged olds news) k ≡ Own
+  near-source i zero b e = absurd (omega (arith, (rw e at (reach-here olds news i b)) .0))
   near-source i (suc j) b e =
-      let f = e .2 in
-      here-says olds news so sn j (omega (arith, f .is-there)) Own .1 (f .holds .deal .whole, f .holds .table)
-
-  pub twin-solves : (p k : ℕ) → stateAt (judged olds news) p ≡ Twin k → (1 ≤ k) × (k < p) × (stateAt (judged olds news) k ≡ Solve)
-  twin-solves p k e =
-      let b = board-at olds news p (λ z. let y : _≡_ {A = ℕ} 4 0 = sym (ap stateNumber e) ∙ z in omega arith) in
-      let t = twin-source (b .index) k (b .below) (here-says olds news so sn (b .index) (b .below) (Twin k) .0 (rw (b .is) at e)) in
-      (t .0, omega (arith, t .1, b .is), t .2)
-
-  pub near-owns : (p k : ℕ) → stateAt (judged olds news) p ≡ Near k → stateAt (judged olds news) k ≡ Own
-  near-owns p k e =
-      let b = board-at olds news p (λ z. let y : _≡_ {A = ℕ} 3 0 = sym (ap stateNumber e) ∙ z in omega arith) in
-      near-source (b .index) k (b .below) (here-says olds news so sn (b .index) (b .below) (Near k) .0 (rw (b .is) at e))
+      let s = near-own olds news (take i news) (cardFrom news i) j (sym (state-here olds news i b) ∙ e) in
+      state-here olds news j (s .0) ∙ s .1
 
 pub twins-of-solve : TwinsOfSolve
-twins-of-solve c old new p k e = twin-solves (cardsOf c old) (cardsOf c new) (CardsHanded c old) (CardsHanded c new) p k e
+twins-of-solve c old new p k e =
+    let olds = cardsOf c old in
+    let news = cardsOf c new in
+    let b = board-at olds news p (λ z. let y : _≡_ {A = ℕ} 4 0 = sym (ap stateNumber e) ∙ z in omega arith) in
+    let t = twin-source olds news (b .index) k (b .below) (rw (b .is) at e) in
+    (t .0, omega (arith, t .1, b .is), t .2)
 
 pub near-of-own : NearOfOwn
-near-of-own c old new p k e = near-owns (cardsOf c old) (cardsOf c new) (CardsHanded c old) (CardsHanded c new) p k e
+near-of-own c old new p k e =
+    let olds = cardsOf c old in
+    let news = cardsOf c new in
+    let b = board-at olds news p (λ z. let y : _≡_ {A = ℕ} 3 0 = sym (ap stateNumber e) ∙ z in omega arith) in
+    near-source olds news (b .index) k (b .below) (rw (b .is) at e)
