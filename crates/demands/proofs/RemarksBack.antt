@@ -2,7 +2,7 @@
 use Prim.Native.Nat.{ℕ, suc, _+_, _-_, _<_}
 use mathlib.Core.Path.{_≡_, refl, sym, ap, _∙_}
 use mathlib.Core.Bool.{Bool, true, false, cond}
-use mathlib.Core.List.{List, [], _∷_, _++_, append-assoc, append-nil, map, map-append}
+use mathlib.Core.List.{List, [], _∷_, _++_, append-assoc, append-nil, map, map-append, map-congr-left}
 use mathlib.Core.Option.{Option, none, some}
 use native.Mathlib.Nat.{add-zero}
 use native.Mathlib.Numerals.{add-one}
@@ -397,6 +397,12 @@ module _ (t : Texts) (read : ℕ → List (List ℕ) → List Remark) (reads : R
       rw (PageRecords c ok (b ∷ bs) (all-one w a))
       (records-places c d ok (firstPart c b) (tagsAsWritten c b) _ bs (first-tags c b l) (first-read c b l) a ∙ rw (first-places t c b))
 
+  -- The same of the remarks that a plain board has.
+  read-back : (c d : Conventions) → Accepted c → (bs : List PlainBoard) → AllWritable bs → (had : PlainBoard → List Anchored)
+      → ((r : List ℕ) → map placeOf (had (plainOf d r)) ≡ placesRead read d r) → map (λ r. map placeOf (had (plainOf d r))) (recordsOf (pageText c bs)) ≡ pageBack t c bs
+  read-back c d ok bs w had placed =
+      map-congr-left {f = λ r. map placeOf (had (plainOf d r))} {g = placesRead read d} {l = recordsOf (pageText c bs)} (λ r m. placed r) ∙ page-places c d ok bs w
+
 -- ---- the theorems
 
 directives-placed : (d : Conventions) (r : List ℕ) → map placeOf (directivesOf (plainOf d r)) ≡ placesRead (directivesOfLines false) d r
@@ -407,45 +413,27 @@ blocks-placed : (d : Conventions) (r : List ℕ) → map placeOf (blocksOf (plai
 unfolding blocksOf
 blocks-placed d r = anchored-places (plainOf d r .tags) 0 (plainOf d r .blocks) ∙ rw (BlocksOfLines d r)
 
-map-same : {A B : Type 0} (f g : A → B) → ((x : A) → f x ≡ g x) → (xs : List A) → map f xs ≡ map g xs
-map-same f g h [] = refl
-map-same f g h (x ∷ xs) = rw (h x, map-same f g h xs)
+-- What the remarks of a text, read with the letters d, are: those of the boards bs as they are written with the letters c.
+pub record RemarksRead (c d : Conventions) (text : List ℕ) (bs : List PlainBoard) : Type 0 where
+  -- Of each record the directives of its board that start with `;` or `%`: the same bytes; before any tag where they stood so, under the
+  -- same name where a tag of that name is written, else under the last written tag.
+  pub directives : map (λ r. map placeOf (directivesOf (plainOf d r))) (recordsOf text) ≡ pageBack asDirectives c bs
+  -- The blocks of its board, and its directives in braces, likewise.
+  pub blocks : map (λ r. map placeOf (blocksOf (plainOf d r))) (recordsOf text) ≡ pageBack asBlocks c bs
 
--- THEOREM. The directives of each record of a page, read with any letters, are those of its board that start with `;` or `%`: the same
--- bytes; before any tag where they stood so, under the same name where a tag of that name is written, else under the last written tag.
-pub PageDirectives : (c d : Conventions) → Accepted c → (bs : List PlainBoard) → AllWritable bs
-    → map (λ r. map placeOf (directivesOf (plainOf d r))) (recordsOf (pageText c bs)) ≡ pageBack asDirectives c bs
-PageDirectives c d ok bs w =
-    map-same (λ r. map placeOf (directivesOf (plainOf d r))) (placesRead (directivesOfLines false) d) (directives-placed d) (recordsOf (pageText c bs))
-    ∙ page-places asDirectives (directivesOfLines false) directives-read c d ok bs w
+-- THEOREM. A page has the remarks of its boards, what an edition is written as those of the edition, and what a new edition is finished
+-- as those of the finished boards.
+pub PageRemarks : (c d : Conventions) → Accepted c → (bs : List PlainBoard) → AllWritable bs → RemarksRead c d (pageText c bs) bs
+PageRemarks c d ok bs w = record {
+  directives = read-back asDirectives (directivesOfLines false) directives-read c d ok bs w directivesOf (directives-placed d);
+  blocks = read-back asBlocks blocksRead blocks-read c d ok bs w blocksOf (blocks-placed d);
+}
 
--- THEOREM. Its blocks are those of its board, and its directives in braces, likewise.
-pub PageBlocks : (c d : Conventions) → Accepted c → (bs : List PlainBoard) → AllWritable bs
-    → map (λ r. map placeOf (blocksOf (plainOf d r))) (recordsOf (pageText c bs)) ≡ pageBack asBlocks c bs
-PageBlocks c d ok bs w =
-    map-same (λ r. map placeOf (blocksOf (plainOf d r))) (placesRead blocksRead d) (blocks-placed d) (recordsOf (pageText c bs))
-    ∙ page-places asBlocks blocksRead blocks-read c d ok bs w
-
--- What an edition is written as.
-pub EditionDirectives : (c d : Conventions) → Accepted c → (text : List ℕ)
-    → map (λ r. map placeOf (directivesOf (plainOf d r))) (recordsOf (writtenText c text)) ≡ pageBack asDirectives c (plainBoards c text)
+pub EditionRemarks : (c d : Conventions) → Accepted c → (text : List ℕ) → RemarksRead c d (writtenText c text) (plainBoards c text)
 unfolding writtenText plainBoards
-EditionDirectives c d ok text = PageDirectives c d ok (plainBoards c text) (all-plain c (recordsOf text))
+EditionRemarks c d ok text = PageRemarks c d ok (plainBoards c text) (all-plain c (recordsOf text))
 
-pub EditionBlocks : (c d : Conventions) → Accepted c → (text : List ℕ)
-    → map (λ r. map placeOf (blocksOf (plainOf d r))) (recordsOf (writtenText c text)) ≡ pageBack asBlocks c (plainBoards c text)
-unfolding writtenText plainBoards
-EditionBlocks c d ok text = PageBlocks c d ok (plainBoards c text) (all-plain c (recordsOf text))
-
--- What a new edition is finished as.
-pub FinishedDirectives : (c d : Conventions) → Accepted c → (old new answers : List ℕ)
-    → map (λ r. map placeOf (directivesOf (plainOf d r))) (recordsOf (finishedText c old new answers))
-    ≡ pageBack asDirectives c (finishedBoards c old new answers)
+pub FinishedRemarks : (c d : Conventions) → Accepted c → (old new answers : List ℕ)
+    → RemarksRead c d (finishedText c old new answers) (finishedBoards c old new answers)
 unfolding finishedText
-FinishedDirectives c d ok old new answers = PageDirectives c d ok (finishedBoards c old new answers) (all-finished c old new answers)
-
-pub FinishedBlocks : (c d : Conventions) → Accepted c → (old new answers : List ℕ)
-    → map (λ r. map placeOf (blocksOf (plainOf d r))) (recordsOf (finishedText c old new answers))
-    ≡ pageBack asBlocks c (finishedBoards c old new answers)
-unfolding finishedText
-FinishedBlocks c d ok old new answers = PageBlocks c d ok (finishedBoards c old new answers) (all-finished c old new answers)
+FinishedRemarks c d ok old new answers = PageRemarks c d ok (finishedBoards c old new answers) (all-finished c old new answers)
