@@ -1,12 +1,13 @@
 -- Nothing of the editor's is lost: the proof of specs/NothingLost.antt.
-use Prim.Native.Nat.{ℕ, zero, suc, _≤_}
+use Prim.Native.Nat.{ℕ, zero, suc, _≤_, _<_}
 use mathlib.Core.Path.{_≡_, refl, ap, subst, _∙_}
 use mathlib.Core.Bool.{true, false}
-use mathlib.Core.List.{List, [], _∷_, _++_}
+use mathlib.Core.List.{List, [], _∷_, _++_, append-assoc}
 use mathlib.Core.Option.{Option, some}
 use native.Mathlib.Nat.{zero-add}
 use native.Mathlib.Omega.{arith}
 use lib.ListN.{length, getElem?}
+use lib.Seq.{take-at, drop-at}
 use Rattle.tables.specs.Text.{ascii}
 use Rattle.tables.specs.declared.letters.Conventions.{Conventions}
 use Rattle.reader.specs.declared.board.TableCard.{TableCard}
@@ -15,10 +16,12 @@ use Rattle.reader.specs.Plain.{Remark, PlainBoard, plainOf}
 use Rattle.reader.proofs.EntryLaws.{All, none as no-more, one}
 use Rattle.reader.proofs.PlainAnchors.{Anchors, PlainAnchors}
 use Rattle.writer.specs.Tags.{WrittenTag, writtenTags}
-use Rattle.writer.specs.Remarks.{anchorOf, anchoredFrom, directivesOf, blocksOf, isLeading, isUnder, isLost, Line, tagLine, dataLine, directiveLine, blockLine, leadingLines, bodyLines, boardLines}
+use Rattle.writer.specs.Remarks.{anchorOf, anchoredFrom, directivesOf, blocksOf, isLeading, isUnder, isLost, Line, tagLine, dataLine, directiveLine, blockLine, linesText, leadingLines, bodyLines, boardLines}
+use Rattle.writer.specs.Pages.{bodyText, builtInHeader, headerText, firstPart, nextPart}
 use Rattle.writer.specs.Given.{withTable}
+use Rattle.writer.proofs.GroupTexts.{lines-join}
 use Rattle.writer.proofs.NamesOnce.{timesWritten, NamesOnce}
-use Rattle.demands.specs.NothingLost.{directive, block, lineOf, timesAnchored, untilTag, rankIn, NothingLost, NothingIsLost}
+use Rattle.demands.specs.NothingLost.{directive, block, lineOf, timesAnchored, untilTag, rankIn, NothingLost, NothingIsLost, ownLines, LinesOnPage}
 use Rattle.demands.proofs.LinesWritten.{until-remark, allLines, all-tags, Each, each-at}
 use Rattle.demands.proofs.RemarksCounted.{block-times, directive-alone, OnceUnder, each-once-all}
 use Rattle.demands.proofs.RemarksOrdered.{those-rise, Behind, Ordered, from-behind, from-ordered, Ranked, each-ordered-all}
@@ -96,4 +99,28 @@ nothing-is-lost =
     record {
       written = λ c r play. with-any-table c r (plainOf c r .table) play;
       finished = with-any-table;
+    }
+
+-- ---- the page
+
+header-led : (ls : List Line) (bs : List ℕ) → 0 < length ls → headerText ls ++ bs ≡ linesText ls ++ 10 ∷ bs
+header-led [] bs h = absurd (omega arith)
+header-led (l ∷ ls) bs h = append-assoc (linesText (l ∷ ls)) (10 ∷ []) bs
+
+header-none : (ls : List Line) (bs : List ℕ) → length ls ≡ 0 → headerText ls ++ bs ≡ builtInHeader ++ (linesText ls ++ bs)
+header-none [] bs h = refl
+header-none (l ∷ ls) bs h = absurd (omega arith)
+
+own-text : (c : Conventions) (b : PlainBoard) → linesText (ownLines c b) ≡ linesText (leadingLines b) ++ bodyText c b
+unfolding boardLines
+own-text c b = lines-join (leadingLines b) _
+
+-- THEOREM. The page is the boards' lines and nothing else.
+pub lines-on-page : LinesOnPage
+unfolding boardLines firstPart nextPart
+lines-on-page =
+    record {
+      next = λ c b. rw (own-text c b);
+      first = λ c b h. rw (take-at, drop-at) (header-led (leadingLines b) (bodyText c b) h);
+      headed = λ c b h. rw (own-text c b) (header-none (leadingLines b) (bodyText c b) h);
     }

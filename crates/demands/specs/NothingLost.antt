@@ -1,4 +1,5 @@
--- Nothing of the editor's is lost: where the directives and the commentary blocks of a board stand among its written lines.
+-- Nothing of the editor's is lost: where the directives and the commentary blocks of a board stand among its written lines, and that the
+-- page is those lines.
 --
 -- A line is a tag, a data line of its section, or a directive or block with its number among the board's, from 0. So what is counted
 -- is remarks, not equal bytes. proofs/NothingLost.antt proves it of every board that is read, written with its own table or with another.
@@ -8,13 +9,14 @@ use mathlib.Core.Bool.{Bool, true, false, cond}
 use mathlib.Core.List.{List, [], _∷_, _++_}
 use mathlib.Core.Option.{Option, none, some}
 use lib.Dec.{eqb}
-use lib.ListN.{take, getElem?}
+use lib.ListN.{length, take, drop, getElem?}
 use Rattle.tables.specs.declared.letters.Conventions.{Conventions}
 use Rattle.tables.specs.Text.{ascii}
 use Rattle.reader.specs.declared.board.TableCard.{TableCard}
 use Rattle.reader.specs.Words.{same}
 use Rattle.reader.specs.Plain.{TagPair, Remark, PlainBoard, plainOf}
-use Rattle.writer.specs.Remarks.{Line, tagLine, dataLine, directiveLine, blockLine, boardLines}
+use Rattle.writer.specs.Remarks.{Line, tagLine, dataLine, directiveLine, blockLine, linesText, leadingLines, boardLines}
+use Rattle.writer.specs.Pages.{ownPlay, builtInHeader, firstPart, nextPart}
 use Rattle.writer.specs.Given.{withTable}
 
 -- ---- remarks
@@ -170,3 +172,23 @@ pub record NothingIsLost : Type 0 where
   pub written : (c : Conventions) (r : List ℕ) (play : List (List ℕ)) → NothingLost (plainOf c r) (boardLines c (plainOf c r) play)
   pub finished : (c : Conventions) (r : List ℕ) (t : TableCard) (play : List (List ℕ))
       → NothingLost (withTable t (plainOf c r)) (boardLines c (withTable t (plainOf c r)) play)
+
+-- ---- the page
+
+-- A board's lines with its own play, and how many of them are the directives before every tag, which stand first.
+abbrev pub ownLines : Conventions → PlainBoard → List Line
+ownLines c b = boardLines c b (ownPlay c (b .play))
+
+abbrev pub leadingCount : PlainBoard → ℕ
+leadingCount b = length (leadingLines b)
+
+-- THEOREM (proofs/NothingLost.antt). The page is these lines and nothing else. pageText puts the boards' parts in a row, and the part of a
+-- board is the bytes of all its lines with
+--   next: an empty line above them, where the board is not the first;
+--   first: an empty line behind the directives before every tag, where it is the first;
+--   headed: the built-in header above them, where it is the first and has no such directive.
+pub record LinesOnPage : Type 0 where
+  pub next : (c : Conventions) (b : PlainBoard) → nextPart c b ≡ 10 ∷ linesText (ownLines c b)
+  pub first : (c : Conventions) (b : PlainBoard) → 0 < leadingCount b
+      → firstPart c b ≡ linesText (take (leadingCount b) (ownLines c b)) ++ 10 ∷ linesText (drop (leadingCount b) (ownLines c b))
+  pub headed : (c : Conventions) (b : PlainBoard) → leadingCount b ≡ 0 → firstPart c b ≡ builtInHeader ++ linesText (ownLines c b)
