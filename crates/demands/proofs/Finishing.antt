@@ -12,7 +12,7 @@ use Rattle.tables.specs.declared.letters.Conventions.{Conventions}
 use Rattle.tables.specs.Letters.{Accepted, every}
 use Rattle.tables.proofs.Laws.{by-cases, clash}
 use Rattle.reader.specs.declared.deal.Hands.{Hands}
-use Rattle.reader.specs.Store.{flat, padded}
+use Rattle.reader.specs.Store.{flat, padded, lent}
 use Rattle.reader.specs.Editions.{readingOf, cardsOf, entriesOf}
 use Rattle.planning.specs.declared.editions.EditionsRefusal.the-variants.{Old, New}
 use Rattle.planning.specs.declared.editions.Editions.{Editions}
@@ -22,7 +22,7 @@ use Rattle.planning.specs.declared.plan.Totals.{Totals}
 use Rattle.planning.specs.Cards.{isWhole, hasTable, cardHere}
 use Rattle.planning.specs.States.{Judged, stateNumber, fromOf, stateAt}
 use Rattle.planning.specs.Slips.{slipsOf, countOf, cardFrom}
-use Rattle.planning.specs.Plans.{Boxes, editionsOf, areBoth, lent, boardsOf, BoxesAfter, stateBy}
+use Rattle.planning.specs.Plans.{Boxes, editionsOf, areBoth, boardsOf, BoxesAfter, stateBy}
 use Rattle.planning.specs.Demands.{Among, WithDeal, Tabled, Some, slipHere}
 use Rattle.planning.proofs.AnswerLaws.{solve-sum}
 use Rattle.planning.proofs.CardLaws.{CardsHanded}

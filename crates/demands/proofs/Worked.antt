@@ -6,11 +6,12 @@ use mathlib.Core.List.{List, []}
 use native.Mathlib.Omega.{arith}
 use Rattle.tables.specs.Letters.{builtIn}
 use Rattle.reader.specs.Deals.{ones, cardCount, wholeHands, handWords, handsOfWords}
+use Rattle.reader.specs.Store.{lent}
 use Rattle.reader.specs.Editions.{readingOf, cardsOf}
 use Rattle.planning.specs.Cards.{dealOf, handsOf, isWhole, hasTable, hasDeal, fits}
 use Rattle.planning.specs.States.{firstWith, stateOf, judged}
 use Rattle.planning.specs.Slips.{slipOf, slipsOf, totalsOf}
-use Rattle.planning.specs.Plans.{editionsOf, plannedOf, isListed, lent, boardsOf}
+use Rattle.planning.specs.Plans.{editionsOf, plannedOf, isListed, boardsOf}
 use Rattle.planning.specs.Demands.{Among, here, there, Tabled, Some, AllSolved, OnlyInside}
 use Rattle.planning.proofs.FoundLaws.{among-cases}
 use Rattle.writer.specs.Given.{answerAt, tableOf, tablesOf}

@@ -14,18 +14,20 @@ use Rattle.tables.proofs.Laws.{by-cases}
 use Rattle.tables.proofs.LetterLaws.{built-in-accepted}
 use Rattle.reader.specs.declared.edition.Reading.the-variants.{Taken}
 use Rattle.reader.specs.Deals.{ones, cardCount, wholeHands, handWords, handsOfWords}
+use Rattle.reader.specs.Store.{lent}
 use Rattle.reader.specs.Editions.{readingOf, cardsOf, entriesOf}
 use Rattle.planning.specs.declared.plan.Totals.{Totals}
 use Rattle.planning.specs.declared.plan.Planned.the-variants.{Listed}
 use Rattle.planning.specs.Cards.{dealOf, isWhole, hasTable}
 use Rattle.planning.specs.States.{stateOf, judged}
 use Rattle.planning.specs.Slips.{cardFrom, slipsOf, totalsOf}
-use Rattle.planning.specs.Plans.{Boxes, editionsOf, plannedOf, lent, boardsOf}
+use Rattle.planning.specs.Plans.{Boxes, editionsOf, plannedOf, boardsOf}
 use Rattle.planning.proofs.AnswerLaws.{solve-sum}
 use Rattle.planning.proofs.SlipLaws.{slips-count}
 use Rattle.writer.specs.declared.finish.Finishing.the-variants.{Finished}
 use Rattle.writer.specs.Given.{finishedText}
-use Rattle.writer.specs.Finishings.{finishingOf, isFinished, pageAfter}
+use Rattle.writer.specs.Writings.{pageAfter}
+use Rattle.writer.specs.Finishings.{finishingOf, isFinished}
 use Rattle.writer.proofs.FinishedPages.{FinishedMost}
 use Rattle.golavimes.specs.Answers.{planNumbers, finishingNumbers, EditionOut, PlanOut, FinishOut}
 use Rattle.demands.specs.Demand1.{boardsIn, entriesIn, solveIn}

@@ -10,8 +10,9 @@ use Rattle.tables.specs.Text.{ascii}
 use Rattle.tables.specs.Letters.{builtIn}
 use Rattle.reader.specs.declared.deal.Hands.{Hands}
 use Rattle.reader.specs.Records.{AlikeBut}
+use Rattle.reader.specs.Store.{lent}
 use Rattle.reader.specs.Editions.{cardsOf, entriesOf}
-use Rattle.planning.specs.Plans.{Boxes, lent}
+use Rattle.planning.specs.Plans.{Boxes}
 use Rattle.planning.specs.Demands.{Tabled, Some, ListedIn, InFront, InBack, AllSolved}
 use Rattle.writer.specs.Given.{tablesOf, finishedText}
 use Rattle.golavimes.specs.Answers.{EditionOut, PlanOut, FinishOut}

@@ -9,13 +9,14 @@ use Rattle.tables.specs.Page.{Wrote}
 use Rattle.tables.specs.Tables.{Reading, tableRead}
 use Rattle.tables.specs.declared.letters.Conventions.{Conventions}
 use Rattle.reader.specs.declared.edition.Reading.{Reading as EditionReading}
-use Rattle.reader.specs.Editions.{IsRead, lentAfter, cardsOf, entriesOf}
+use Rattle.reader.specs.Store.{lent}
+use Rattle.reader.specs.Editions.{IsRead, isTaken, cardsOf, entriesOf}
 use Rattle.planning.specs.declared.state.BoardState.{BoardState}
 use Rattle.planning.specs.declared.behind.Behind.{Behind}
 use Rattle.planning.specs.declared.editions.Editions.{Editions}
 use Rattle.planning.specs.declared.plan.Planned.{Planned}
 use Rattle.planning.specs.Slips.{slipsOf}
-use Rattle.planning.specs.Plans.{Boxes, editionsOf, areBoth, isListed, lent, boardsOf, stateBy, behindBy, boardsAfter, BoxesAfter, BothRead, IsPlanned, StateTold, BehindTold, BoardsTold}
+use Rattle.planning.specs.Plans.{Boxes, editionsOf, areBoth, isListed, boardsOf, stateBy, behindBy, boardsAfter, BoxesAfter, BothRead, IsPlanned, StateTold, BehindTold, BoardsTold}
 use Rattle.golavimes.specs.Answers.{writtenNumbers, decodedNumbers, readingNumbers, writingNumbers, finishingNumbers, planNumbers, stateNumbers, recordNumbers, boardsNumbers, WroteOut, ReadOut, EditionOut, WritingOut, PlanOut, StateOut, BehindOut, BoardsOut, FinishOut}
 use Rattle.writer.specs.declared.write.Writing.{Writing}
 use Rattle.writer.specs.Writings.{writingOf, IsWritten}
@@ -39,8 +40,8 @@ pub edition-out : {c : Conventions} {text cards entries : List ℕ} {r : Edition
 edition-out {c} {text} {cards} {entries} a e =
     record {
       told = e ∙ ap readingNumbers (a .answer);
-      cards-after = a .cards-after ∙ ap (λ (x : EditionReading). lentAfter x (length cards) (cardsOf c text)) (a .answer);
-      entries-after = a .entries-after ∙ ap (λ (x : EditionReading). lentAfter x (length entries) (entriesOf c text)) (a .answer);
+      cards-after = a .cards-after ∙ ap (λ (x : EditionReading). lent (isTaken x) (length cards) (cardsOf c text)) (a .answer);
+      entries-after = a .entries-after ∙ ap (λ (x : EditionReading). lent (isTaken x) (length entries) (entriesOf c text)) (a .answer);
       returned = refl;
     }
 

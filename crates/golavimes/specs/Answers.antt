@@ -17,7 +17,8 @@ use Rattle.tables.specs.declared.letters.Conventions.{Conventions}
 use Rattle.reader.specs.declared.edition.Reading.{Reading}
 use Rattle.reader.specs.declared.edition.Reading.the-variants.{Taken}
 use Rattle.reader.specs.declared.edition.Reading.the-variants as edition
-use Rattle.reader.specs.Editions.{readNumber, readCarries, readingOf, lentAfter, cardsOf, entriesOf}
+use Rattle.reader.specs.Store.{lent}
+use Rattle.reader.specs.Editions.{readNumber, readCarries, readingOf, isTaken, cardsOf, entriesOf}
 use Rattle.planning.specs.declared.state.BoardState.{BoardState}
 use Rattle.planning.specs.declared.behind.Behind.{Behind}
 use Rattle.planning.specs.declared.behind.Behind.the-variants.{InOld, InNew, Nothing}
@@ -31,7 +32,7 @@ use Rattle.planning.specs.declared.plan.Planned.the-variants.{Listed}
 use Rattle.planning.specs.declared.plan.Planned.the-variants as planned
 use Rattle.planning.specs.States.{stateNumber, fromOf}
 use Rattle.planning.specs.Slips.{slipsOf}
-use Rattle.planning.specs.Plans.{planNumber, planEdition, planCarries, Boxes, editionsOf, areBoth, plannedOf, isListed, lent, boardsOf, BoxesAfter, stateBy, behindBy, boardsAfter}
+use Rattle.planning.specs.Plans.{planNumber, planEdition, planCarries, Boxes, editionsOf, areBoth, plannedOf, isListed, boardsOf, BoxesAfter, stateBy, behindBy, boardsAfter}
 use Rattle.writer.specs.declared.write.Writing.{Writing}
 use Rattle.writer.specs.declared.write.Writing.the-variants as writing
 use Rattle.writer.specs.Writings.{writeNumber, writeCarries, writingOf, IsWritten}
@@ -117,8 +118,8 @@ pub record ReadOut (reading : TableReading) (table′ answer′ : List ℕ) (r :
 -- A text is read into lent cards and entries, whatever they and the answer held.
 pub record EditionOut (c : Conventions) (text cards entries cards′ entries′ answer′ : List ℕ) (r : ℕ) : Type 0 where
   pub told : answer′ ≡ readingNumbers (readingOf c text (length cards) (length entries))
-  pub cards-after : cards′ ≡ lentAfter (readingOf c text (length cards) (length entries)) (length cards) (cardsOf c text)
-  pub entries-after : entries′ ≡ lentAfter (readingOf c text (length cards) (length entries)) (length entries) (entriesOf c text)
+  pub cards-after : cards′ ≡ lent (isTaken (readingOf c text (length cards) (length entries))) (length cards) (cardsOf c text)
+  pub entries-after : entries′ ≡ lent (isTaken (readingOf c text (length cards) (length entries))) (length entries) (entriesOf c text)
   pub returned : r ≡ getD answer′ 0 0
 
 -- A text is read and written on a lent page, whatever was lent and whatever it held.

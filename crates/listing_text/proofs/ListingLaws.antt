@@ -18,7 +18,7 @@ use Rattle.reader.specs.declared.edition.ReadRefusal.the-variants.{Overlong}
 use Rattle.reader.specs.declared.edition.Reading.{Reading}
 use Rattle.reader.specs.declared.edition.Reading.the-variants.{Taken}
 use Rattle.reader.specs.declared.edition.Reading.the-variants as reading
-use Rattle.reader.specs.Store.{zeros, putAll, flat, padded}
+use Rattle.reader.specs.Store.{zeros, putAll, lent}
 use Rattle.reader.specs.Editions.{isTaken, readingOf, cardsOf, IsRead}
 use Rattle.reader.proofs.StoreLaws.{Blocks, put-zeros}
 use Rattle.reader.proofs.Counts.{TextBoardsFew}
@@ -36,7 +36,7 @@ use Rattle.planning.specs.declared.plan.Planned.the-variants as planned
 use Rattle.planning.specs.Cards.{cardsIn, cardHere}
 use Rattle.planning.specs.States.{Judged, judged, stateOf}
 use Rattle.planning.specs.Slips.{slipsOf, countOf, totalsOf}
-use Rattle.planning.specs.Plans.{Boxes, bothAfter, editionsOf, areBoth, lent, boardsOf, listedBy, plannedBy, isListed, BoxesAfter, BothRead}
+use Rattle.planning.specs.Plans.{Boxes, bothAfter, editionsOf, areBoth, boardsOf, listedBy, plannedBy, isListed, BoxesAfter, BothRead}
 use Rattle.planning.specs.Steps.{Kept, PlanFinished}
 use Rattle.listing_text.specs.Limited.{limitedOf, limitedBoth, BothLimited}
 use Rattle.listing_text.specs.Listing.{boardLine, boardLines, totalLine, refusedLine, listText, Countable, listedOf, wellOn, PageKept, BoardsListed, ListedAs, IsListing}

@@ -11,7 +11,7 @@ use Rattle.tables.specs.Page.{answerOf, Wrote, Finished}
 use Rattle.tables.specs.declared.letters.Conventions.{Conventions}
 use Rattle.tables.specs.declared.page.Written.{Written}
 use Rattle.tables.specs.declared.page.Written.the-variants.{Bytes}
-use Rattle.reader.specs.Store.{zeros, putAll}
+use Rattle.reader.specs.Store.{zeros, putAll, lent}
 use Rattle.planning.specs.declared.state.BoardState.{BoardState}
 use Rattle.planning.specs.declared.state.BoardState.the-variants.{Blank, Own, Old, Near, Twin, Solve}
 use Rattle.planning.specs.declared.plan.PlanRefusal.{PlanRefusal}
@@ -21,7 +21,7 @@ use Rattle.planning.specs.declared.plan.Planned.{Planned}
 use Rattle.planning.specs.declared.plan.Planned.the-variants.{Listed, Refused}
 use Rattle.planning.specs.States.{Judged, fromOf}
 use Rattle.planning.specs.Slips.{slipsOf, totalsOf}
-use Rattle.planning.specs.Plans.{planNumber, planEdition, Boxes, lent, boardsOf, listedBy, plannedBy, isListed, BoxesAfter}
+use Rattle.planning.specs.Plans.{planNumber, planEdition, Boxes, boardsOf, listedBy, plannedBy, isListed, BoxesAfter}
 use Rattle.planning.specs.Steps.{Kept}
 use Rattle.listing_text.specs.Limited.{limitedBoth}
 

@@ -9,8 +9,8 @@ use lib.Dec.{ltb}
 use lib.ListN.{length, replicate, length-replicate}
 use Rattle.tables.specs.declared.letters.Conventions.{Conventions}
 use Rattle.tables.proofs.Laws.{clash}
-use Rattle.reader.specs.Store.{zeros, putAll, flat, padded}
-use Rattle.reader.proofs.StoreLaws.{Blocks, put-zeros}
+use Rattle.reader.specs.Store.{zeros, putAll}
+use Rattle.reader.proofs.EditionLaws.{ended}
 use Rattle.reader.proofs.CardLength.{CardsWhole}
 use Rattle.planning.specs.declared.state.BoardState.{BoardState}
 use Rattle.planning.specs.declared.state.BoardState.the-variants.{Blank}
@@ -28,7 +28,7 @@ use Rattle.planning.specs.declared.plan.Planned.the-variants as planned
 use Rattle.planning.specs.Cards.{cardsIn}
 use Rattle.planning.specs.States.{Judged, judged, stateAt}
 use Rattle.planning.specs.Slips.{slipsOf, countOf, totalsOf, behindAt, partOf, numbersFrom}
-use Rattle.planning.specs.Plans.{Boxes, editionsOf, areBoth, lent, boardsOf, listedBy, plannedOf, isListed, BoxesAfter, BothRead, IsPlanned, behindBy, StateTold, BehindTold, PartTold, BoardsTold}
+use Rattle.planning.specs.Plans.{Boxes, editionsOf, areBoth, boardsOf, listedBy, plannedOf, isListed, BoxesAfter, BothRead, IsPlanned, behindBy, StateTold, BehindTold, PartTold, BoardsTold}
 use Rattle.planning.specs.Steps.{Kept, PlanFinished}
 use Rattle.planning.proofs.BothLaws.{CardsThere, both-cards}
 use Rattle.planning.proofs.SlipLaws.{slips-count, slips-five}
@@ -65,12 +65,6 @@ listed-fits ls t e = go (ltb (ls / 5) (t .solve)) refl e
     go : (f : Bool) → ltb (ls / 5) (t .solve) ≡ f → isListed (cond f (planned.Refused (SlipsShort (t .solve))) (Listed t)) ≡ true → 5 * t .solve ≤ ls
     go true ef h = clash h
     go false ef h = omega (arith, ltb-false (ls / 5) (t .solve) ef)
-
--- Blocks put into zeros, and kept or set to 0.
-slips-end : (b : Bool) (L : ℕ) {xs : List (List ℕ)} {w w′ : List ℕ} → Blocks 5 xs → (b ≡ true → 5 * length xs ≤ L) → length w ≡ L → w ≡ putAll 5 (replicate L 0) 0 xs → w′ ≡ cond b w (zeros w)
-    → w′ ≡ cond b (padded L (flat xs)) (replicate L 0)
-slips-end true L k h el e f = f ∙ e ∙ put-zeros 5 L k (h refl)
-slips-end false L k h el e f = f ∙ rw el
 
 pub solve-sum : (js : List Judged) → totalsOf js .solve ≡ countOf 5 js
 unfolding totalsOf
@@ -142,7 +136,7 @@ module _ {c : Conventions} {old new : List ℕ} {boxes boxes′ : Boxes} {r : Ed
       record {
         answer = eq ∙ ap (listedBy (ls / 5)) et ∙ rw a;
         boxes-after = boxes-kept (isListed q) full room (g .boxes-after);
-        slips-after = slips-end (isListed q) ls (slips-five js) (λ h. omega (arith, listed-fits ls t (sym (ap isListed eq) ∙ h), es)) el ep (g .slips-after);
+        slips-after = ended 5 ls (isListed q) (slips-five js) (λ h. omega (arith, listed-fits ls t (sym (ap isListed eq) ∙ h), es)) el ep (g .slips-after);
       }
 
 -- The record behind a board, as a part of a text.

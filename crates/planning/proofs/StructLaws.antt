@@ -1,13 +1,13 @@
 -- Laws of the plan with structs: what is answered before they are filled in, its contract, and that it is the plan with numbers.
 use Prim.Native.Nat.{ℕ, _-_, _*_, _/_, _≤_}
 use mathlib.Core.Path.{_≡_, refl, sym, ap, _∙_, subst}
-use mathlib.Core.Bool.{Bool, true, false, cond}
+use mathlib.Core.Bool.{Bool, true, false}
 use mathlib.Core.List.{List, []}
 use native.Mathlib.Omega.{arith}
 use lib.ListN.{length, replicate}
 use Rattle.tables.specs.declared.letters.Conventions.{Conventions}
 use Rattle.tables.proofs.Laws.{by-cases, clash}
-use Rattle.reader.specs.Store.{flat, padded}
+use Rattle.reader.specs.Store.{flat, padded, lent}
 use Rattle.planning.specs.declared.editions.EditionsRefusal.{EditionsRefusal}
 use Rattle.planning.specs.declared.editions.Editions.{Editions}
 use Rattle.planning.specs.declared.editions.Editions.the-variants.{Both}
@@ -23,7 +23,7 @@ use Rattle.planning.specs.declared.slips.Counted.{Counted}
 use Rattle.planning.specs.Cards.{cardsIn}
 use Rattle.planning.specs.States.{Judged, judged}
 use Rattle.planning.specs.Slips.{slipsOf, slipNumbers, totalsOf}
-use Rattle.planning.specs.Plans.{Boxes, editionsOf, areBoth, boardsOf, lent, listedBy, plannedBy, plannedOf, isListed, BoxesAfter, BothRead, IsPlanned}
+use Rattle.planning.specs.Plans.{Boxes, editionsOf, areBoth, boardsOf, listedBy, plannedBy, plannedOf, isListed, BoxesAfter, BothRead, IsPlanned}
 use Rattle.planning.specs.Steps.{Kept, Settled}
 use Rattle.planning.specs.Fills.{nextOf, filledFrom, IsCounted}
 use Rattle.planning.specs.Demands.{SamePlan}
@@ -107,7 +107,7 @@ module _ (slips : List Slip) {c : Conventions} {old new : List ℕ} {boxes boxes
       let a : isListed (plannedBy (editionsOf c old new boxes) (5 * length slips / 5) (totalsOf js)) ≡ true = sym (ap isListed (h .answer)) ∙ l in
       omega (arith, listed-room (editionsOf c old new boxes) (5 * length slips) (totalsOf js) a, solve-sum js, slips-count js)
 
-  after : slipNumbers slips′ ≡ cond (isListed (r .answer)) (padded (5 * length slips) (flat (slipsOf (boardsOf c old new)))) (replicate (5 * length slips) 0)
+  after : slipNumbers slips′ ≡ lent (isListed (r .answer)) (5 * length slips) (slipsOf (boardsOf c old new))
   after =
       by-cases (isListed (r .answer))
       (λ l. let e : judged (cardsIn (r .olds) (boxes′ .old-cards)) (cardsIn (r .news) (boxes′ .new-cards)) ≡ boardsOf c old new = rw l at (h .boards) in

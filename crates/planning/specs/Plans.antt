@@ -9,7 +9,7 @@ use Rattle.tables.specs.declared.letters.Conventions.{Conventions}
 use Rattle.reader.specs.declared.edition.Reading.{Reading}
 use Rattle.reader.specs.declared.edition.Reading.the-variants.{Taken}
 use Rattle.reader.specs.declared.edition.Reading.the-variants as reading
-use Rattle.reader.specs.Store.{flat, padded, putAll}
+use Rattle.reader.specs.Store.{putAll, lent}
 use Rattle.reader.specs.Editions.{readNumber, readCarries, readingOf, cardsOf, entriesOf}
 use Rattle.planning.specs.declared.state.BoardState.{BoardState}
 use Rattle.planning.specs.declared.state.BoardState.the-variants.{Blank}
@@ -90,10 +90,6 @@ editionsOf c old new boxes = bothAfter (oldReading c old boxes) (newReading c ne
 abbrev pub areBoth : Editions → Bool
 areBoth (Both m n) = true
 areBoth (editions.Refused f) = false
-
--- n lent words afterwards: blocks and zeros behind them where all went well, nothing but zeros after a refusal.
-abbrev pub lent : Bool → ℕ → List (List ℕ) → List ℕ
-lent well n blocks = cond well (padded n (flat blocks)) (replicate n 0)
 
 -- The boards of the new edition.
 abbrev pub boardsOf : Conventions → List ℕ → List ℕ → List Judged

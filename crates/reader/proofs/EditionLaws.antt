@@ -19,7 +19,7 @@ use Rattle.reader.specs.declared.edition.ReadRefusal.the-variants.{Overl
 use Rattle.reader.specs.declared.edition.Reading.{Reading}
 use Rattle.reader.specs.declared.edition.Reading.the-variants.{Taken, Refused}
 use Rattle.reader.specs.declared.edition.Totals.{Totals}
-use Rattle.reader.specs.Store.{zeros, put, putAll, flat, padded, entryWords}
+use Rattle.reader.specs.Store.{zeros, put, putAll, lent, entryWords}
 use Rattle.reader.specs.Pieces.{Emits}
 use Rattle.reader.specs.Records.{recordsOf, EndsAt}
 use Rattle.reader.specs.Boards.{recordOut}
@@ -224,10 +224,10 @@ taken-fits lc le b n e = go (ltb (lc / 64) b) refl (ltb (le / 4) n) refl e
     go false ef false eg h = omega (arith, ltb-false (lc / 64) b ef, ltb-false (le / 4) n eg)
 
 -- The words at the end: put into zeros, and kept or set to 0.
-ended : (w L : ℕ) {xs : List (List ℕ)} (d d′ : List ℕ) (f : Bool) → Blocks w xs → (f ≡ true → w * length xs ≤ L) → length d ≡ L
-    → d ≡ putAll w (replicate L 0) 0 xs → d′ ≡ cond f d (zeros d) → d′ ≡ cond f (padded L (flat xs)) (replicate L 0)
-ended w L d d′ true b h el e e′ = e′ ∙ e ∙ put-zeros w L b (h refl)
-ended w L d d′ false b h el e e′ = e′ ∙ rw el
+pub ended : (w L : ℕ) {xs : List (List ℕ)} {d d′ : List ℕ} (f : Bool) → Blocks w xs → (f ≡ true → w * length xs ≤ L) → length d ≡ L
+    → d ≡ putAll w (replicate L 0) 0 xs → d′ ≡ cond f d (zeros d) → d′ ≡ lent f L xs
+ended w L true b h el e e′ = e′ ∙ e ∙ put-zeros w L b (h refl)
+ended w L false b h el e e′ = e′ ∙ rw el
 
 pub read-all : {c : Conventions} {t cs es zc ze : List ℕ} {r : Totals} {a : Reading} (cards entries cards′ entries′ : List ℕ) → length t ≤ 16777215
     → zc ≡ zeros cs → ze ≡ zeros es → length cards ≡ length zc → length entries ≡ length ze
@@ -243,8 +243,8 @@ read-all {c} {t} {cs} {es} {zc} {ze} {r} {a} cards entries cards′ entries′ s
     let fits : isTaken a ≡ true → (64 * length (cardsOf c t) ≤ lc) × (4 * length (entriesOf c t) ≤ le) = λ h. taken-fits lc le (length (cardsOf c t)) (length (entriesOf c t)) (rw ans at h) in
     record {
       answer = ans ∙ rw (le-ltb _ _ short);
-      cards-after = ended 64 lc cards cards′ (isTaken a) (card-blocks (s .whole)) (λ h. fits h .0) ec (rw zc-is at (s .cards-put)) (f .cards-after);
-      entries-after = ended 4 le entries entries′ (isTaken a) (all-blocks c t) (λ h. fits h .1) ee (rw ze-is at (s .entries-put)) (f .entries-after);
+      cards-after = ended 64 lc (isTaken a) (card-blocks (s .whole)) (λ h. fits h .0) ec (rw zc-is at (s .cards-put)) (f .cards-after);
+      entries-after = ended 4 le (isTaken a) (all-blocks c t) (λ h. fits h .1) ee (rw ze-is at (s .entries-put)) (f .entries-after);
     }
 
 pub read-none : {c : Conventions} {t cs es : List ℕ} {cards′ entries′ : List ℕ} → 16777215 < length t → cards′ ≡ zeros cs → entries′ ≡ zeros es

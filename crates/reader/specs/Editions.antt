@@ -4,7 +4,7 @@ use mathlib.Core.Path.{_≡_}
 use mathlib.Core.List.{List, [], _∷_, _++_, map}
 use mathlib.Core.Bool.{Bool, true, false, cond}
 use lib.Dec.{ltb, eqb}
-use lib.ListN.{length, replicate}
+use lib.ListN.{length}
 use Rattle.tables.specs.declared.letters.Conventions.{Conventions}
 use Rattle.reader.specs.declared.board.Identity.{Identity}
 use Rattle.reader.specs.declared.board.Values.{Values}
@@ -15,7 +15,7 @@ use Rattle.reader.specs.declared.edition.ReadRefusal.the-variants.{Overl
 use Rattle.reader.specs.declared.edition.Reading.{Reading}
 use Rattle.reader.specs.declared.edition.Reading.the-variants.{Taken, Refused}
 use Rattle.reader.specs.declared.edition.Totals.{Totals}
-use Rattle.reader.specs.Store.{word, zeros, put, putAll, flat, padded, entryWords}
+use Rattle.reader.specs.Store.{word, zeros, put, putAll, lent, entryWords}
 use Rattle.reader.specs.Boards.{recordOut}
 use Rattle.reader.specs.Records.{recordsOf}
 
@@ -110,10 +110,6 @@ readingOf c text lc le =
     cond (ltb 16777215 (length text)) (Refused (Overlong (length text)))
     (verdict lc le (length (cardsOf c text)) (length (entriesOf c text)))
 
--- n lent words afterwards: the blocks and zeros behind them, or nothing but zeros after a refusal.
-abbrev pub lentAfter : Reading → ℕ → List (List ℕ) → List ℕ
-lentAfter r n bs = cond (isTaken r) (padded n (flat bs)) (replicate n 0)
-
 -- ---- contracts
 
 -- A record r at a read as the k-th board, n entries before it: how many entries there are then, its card and its entries.
@@ -145,5 +141,5 @@ pub record Finished (cards entries : List ℕ) (boards n : ℕ) (r : Reading) (c
 -- The contract of reading: the answer, every card word and every entry word.
 pub record IsRead (c : Conventions) (text cards entries : List ℕ) (r : Reading) (cards′ entries′ : List ℕ) : Type 0 where
   pub answer : r ≡ readingOf c text (length cards) (length entries)
-  pub cards-after : cards′ ≡ lentAfter r (length cards) (cardsOf c text)
-  pub entries-after : entries′ ≡ lentAfter r (length entries) (entriesOf c text)
+  pub cards-after : cards′ ≡ lent (isTaken r) (length cards) (cardsOf c text)
+  pub entries-after : entries′ ≡ lent (isTaken r) (length entries) (entriesOf c text)

@@ -33,6 +33,10 @@ flat (x ∷ xs) = x ++ flat xs
 abbrev pub padded : ℕ → List ℕ → List ℕ
 padded n ws = ws ++ replicate (n - length ws) 0
 
+-- n lent words after a call: the blocks and zeros behind them where all went well, nothing but zeros after a refusal.
+abbrev pub lent : Bool → ℕ → List (List ℕ) → List ℕ
+lent well n blocks = cond well (padded n (flat blocks)) (replicate n 0)
+
 -- The four words of an entry of a record that starts at the place a of its edition: a trick (kind 8) has no place.
 abbrev pub moved : ℕ → ℕ → ℕ → ℕ
 moved a kind x = cond (eqb kind 8) x (a + x)

@@ -29,7 +29,8 @@ use Rattle.writer.specs.declared.finish.Finishing.{Finishing}
 use Rattle.writer.specs.declared.finish.Finishing.the-variants.{Finished, Refused}
 use Rattle.writer.specs.Puts.{Puts}
 use Rattle.writer.specs.BoardTexts.{pageHeld}
-use Rattle.writer.specs.Finishings.{firstAbove, finishedOn, answeredBy, isFinished, pageAfter}
+use Rattle.writer.specs.Writings.{pageAfter}
+use Rattle.writer.specs.Finishings.{firstAbove, finishedOn, answeredBy, isFinished}
 use Rattle.writer.specs.GivenCards.{marked, cleared, changedAll, checkedOf, givenBox, tabledPage, Gave, FinishEnded, FinishPut, BoardsFinished}
 use Rattle.writer.proofs.ChangedCards.{marked-long, cleared-long, changed-length}
 

@@ -1,8 +1,8 @@
 -- Laws of writing a whole edition.
-use Prim.Native.Nat.{ℕ, _+_, _-_, _/_, _≤_, _<_}
+use Prim.Native.Nat.{ℕ, _+_, _/_, _≤_, _<_}
 use mathlib.Core.Path.{_≡_, refl, sym, ap, _∙_}
 use mathlib.Core.Bool.{Bool, true, false, cond}
-use mathlib.Core.List.{List, [], _∷_, _++_}
+use mathlib.Core.List.{List}
 use native.Mathlib.Omega.{arith}
 use lib.Dec.{ltb, leb}
 use lib.ListN.{length, replicate, take, length-append, length-replicate}
@@ -27,7 +27,7 @@ use Rattle.writer.specs.declared.write.Writing.the-variants.{Written, Re
 use Rattle.writer.specs.Puts.{Puts}
 use Rattle.writer.specs.Pages.{writtenText}
 use Rattle.writer.specs.BoardTexts.{pageHeld}
-use Rattle.writer.specs.Writings.{pageAnswer, writtenBy, writingOf, isOut, Ended, IsWritten}
+use Rattle.writer.specs.Writings.{pageAnswer, writtenBy, writingOf, isOut, pageAfter, Ended, IsWritten}
 use Rattle.writer.proofs.HeldBoards.{Holds, taken-holds}
 use Rattle.writer.proofs.HeldPages.{PageHeld}
 use Rattle.writer.proofs.Sizes.{BytesFew}
@@ -47,7 +47,7 @@ taken-boards c text lc le b e i =
     (λ v. let w = rw (t, u, v) at i in cc)))
 
 -- What a page of bs comes to, by the answer.
-page-out : (bs : List ℕ) (m : ℕ) → pageOf bs m ≡ cond (isOut (pageAnswer (length bs) m)) (bs ++ replicate (m - length bs) 0) (replicate m 0)
+page-out : (bs : List ℕ) (m : ℕ) → pageOf bs m ≡ pageAfter (isOut (pageAnswer (length bs) m)) bs m
 unfolding pageOf
 page-out bs m = by-cases (leb (length bs) m) (λ q. rw q) (λ q. rw q)
 

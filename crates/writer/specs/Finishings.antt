@@ -1,12 +1,11 @@
 -- The answers of finishing, and its contract.
-use Prim.Native.Nat.{ℕ, _+_, _-_, _*_}
+use Prim.Native.Nat.{ℕ, _+_, _*_}
 use mathlib.Core.Path.{_≡_}
 use mathlib.Core.Bool.{Bool, true, false, cond}
-use mathlib.Core.List.{List, [], _∷_, _++_}
+use mathlib.Core.List.{List, [], _∷_}
 use lib.Dec.{eqb, leb, ltb}
-use lib.ListN.{length, replicate}
+use lib.ListN.{length}
 use Rattle.tables.specs.declared.letters.Conventions.{Conventions}
-use Rattle.reader.specs.Store.{zeros}
 use Rattle.planning.specs.declared.editions.Editions.{Editions}
 use Rattle.planning.specs.declared.editions.Editions.the-variants.{Both}
 use Rattle.planning.specs.declared.editions.Editions.the-variants as editions
@@ -16,6 +15,7 @@ use Rattle.writer.specs.declared.finish.FinishRefusal.{FinishRefusal}
 use Rattle.writer.specs.declared.finish.FinishRefusal.the-variants.{Edition, Answers, Impossible, PageFull}
 use Rattle.writer.specs.declared.finish.Finishing.{Finishing}
 use Rattle.writer.specs.declared.finish.Finishing.the-variants.{Finished, Refused}
+use Rattle.writer.specs.Writings.{pageAfter}
 use Rattle.writer.specs.Given.{finishedText}
 
 -- ---- refusals: 1 to 3 of the old edition, then of the new; 5 answers (the boards to solve); 6 impossible (the first index of a byte above
@@ -72,10 +72,6 @@ isFinished (Finished n) = true
 isFinished (Refused f) = false
 
 -- ---- the contract
-
--- A page of m bytes afterwards: the bytes bs and zeros behind them, or nothing but zeros.
-abbrev pub pageAfter : Bool → List ℕ → ℕ → List ℕ
-pageAfter well bs m = cond well (bs ++ replicate (m - length bs) 0) (replicate m 0)
 
 -- The contract of finish: the answer, every byte of the page and every word of the boxes. What is not used is zero; after a refusal all is.
 pub record IsFinished (c : Conventions) (old new : List ℕ) (boxes : Boxes) (answers page : List ℕ) (r : Finishing) (boxes′ : Boxes) (page′ : List ℕ) : Type 0 where

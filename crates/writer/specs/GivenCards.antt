@@ -25,7 +25,8 @@ use Rattle.writer.specs.Puts.{Puts}
 use Rattle.writer.specs.Held.{cardPart}
 use Rattle.writer.specs.BoardTexts.{pageHeld}
 use Rattle.writer.specs.Given.{answerAt, tableOf}
-use Rattle.writer.specs.Finishings.{firstAbove, finishedOn, answeredBy, isFinished, pageAfter}
+use Rattle.writer.specs.Writings.{pageAfter}
+use Rattle.writer.specs.Finishings.{firstAbove, finishedOn, answeredBy, isFinished}
 
 -- A card with other cells, words 18 to 37; with another kind of table, word 38.
 unfoldable pub withCells : List ℕ → List ℕ → List ℕ

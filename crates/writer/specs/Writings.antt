@@ -1,8 +1,8 @@
 -- The answers of writing an edition, and its contract.
-use Prim.Native.Nat.{ℕ, _-_}
+use Prim.Native.Nat.{ℕ}
 use mathlib.Core.Path.{_≡_}
 use mathlib.Core.Bool.{Bool, true, false, cond}
-use mathlib.Core.List.{List, _++_}
+use mathlib.Core.List.{List}
 use lib.Dec.{leb}
 use lib.ListN.{length, replicate}
 use Rattle.tables.specs.declared.letters.Conventions.{Conventions}
@@ -10,7 +10,7 @@ use Rattle.tables.specs.Page.{cleared}
 use Rattle.reader.specs.declared.edition.Reading.{Reading}
 use Rattle.reader.specs.declared.edition.Reading.the-variants.{Taken}
 use Rattle.reader.specs.declared.edition.Reading.the-variants as reading
-use Rattle.reader.specs.Store.{zeros, flat, padded}
+use Rattle.reader.specs.Store.{zeros, padded, lent}
 use Rattle.reader.specs.Editions.{readNumber, readCarries, readingOf, cardsOf, entriesOf}
 use Rattle.writer.specs.declared.write.WriteRefusal.{WriteRefusal}
 use Rattle.writer.specs.declared.write.WriteRefusal.the-variants.{Edition, PageFull}
@@ -48,6 +48,10 @@ isOut (Refused f) = false
 
 -- ---- contracts
 
+-- A page of m bytes after a call: the bytes bs and zeros behind them where all went well, nothing but zeros after a refusal.
+abbrev pub pageAfter : Bool → List ℕ → ℕ → List ℕ
+pageAfter well bs m = cond well (padded m bs) (replicate m 0)
+
 -- n bytes were put on the page: zeros behind them, or nothing but zeros, in the boxes too, where they did not fit.
 pub record Ended (n : ℕ) (cards entries page : List ℕ) (r : Writing) (cards′ entries′ page′ : List ℕ) : Type 0 where
   pub answer : r ≡ pageAnswer n (length page)
@@ -58,6 +62,6 @@ pub record Ended (n : ℕ) (cards entries page : List ℕ) (r : Writing) (cards�
 -- The contract of writing: the answer, every byte of the page and every word of the boxes. What is not used is zero; after a refusal all is.
 pub record IsWritten (c : Conventions) (text cards entries page : List ℕ) (r : Writing) (cards′ entries′ page′ : List ℕ) : Type 0 where
   pub answer : r ≡ writingOf c text (length cards) (length entries) (length page)
-  pub page-after : page′ ≡ cond (isOut r) (writtenText c text ++ replicate (length page - length (writtenText c text)) 0) (zeros page)
-  pub cards-after : cards′ ≡ cond (isOut r) (padded (length cards) (flat (cardsOf c text))) (zeros cards)
-  pub entries-after : entries′ ≡ cond (isOut r) (padded (length entries) (flat (entriesOf c text))) (zeros entries)
+  pub page-after : page′ ≡ pageAfter (isOut r) (writtenText c text) (length page)
+  pub cards-after : cards′ ≡ lent (isOut r) (length cards) (cardsOf c text)
+  pub entries-after : entries′ ≡ lent (isOut r) (length entries) (entriesOf c text)
