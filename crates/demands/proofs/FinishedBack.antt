@@ -35,7 +35,7 @@ use Rattle.writer.specs.Pages.{pageText, writtenText}
 use Rattle.writer.specs.Given.{slipIndex, answerAt, cellsOf, ownTable, tableFor, tableOf, withTable, withTables, tablesOf, finishedBoards, finishedText}
 use Rattle.demands.specs.PageBack.{tagsAsWritten}
 use Rattle.demands.specs.Finished.{noTable, FinishedCard, FinishedBack, NoneWanted}
-use Rattle.demands.proofs.WrittenTagsBack.{FinishedTags}
+use Rattle.demands.proofs.WrittenTagsBack.{finished-tags}
 use Rattle.demands.proofs.TablesBack.{wholeDeal, Twenty, DealAndTable, TagsGiveBoard}
 use Rattle.reader.proofs.WordTokens.{every-take, every-drop}
 
@@ -209,7 +209,7 @@ finished-back c ok old new answers h =
     let ts = tablesOf c old new answers in
     let bs = withTables ts (map (plainOf c) rs) in
     let qs = recordsOf (pageText c bs) in
-    let e = FinishedTags c c ok old new answers in
+    let e = finished-tags c c ok old new answers in
     let l = tables-count c old new answers in
     let m : length qs ≡ length rs = sym (length-map qs (λ r. plainOf c r .tags)) ∙ ap length e ∙ length-map bs (tagsAsWritten c)
     ∙ with-count ts (map (plainOf c) rs) (l ∙ sym (length-map rs (plainOf c))) ∙ length-map rs (plainOf c) in

@@ -10,7 +10,7 @@ use Rattle.reader.specs.Records.{recordsOf}
 use Rattle.reader.specs.Plain.{PlainBoard, plainOf, plainBoards}
 use Rattle.writer.specs.Pages.{firstPart, pageText, writtenText}
 use Rattle.writer.specs.Given.{withTable, withTables, tablesOf, finishedBoards}
-use Rattle.demands.specs.PageBack.{AllWritable, all-none, all-one, ownText, recordsAfter, pageRecords}
+use Rattle.demands.specs.PageBack.{AllWritable, all-none, all-one, ownText, recordsAfter, pageRecords, WrittenCount}
 use Rattle.demands.proofs.PageWalk.{AllLined, no-boards, a-board, LinedRecords}
 use Rattle.demands.proofs.BoardWritable.{PlainIsWritable, WritableLike, LinesGood}
 
@@ -52,6 +52,6 @@ pub WrittenRecords : (c : Conventions) → Accepted c → (text : List ℕ) → 
 unfolding writtenText plainBoards
 WrittenRecords c ok text = PageRecords c ok (plainBoards c text) (all-plain c (recordsOf text))
 
-pub WrittenCount : (c : Conventions) → Accepted c → (text : List ℕ) → length (recordsOf (writtenText c text)) ≡ length (recordsOf text)
+pub written-count : WrittenCount
 unfolding plainBoards
-WrittenCount c ok text = ap length (WrittenRecords c ok text) ∙ page-count c (plainBoards c text) ∙ length-map (recordsOf text) (plainOf c)
+written-count c ok text = ap length (WrittenRecords c ok text) ∙ page-count c (plainBoards c text) ∙ length-map (recordsOf text) (plainOf c)

@@ -16,7 +16,7 @@ use Rattle.writer.specs.Tags.{WrittenTag, writtenTags}
 use Rattle.writer.specs.Remarks.{Anchored, directivesOf, blocksOf, those, isLeading, isLost, isUnder, wrote, Line, tagLine, dataLine, directiveLine, blockLine, directiveLines, blockLines, directivesAfter, blocksAfter, tagsLines, leadingLines, bodyLines, lineText, linesText}
 use Rattle.writer.specs.Pages.{ownPlay, bodyText, headerText, firstPart, pageText, writtenText}
 use Rattle.writer.specs.Given.{finishedBoards, finishedText}
-use Rattle.demands.specs.PageBack.{all, goodLine, Shut, last, more, ReadsAs, tag, section, directive, comment, block, Writable, AllWritable, all-none, all-one, ownText, recordsAfter, pairOf, tagsAsWritten}
+use Rattle.demands.specs.PageBack.{all, goodLine, Shut, last, more, ReadsAs, tag, section, directive, comment, block, Writable, AllWritable, all-none, all-one, ownText, recordsAfter, pairOf, tagsAsWritten, EditionTags, FinishedTags}
 use Rattle.reader.proofs.LineTags.{lineTags, tagsOfLines, TagsOfLines}
 use Rattle.demands.proofs.LineBack.{LineBack}
 use Rattle.demands.proofs.PageWalk.{GoodLines, line-then, headerLines, header-lines, header-good}
@@ -180,13 +180,11 @@ PageTags c d ok [] all-none = rw (PageRecords c ok [] all-none)
 PageTags c d ok (b ∷ bs) (all-one w a) =
     rw (PageRecords c ok (b ∷ bs) (all-one w a)) (records-tags c d ok (firstPart c b) (tagsAsWritten c b) bs (first-tags c b (LinesGood c ok b w)) a)
 
--- What an edition is written as.
-pub EditionTags : (c d : Conventions) → Accepted c → (text : List ℕ) → map (λ r. plainOf d r .tags) (recordsOf (writtenText c text)) ≡ map (tagsAsWritten c) (plainBoards c text)
+-- THEOREM. So it is with what an edition is written as, and with what a new one is finished as.
+pub edition-tags : EditionTags
 unfolding writtenText plainBoards
-EditionTags c d ok text = PageTags c d ok (plainBoards c text) (all-plain c (recordsOf text))
+edition-tags c d ok text = PageTags c d ok (plainBoards c text) (all-plain c (recordsOf text))
 
--- What a new edition is finished as.
-pub FinishedTags : (c d : Conventions) → Accepted c → (old new answers : List ℕ)
-    → map (λ r. plainOf d r .tags) (recordsOf (finishedText c old new answers)) ≡ map (tagsAsWritten c) (finishedBoards c old new answers)
+pub finished-tags : FinishedTags
 unfolding finishedText
-FinishedTags c d ok old new answers = PageTags c d ok (finishedBoards c old new answers) (all-finished c old new answers)
+finished-tags c d ok old new answers = PageTags c d ok (finishedBoards c old new answers) (all-finished c old new answers)

@@ -6,10 +6,10 @@ use mathlib.Core.Bool.{Bool, true, false, cond, _&&_, _||_, not}
 use mathlib.Core.List.{List, [], _∷_, _++_, map}
 use mathlib.Core.Option.{Option, none, some}
 use lib.Dec.{ltb, eqb}
-use lib.ListN.{take, drop, getD}
+use lib.ListN.{length, take, drop, getD}
 use Rattle.tables.specs.declared.letters.Conventions.{Conventions}
 use Rattle.tables.specs.Text.{ascii, isWhite, isWord, trimmed}
-use Rattle.tables.specs.Letters.{every, among}
+use Rattle.tables.specs.Letters.{every, among, Accepted}
 use Rattle.reader.specs.declared.tag.Span.{Span}
 use Rattle.reader.specs.declared.tag.Tag.{Tag as TagPlaces}
 use Rattle.reader.specs.declared.line.TagReading.the-variants.{Plain}
@@ -18,10 +18,12 @@ use Rattle.reader.specs.Tag.{cut}
 use Rattle.reader.specs.TagBytes.{goodName, goodValue}
 use Rattle.reader.specs.Lines.{lineKind, hasBrace, lastBrace}
 use Rattle.reader.specs.Words.{same}
-use Rattle.reader.specs.Plain.{TagPair, PlainCall, PlainAuction, PlainBoard, plainList, withoutReturns, goodDirective, goodBlock}
+use Rattle.reader.specs.Records.{recordsOf}
+use Rattle.reader.specs.Plain.{TagPair, PlainCall, PlainAuction, PlainBoard, plainOf, plainBoards, plainList, withoutReturns, goodDirective, goodBlock}
 use Rattle.writer.specs.Tags.{WrittenTag, writtenTags}
 use Rattle.writer.specs.Remarks.{Anchored, directivesOf, blocksOf, those, isLeading, isUnder, wrote, isLost, Line, tagLine, dataLine, directiveLine, blockLine, linesText, leadingLines}
-use Rattle.writer.specs.Pages.{ownPlay, bodyText, firstPart}
+use Rattle.writer.specs.Pages.{ownPlay, bodyText, firstPart, writtenText}
+use Rattle.writer.specs.Given.{finishedBoards, finishedText}
 
 -- ---- what can be written
 
@@ -200,3 +202,21 @@ builtInBack t (l ∷ ls) = []
 abbrev pub pageBack : Texts → Conventions → List PlainBoard → List (List Place)
 pageBack t c [] = []
 pageBack t c (b ∷ bs) = (builtInBack t (leadingLines b) ++ remarksBack t c b) ∷ map (remarksBack t c) bs
+
+-- ---- a written edition reads back: written with letters that are allowed, and read with any
+
+-- THEOREM (proofs/PageBack.antt). What an edition is written as is read with as many boards as the edition.
+abbrev pub WrittenCount : Type 0
+WrittenCount = (c : Conventions) → Accepted c → (text : List ℕ) → length (recordsOf (writtenText c text)) ≡ length (recordsOf text)
+
+-- THEOREM (proofs/WrittenTagsBack.antt). Each of its boards is read with the tags that were written, in their order.
+abbrev pub EditionTags : Type 0
+EditionTags =
+    (c d : Conventions) → Accepted c → (text : List ℕ)
+    → map (λ r. plainOf d r .tags) (recordsOf (writtenText c text)) ≡ map (tagsAsWritten c) (plainBoards c text)
+
+-- THEOREM (proofs/WrittenTagsBack.antt). So is each board of what a new edition is finished as.
+abbrev pub FinishedTags : Type 0
+FinishedTags =
+    (c d : Conventions) → Accepted c → (old new answers : List ℕ)
+    → map (λ r. plainOf d r .tags) (recordsOf (finishedText c old new answers)) ≡ map (tagsAsWritten c) (finishedBoards c old new answers)
