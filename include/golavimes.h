@@ -6,18 +6,18 @@
  * answer means. Here are
  *   - reading: golavimes_read;
  *   - writing, an edition read and written again with every comment beside its
- *     tag: golavimes_write;
+ *     tag, or at its board's end: golavimes_write;
  *   - planning, what is left to be solved in a new edition when an old one is
  *     at hand: golavimes_plan, golavimes_boards, golavimes_state,
  *     golavimes_record_behind;
- *   - finishing, the new edition written with a table for every deal:
+ *   - finishing, the new edition written with a table for every whole deal:
  *     golavimes_finish;
  *   - tables: five functions on double-dummy tables.
  *
  * Every function
  *   - returns the refusal number, 0 for none, and puts it into answer[0] too;
- *   - takes any bytes and any lengths: bad input is refused and is never a
- *     fault;
+ *   - takes any bytes and any lengths: no input is a fault, and each function
+ *     says below what it refuses;
  *   - reads only what it is lent to read and what it has written itself, writes
  *     only what it is lent to be written, and all of that, whatever stood there
  *     before;
