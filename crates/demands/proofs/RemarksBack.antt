@@ -25,7 +25,7 @@ use Rattle.writer.specs.Tags.{WrittenTag, writtenTags}
 use Rattle.writer.specs.Remarks.{Anchored, nameAt, anchorOf, anchoredFrom, directivesOf, blocksOf, those, isLeading, isLost, isUnder, wrote, Line, tagLine, dataLine, directiveLine, blockLine, directiveLines, blockLines, directivesAfter, blocksAfter, tagsLines, leadingLines, bodyLines, lineText, linesText}
 use Rattle.writer.specs.Pages.{ownPlay, bodyText, firstPart, pageText, writtenText}
 use Rattle.writer.specs.Given.{finishedBoards, finishedText}
-use Rattle.demands.specs.PageBack.{all, goodLine, isSigned, Shut, last, more, upToBrace, ReadsAs, tag, section, directive, comment, block, AllWritable, all-none, all-one, ownText, recordsAfter, tagsAsWritten, Place, placeOf, Texts, asDirectives, asBlocks, blockText, commentText, under, allUnder, underTags, lastName, readBack, remarksBack, builtInBack, pageBack}
+use Rattle.demands.specs.PageBack.{all, goodLine, isSigned, Shut, last, more, upToBrace, ReadsAs, tag, section, directive, comment, block, AllWritable, all-none, all-one, ownText, recordsAfter, tagsAsWritten, Place, placeOf, Texts, asDirectives, asBlocks, blockText, commentText, under, allUnder, underTags, lastName, readBack, remarksBack, builtInBack, pageBack, RemarksRead, EditionRemarks, FinishedRemarks}
 use Rattle.reader.proofs.LineTags.{lineTags, lineDirectives, directivesOfLines, DirectivesOfLines, blockOn, innerBlock, lineBlocks, blockAfter, blocksOfLines, BlocksOfLines}
 use Rattle.demands.proofs.LineBack.{wrong, LineBack}
 use Rattle.demands.proofs.PageWalk.{GoodLines, line-then, headerLines, header-lines, header-good}
@@ -413,27 +413,19 @@ blocks-placed : (d : Conventions) (r : List ℕ) → map placeOf (blocksOf (plai
 unfolding blocksOf
 blocks-placed d r = anchored-places (plainOf d r .tags) 0 (plainOf d r .blocks) ∙ rw (BlocksOfLines d r)
 
--- What the remarks of a text, read with the letters d, are: those of the boards bs as they are written with the letters c.
-pub record RemarksRead (c d : Conventions) (text : List ℕ) (bs : List PlainBoard) : Type 0 where
-  -- Of each record the directives of its board that start with `;` or `%`: the same bytes; before any tag where they stood so, under the
-  -- same name where a tag of that name is written, else under the last written tag.
-  pub directives : map (λ r. map placeOf (directivesOf (plainOf d r))) (recordsOf text) ≡ pageBack asDirectives c bs
-  -- The blocks of its board, and its directives in braces, likewise.
-  pub blocks : map (λ r. map placeOf (blocksOf (plainOf d r))) (recordsOf text) ≡ pageBack asBlocks c bs
-
--- THEOREM. A page has the remarks of its boards, what an edition is written as those of the edition, and what a new edition is finished
--- as those of the finished boards.
-pub PageRemarks : (c d : Conventions) → Accepted c → (bs : List PlainBoard) → AllWritable bs → RemarksRead c d (pageText c bs) bs
-PageRemarks c d ok bs w = record {
+-- A page has the remarks of its boards.
+page-remarks : (c d : Conventions) → Accepted c → (bs : List PlainBoard) → AllWritable bs → RemarksRead c d (pageText c bs) bs
+page-remarks c d ok bs w = record {
   directives = read-back asDirectives (directivesOfLines false) directives-read c d ok bs w directivesOf (directives-placed d);
   blocks = read-back asBlocks blocksRead blocks-read c d ok bs w blocksOf (blocks-placed d);
 }
 
-pub EditionRemarks : (c d : Conventions) → Accepted c → (text : List ℕ) → RemarksRead c d (writtenText c text) (plainBoards c text)
+-- THEOREM.
+pub edition-remarks : EditionRemarks
 unfolding writtenText plainBoards
-EditionRemarks c d ok text = PageRemarks c d ok (plainBoards c text) (all-plain c (recordsOf text))
+edition-remarks c d ok text = page-remarks c d ok (plainBoards c text) (all-plain c (recordsOf text))
 
-pub FinishedRemarks : (c d : Conventions) → Accepted c → (old new answers : List ℕ)
-    → RemarksRead c d (finishedText c old new answers) (finishedBoards c old new answers)
+-- THEOREM.
+pub finished-remarks : FinishedRemarks
 unfolding finishedText
-FinishedRemarks c d ok old new answers = PageRemarks c d ok (finishedBoards c old new answers) (all-finished c old new answers)
+finished-remarks c d ok old new answers = page-remarks c d ok (finishedBoards c old new answers) (all-finished c old new answers)

@@ -220,3 +220,20 @@ abbrev pub FinishedTags : Type 0
 FinishedTags =
     (c d : Conventions) → Accepted c → (old new answers : List ℕ)
     → map (λ r. plainOf d r .tags) (recordsOf (finishedText c old new answers)) ≡ map (tagsAsWritten c) (finishedBoards c old new answers)
+
+-- What the remarks of a text, read with the letters d, are: those of the boards bs as they are written with the letters c.
+pub record RemarksRead (c d : Conventions) (text : List ℕ) (bs : List PlainBoard) : Type 0 where
+  -- Of each record the directives of its board that start with `;` or `%`: the same bytes; before any tag where they stood so, under the
+  -- same name where a tag of that name is written, else under the last written tag.
+  pub directives : map (λ r. map placeOf (directivesOf (plainOf d r))) (recordsOf text) ≡ pageBack asDirectives c bs
+  -- The blocks of its board, and its directives in braces, likewise.
+  pub blocks : map (λ r. map placeOf (blocksOf (plainOf d r))) (recordsOf text) ≡ pageBack asBlocks c bs
+
+-- THEOREM (proofs/RemarksBack.antt). What an edition is written as has the remarks of the edition.
+abbrev pub EditionRemarks : Type 0
+EditionRemarks = (c d : Conventions) → Accepted c → (text : List ℕ) → RemarksRead c d (writtenText c text) (plainBoards c text)
+
+-- THEOREM (proofs/RemarksBack.antt). What a new edition is finished as has those of the finished boards.
+abbrev pub FinishedRemarks : Type 0
+FinishedRemarks =
+    (c d : Conventions) → Accepted c → (old new answers : List ℕ) → RemarksRead c d (finishedText c old new answers) (finishedBoards c old new answers)
