@@ -3,7 +3,8 @@ ghost use mathlib.Core.Path.{_≡_};
 ghost use mathlib.Core.Bool.{cond};
 ghost use Prim.Native.Nat.{_+_, _-_, _*_, _≤_, _<_, _^_};
 ghost use lib.ListN.{length};
-ghost use Rattle.reader.specs.Pieces.{Emits};
+ghost use Rattle.reader.specs.Store.{put, entryWords};
+ghost use Rattle.reader.specs.Pieces.{Emits, entry};
 ghost use Rattle.tables.specs.Text.{isWhite};
 ghost use Rattle.tables.specs.Letters.{every};
 ghost use Rattle.reader.specs.Tag.{TagInside, cut};
@@ -226,6 +227,24 @@ fn placed_span(p: usize, d: Span) -> Span
     }
 }
 
+// Stores the part d of the line at p as the n-th entry, with a mark.
+fn put_part(entries: &mut [u32], n: usize, a: usize, kind: usize, p: usize, d: Span, mark: usize)
+    requires { ⌜ a + p + d .start < 2 ^ 63 ⌝ }
+    ensures { λ _. ⌜ now (entries .exit) ≡ put 4 (now (entries .entry)) n (entryWords a (entry kind (p + d .start) (d .len) mark)) ⌝ }
+{
+    put_entry(
+        entries,
+        n,
+        a,
+        Entry {
+            kind,
+            x: p + d.start,
+            y: d.len,
+            z: mark,
+        },
+    );
+}
+
 // A tag, once sections are closed: its name and value, and what its value does.
 fn tag_step(
     c: Conventions,
@@ -244,28 +263,8 @@ fn tag_step(
     let name = tag.name;
     let value = tag.value;
     let n = base + s.n;
-    put_entry(
-        entries,
-        n,
-        a,
-        Entry {
-            kind: 1,
-            x: p + name.start,
-            y: name.len,
-            z: 0,
-        },
-    );
-    put_entry(
-        entries,
-        n + 1,
-        a,
-        Entry {
-            kind: 2,
-            x: p + value.start,
-            y: value.len,
-            z: 0,
-        },
-    );
+    put_part(entries, n, a, 1, p, name, 0);
+    put_part(entries, n + 1, a, 2, p, value, 0);
     let k = tag_number(cut_span(l, name));
     let v = cut_span(l, value);
     State {
@@ -305,17 +304,7 @@ fn put_data(kind: usize, p: usize, d: Span, a: usize, n: usize, entries: &mut [u
     if kind == 0 {
         return 0;
     }
-    put_entry(
-        entries,
-        n,
-        a,
-        Entry {
-            kind: 5,
-            x: p + d.start,
-            y: d.len,
-            z: kind,
-        },
-    );
+    put_part(entries, n, a, 5, p, d, kind);
     1
 }
 
