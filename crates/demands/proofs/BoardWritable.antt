@@ -37,7 +37,7 @@ use Rattle.reader.proofs.PlainRemarks.{PlainDirectives, PlainBlocks}
 use Rattle.reader.proofs.PlainCalls.{CallWritable, PlainCalls}
 use Rattle.writer.specs.Sections.{spaced, endLines, callText, rounds, endsContinued, auctionLines, afterColon, isNumber, noteIn, later, noteAt, noteValue, notesFrom, noteValues, inSlot, trickCards, cardsLines, tricksLines, playLines}
 use Rattle.writer.specs.Tags.{WrittenTag, tagOf, orEmpty, ifThere, seatText, vulnerability, resultText, firstSeat, dealValue, isNamed, named, firstValue, isExtra, extrasFrom, untilDeal, sinceDeal, beforeDeal, fromDeal, earlyExtras, lateExtras, dealerTags, headTags, tableTags, dealTags, noteTag, auctionTags, playTags, writtenTags}
-use Rattle.writer.specs.Remarks.{Anchored, anchoredFrom, directivesOf, blocksOf, those, isLeading, isUnder, isLost, wrote, dataLine, directiveLine, blockLine, directiveLines, blockLines, directivesAfter, blocksAfter, tagsLines, leadingLines, bodyLines}
+use Rattle.writer.specs.Remarks.{Anchored, anchoredFrom, directivesOf, blocksOf, those, isLeading, isUnder, tagUnwritten, wrote, dataLine, directiveLine, blockLine, directiveLines, blockLines, directivesAfter, blocksAfter, tagsLines, leadingLines, bodyLines}
 use Rattle.writer.specs.Pages.{ownPlay}
 use Rattle.demands.specs.PageBack.{all, isTrimmed, goodTag, goodIfThere, goodCall, callsOf, Writable, startsData, goodData, goodLine}
 use Rattle.demands.proofs.TrimmedDirectives.{all-append, PlainTrimmed}
@@ -631,5 +631,5 @@ LinesGood c ok b w =
       body-good =
           all-append goodLine (blockLines (those isLeading ks)) _ (blocks-lined ds ks dg kg isLeading)
           (all-append goodLine (tagsLines ds ks [] ws) _ (tags-lined ds ks dg kg [] ws (TagsWritable c ok b (ownPlay c (b .play)) w (play-data c ok (b .play))))
-          (all-append goodLine (blockLines (those (isLost ws) ks)) _ (blocks-lined ds ks dg kg (isLost ws)) (directives-lined ds ks dg kg (isLost ws))));
+          (all-append goodLine (blockLines (those (tagUnwritten ws) ks)) _ (blocks-lined ds ks dg kg (tagUnwritten ws)) (directives-lined ds ks dg kg (tagUnwritten ws))));
     }

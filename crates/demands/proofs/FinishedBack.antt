@@ -25,11 +25,11 @@ use Rattle.reader.proofs.PlainBounds.{PlainBounds}
 use Rattle.reader.proofs.CardKept.{CardKept}
 use Rattle.planning.specs.declared.state.BoardState.{BoardState}
 use Rattle.planning.specs.declared.state.BoardState.the-variants.{Blank, Own, Old, Near, Twin, Solve}
-use Rattle.planning.specs.Cards.{dealOf, handsOf, isWhole, hasTable}
-use Rattle.planning.specs.States.{Judged, stateOf, stateNumber, judgedFrom, judged, boardFrom, stateIn}
+use Rattle.planning.specs.Cards.{cardDeal, handsOf, isWhole, hasTable}
+use Rattle.planning.specs.States.{BoardPlan, stateOf, stateNumber, boardPlansFrom, boardPlans, planFrom, stateIn}
 use Rattle.planning.specs.Slips.{cardAt}
-use Rattle.planning.specs.Plans.{boardsOf}
-use Rattle.planning.proofs.BoardLaws.{judged-count}
+use Rattle.planning.specs.Plans.{plansOf}
+use Rattle.planning.proofs.BoardLaws.{plans-count}
 use Rattle.planning.proofs.StateLaws.{reach, state-reach}
 use Rattle.writer.specs.Pages.{pageText, writtenText}
 use Rattle.writer.specs.Given.{slipIndex, answerAt, cellsOf, ownTable, tableFor, tableOf, withTable, withTables, tablesOf, finishedBoards, finishedText}
@@ -93,7 +93,7 @@ record Sources (olds news : List (List ℕ)) (answers : List ℕ) : Type 0 where
   of-new : All CellsTwenty news
   of-answers : every (λ n. leb n 13) answers ≡ true
 
-module _ (olds news : List (List ℕ)) (js : List Judged) (answers : List ℕ) (s : Sources olds news answers) where
+module _ (olds news : List (List ℕ)) (js : List BoardPlan) (answers : List ℕ) (s : Sources olds news answers) where
   for-twenty : (p : ℕ) (card : List ℕ) → Twenty (cellsOf card) → (state : BoardState) → reach (length olds) (length news) state
       → Twenty (tableFor olds news js answers p card state .cells)
   for-twenty p card w Blank r = w
@@ -104,7 +104,7 @@ module _ (olds news : List (List ℕ)) (js : List Judged) (answers : List ℕ) (
   for-twenty p card w Solve r = answer-twenty answers (s .of-answers) (slipIndex js p)
 
   all-twenty : (p : ℕ) (earlier xs : List (List ℕ)) → All CellsTwenty xs → length earlier + length xs ≤ length news
-      → All TableTwenty (map (tableOf olds news js answers) (judgedFrom olds news p earlier xs))
+      → All TableTwenty (map (tableOf olds news js answers) (boardPlansFrom olds news p earlier xs))
   unfolding tableOf
   all-twenty p earlier [] none l = none
   all-twenty p earlier (x ∷ xs) (one w a) l =
@@ -114,17 +114,17 @@ module _ (olds news : List (List ℕ)) (js : List Judged) (answers : List ℕ) (
 
 tables-twenty : (c : Conventions) (old new answers : List ℕ) → every (λ n. leb n 13) answers ≡ true
     → All TableTwenty (tablesOf c old new answers)
-unfolding tablesOf judged
+unfolding tablesOf boardPlans
 tables-twenty c old new answers e =
-    all-twenty (cardsOf c old) (cardsOf c new) (boardsOf c old new) answers
+    all-twenty (cardsOf c old) (cardsOf c new) (plansOf c old new) answers
     (record { of-old = edition-twenty c old; of-new = edition-twenty c new; of-answers = e })
     1 [] (cardsOf c new) (edition-twenty c new) (omega arith)
 
 tables-count : (c : Conventions) (old new answers : List ℕ) → length (tablesOf c old new answers) ≡ length (recordsOf new)
-unfolding tablesOf judged cardsOf
+unfolding tablesOf boardPlans cardsOf
 tables-count c old new answers =
-    length-map (boardsOf c old new) (tableOf (cardsOf c old) (cardsOf c new) (boardsOf c old new) answers)
-    ∙ judged-count (cardsOf c old) (cardsOf c new) 1 [] (cardsOf c new)
+    length-map (plansOf c old new) (tableOf (cardsOf c old) (cardsOf c new) (plansOf c old new) answers)
+    ∙ plans-count (cardsOf c old) (cardsOf c new) 1 [] (cardsOf c new)
     ∙ cards-few c 0 0 (recordsOf new)
 
 -- ---- boards with other tables
@@ -150,11 +150,11 @@ with-deal c t b k =
 -- ---- cards
 
 card-whole : (x : List ℕ) (p : PlainBoard) → OnCard x p → isWhole x ≡ wholeDeal (p .deal)
-unfolding isWhole dealOf
+unfolding isWhole cardDeal
 card-whole x p h = rw (h .word-9, h .words-10)
 
 card-hands : (x : List ℕ) (p : PlainBoard) → OnCard x p → handsOf x ≡ handsOfWords (p .deal .words)
-unfolding dealOf
+unfolding cardDeal
 card-hands x p h = ap handsOfWords (h .words-10)
 
 card-table : (x : List ℕ) (p : PlainBoard) → OnCard x p → hasTable x ≡ not (eqb (p .table .kind) 0)
@@ -225,7 +225,7 @@ own-table : (c : Conventions) (a n : ℕ) (r : List ℕ) → withTable (ownTable
 unfolding withTable
 own-table c a n r = rw (CardKept c a n r .words-18, CardKept c a n r .word-38)
 
-own-for : (olds news : List (List ℕ)) (js : List Judged) (answers : List ℕ) (p : ℕ) (card : List ℕ) (s : BoardState) → stateNumber s < 2
+own-for : (olds news : List (List ℕ)) (js : List BoardPlan) (answers : List ℕ) (p : ℕ) (card : List ℕ) (s : BoardState) → stateNumber s < 2
     → tableFor olds news js answers p card s ≡ ownTable card
 own-for olds news js answers p card Blank h = refl
 own-for olds news js answers p card Own h = refl
@@ -234,10 +234,10 @@ own-for olds news js answers p card (Near k) h = absurd (omega arith)
 own-for olds news js answers p card (Twin k) h = absurd (omega arith)
 own-for olds news js answers p card Solve h = absurd (omega arith)
 
-module _ (c : Conventions) (olds news : List (List ℕ)) (js : List Judged) (answers : List ℕ) where
+module _ (c : Conventions) (olds news : List (List ℕ)) (js : List BoardPlan) (answers : List ℕ) where
   own-tables : (p : ℕ) (earlier : List (List ℕ)) (a n : ℕ) (rs : List (List ℕ))
-      → ((k : ℕ) → stateNumber (stateIn (boardFrom (judgedFrom olds news p earlier (cardsFrom c a n rs)) k)) < 2)
-      → withTables (map (tableOf olds news js answers) (judgedFrom olds news p earlier (cardsFrom c a n rs))) (map (plainOf c) rs)
+      → ((k : ℕ) → stateNumber (stateIn (planFrom (boardPlansFrom olds news p earlier (cardsFrom c a n rs)) k)) < 2)
+      → withTables (map (tableOf olds news js answers) (boardPlansFrom olds news p earlier (cardsFrom c a n rs))) (map (plainOf c) rs)
       ≡ map (plainOf c) rs
   unfolding tableOf
   own-tables p earlier a n [] h = refl
@@ -249,6 +249,6 @@ module _ (c : Conventions) (olds news : List (List ℕ)) (js : List Judged) (ans
 
 -- THEOREM. Where no board wants a table the finished edition is what the new one is written as.
 pub none-wanted : NoneWanted
-unfolding finishedText finishedBoards writtenText plainBoards tablesOf judged cardsOf
+unfolding finishedText finishedBoards writtenText plainBoards tablesOf boardPlans cardsOf
 none-wanted c old new answers h =
-    ap (pageText c) (own-tables c (cardsOf c old) (cardsOf c new) (boardsOf c old new) answers 1 [] 0 0 (recordsOf new) (λ k. h (suc k)))
+    ap (pageText c) (own-tables c (cardsOf c old) (cardsOf c new) (plansOf c old new) answers 1 [] 0 0 (recordsOf new) (λ k. h (suc k)))

@@ -15,9 +15,9 @@ use Rattle.reader.specs.Editions.{cardsOf}
 use Rattle.planning.specs.declared.state.BoardState.{BoardState}
 use Rattle.planning.specs.declared.state.BoardState.the-variants.{Blank, Own, Old, Near, Twin, Solve}
 use Rattle.planning.specs.Cards.{handsOf, isWhole, hasTable, cardHere}
-use Rattle.planning.specs.States.{Judged, judgedFrom, judged, boardFrom, stateIn, stateAt, stateNumber, fromOf}
+use Rattle.planning.specs.States.{BoardPlan, boardPlansFrom, boardPlans, planFrom, stateIn, stateAt, stateNumber, fromOf}
 use Rattle.planning.specs.Slips.{countOf, slipsOf, cardFrom}
-use Rattle.planning.specs.Plans.{boardsOf}
+use Rattle.planning.specs.Plans.{plansOf}
 use Rattle.planning.specs.Demands.{StateIs}
 use Rattle.planning.proofs.FoundLaws.{take-card}
 use Rattle.writer.specs.Given.{cellsOf, ownTable, tableFor, tableOf, tablesOf}
@@ -30,9 +30,9 @@ use Rattle.demands.proofs.FinishedSlips.{slip-answers}
 
 -- ---- the table of a position
 
-table-from : (f : Judged → TableCard) (olds news : List (List ℕ)) (p : ℕ) (earlier xs : List (List ℕ)) (i : ℕ) (d : TableCard)
-    → i < length xs → getD (map f (judgedFrom olds news p earlier xs)) i d
-    ≡ f (record { position = p + i; card = cardFrom xs i; state = stateIn (boardFrom (judgedFrom olds news p earlier xs) i) })
+table-from : (f : BoardPlan → TableCard) (olds news : List (List ℕ)) (p : ℕ) (earlier xs : List (List ℕ)) (i : ℕ) (d : TableCard)
+    → i < length xs → getD (map f (boardPlansFrom olds news p earlier xs)) i d
+    ≡ f (record { position = p + i; card = cardFrom xs i; state = stateIn (planFrom (boardPlansFrom olds news p earlier xs) i) })
 table-from f olds news p earlier [] i d h = absurd (omega arith)
 table-from f olds news p earlier (x ∷ xs) zero d h = let n : p + 0 ≡ p = omega arith in rw n
 table-from f olds news p earlier (x ∷ xs) (suc i) d h =
@@ -42,16 +42,16 @@ table-from f olds news p earlier (x ∷ xs) (suc i) d h =
 -- The table of the board number k, from 0.
 abbrev pub tableHere : Conventions → List ℕ → List ℕ → List ℕ → ℕ → BoardState → TableCard
 tableHere c old new answers k s =
-    tableFor (cardsOf c old) (cardsOf c new) (boardsOf c old new) answers (suc k) (cardFrom (cardsOf c new) k) s
+    tableFor (cardsOf c old) (cardsOf c new) (plansOf c old new) answers (suc k) (cardFrom (cardsOf c new) k) s
 
 pub table-at : (c : Conventions) (old new answers : List ℕ) (k : ℕ) → k < length (cardsOf c new)
-    → getD (tablesOf c old new answers) k noTable ≡ tableHere c old new answers k (stateAt (boardsOf c old new) (suc k))
-unfolding tablesOf tableOf judged
+    → getD (tablesOf c old new answers) k noTable ≡ tableHere c old new answers k (stateAt (plansOf c old new) (suc k))
+unfolding tablesOf tableOf boardPlans
 table-at c old new answers k h =
     let olds = cardsOf c old in
     let news = cardsOf c new in
     let n : 1 + k ≡ suc k = omega arith in
-    rw n at (table-from (tableOf olds news (judged olds news) answers) olds news 1 [] news k noTable h)
+    rw n at (table-from (tableOf olds news (boardPlans olds news) answers) olds news 1 [] news k noTable h)
 
 -- ---- by its state
 
@@ -63,10 +63,10 @@ module _ (c : Conventions) (old new answers : List ℕ) (k : ℕ) (below : k < l
   IsAs s = StateIs (cardsOf c old) (cardsOf c new) (take k (cardsOf c new)) card s
 
   -- What the state says of the board, and what says it.
-  pub says : (s : BoardState) → stateAt (boardsOf c old new) (suc k) ≡ s → IsAs s
+  pub says : (s : BoardState) → stateAt (plansOf c old new) (suc k) ≡ s → IsAs s
   says s e = let n : suc k - 1 ≡ k = omega arith in rw n at (states-mean c old new (suc k) (omega arith) (omega arith) s .0 e)
 
-  own-state : isWhole card ≡ true → hasTable card ≡ true → stateAt (boardsOf c old new) (suc k) ≡ Own
+  own-state : isWhole card ≡ true → hasTable card ≡ true → stateAt (plansOf c old new) (suc k) ≡ Own
   own-state w t = states-mean c old new (suc k) (omega arith) (omega arith) Own .1 (w, t)
 
   -- A whole board gets a table.
@@ -81,7 +81,7 @@ module _ (c : Conventions) (old new answers : List ℕ) (k : ℕ) (below : k < l
 
   pub whole-kind : isWhole card ≡ true → getD (tablesOf c old new answers) k noTable .kind ≡ 0 → ⊥
   whole-kind w z =
-      let s = stateAt (boardsOf c old new) (suc k) in
+      let s = stateAt (plansOf c old new) (suc k) in
       kind-of s (says s refl) w (sym (ap (λ (t : TableCard). t .kind) (table-at c old new answers k below)) ∙ z)
 
   -- A board with a table keeps its cells.
@@ -108,19 +108,19 @@ module _ (c : Conventions) (old new answers : List ℕ) (k : ℕ) (below : k < l
   module _ (old-cards new-cards slips : List ℕ) (n : ℕ)
       (olds-are : (j : ℕ) → j < boardsIn c old → cardHere j old-cards ≡ cardFrom (cardsOf c old) j)
       (news-are : (j : ℕ) → j < boardsIn c new → cardHere j new-cards ≡ cardFrom (cardsOf c new) j)
-      (twenty : length answers ≡ 20 * countOf 5 (boardsOf c old new))
-      (are : slips ≡ padded n (flat (slipsOf (boardsOf c old new)))) where
+      (twenty : length answers ≡ 20 * countOf 5 (plansOf c old new))
+      (are : slips ≡ padded n (flat (slipsOf (plansOf c old new)))) where
     abbrev Cells : BoardState → Type 0
     Cells s =
-        CellsFrom (handsOf card) card old-cards new-cards (countOf 5 (boardsOf c old new)) slips answers
+        CellsFrom (handsOf card) card old-cards new-cards (countOf 5 (plansOf c old new)) slips answers
         (stateNumber s) (fromOf s) (tableHere c old new answers k s .cells)
 
-    from-slip : (j : ℕ) → j < length (cardsOf c new) → stateAt (boardsOf c old new) (suc j) ≡ Solve
-        → AnswersOf (handsOf (cardFrom (cardsOf c new) j)) (countOf 5 (boardsOf c old new)) slips answers
+    from-slip : (j : ℕ) → j < length (cardsOf c new) → stateAt (plansOf c old new) (suc j) ≡ Solve
+        → AnswersOf (handsOf (cardFrom (cardsOf c new) j)) (countOf 5 (plansOf c old new)) slips answers
         (tableHere c old new answers j Solve .cells)
     from-slip j l e = slip-answers (cardsOf c old) (cardsOf c new) answers slips n twenty are j l e
 
-    cells-of : (s : BoardState) → stateAt (boardsOf c old new) (suc k) ≡ s → IsAs s → isWhole card ≡ true → Cells s
+    cells-of : (s : BoardState) → stateAt (plansOf c old new) (suc k) ≡ s → IsAs s → isWhole card ≡ true → Cells s
     cells-of Blank q e w = clash (sym e ∙ w)
     cells-of Own q e w = cells.own refl refl
     cells-of (Old zero) q e w = absurd (omega (arith, e .1 .from-one))
@@ -143,9 +143,9 @@ module _ (c : Conventions) (old new answers : List ℕ) (k : ℕ) (below : k < l
 
     -- Where its cells come from.
     pub cells-from : isWhole card ≡ true
-        → CellsFrom (handsOf card) card old-cards new-cards (countOf 5 (boardsOf c old new)) slips answers
-        (stateNumber (stateAt (boardsOf c old new) (suc k))) (fromOf (stateAt (boardsOf c old new) (suc k)))
+        → CellsFrom (handsOf card) card old-cards new-cards (countOf 5 (plansOf c old new)) slips answers
+        (stateNumber (stateAt (plansOf c old new) (suc k))) (fromOf (stateAt (plansOf c old new) (suc k)))
         (getD (tablesOf c old new answers) k noTable .cells)
     cells-from w =
-        let s = stateAt (boardsOf c old new) (suc k) in
+        let s = stateAt (plansOf c old new) (suc k) in
         rw (table-at c old new answers k below) (cells-of s refl (says s refl) w)

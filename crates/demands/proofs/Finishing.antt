@@ -20,9 +20,9 @@ use Rattle.planning.specs.declared.editions.Editions.the-variants.{Both}
 use Rattle.planning.specs.declared.editions.Editions.the-variants as editions
 use Rattle.planning.specs.declared.plan.Totals.{Totals}
 use Rattle.planning.specs.Cards.{isWhole, hasTable, cardHere}
-use Rattle.planning.specs.States.{Judged, stateNumber, fromOf, stateAt}
+use Rattle.planning.specs.States.{BoardPlan, stateNumber, fromOf, stateAt}
 use Rattle.planning.specs.Slips.{slipsOf, countOf, cardFrom}
-use Rattle.planning.specs.Plans.{Boxes, editionsOf, areBoth, boardsOf, BoxesAfter, stateBy}
+use Rattle.planning.specs.Plans.{Boxes, editionsOf, areBoth, plansOf, BoxesAfter, stateBy}
 use Rattle.planning.specs.Demands.{Among, WithDeal, Tabled, Some, slipHere}
 use Rattle.planning.proofs.AnswerLaws.{solve-sum}
 use Rattle.planning.proofs.CardLaws.{CardsHanded}
@@ -129,8 +129,8 @@ done c old new boxes answers page boxes′ page′ answer′ o =
 
 -- As many slips as boards to solve, and zeros behind them.
 record Slipped (c : Conventions) (old new slips slips′ answer′ : List ℕ) : Type 0 where
-  solve-is : getD answer′ 9 0 ≡ countOf 5 (boardsOf c old new)
-  slips-are : slips′ ≡ padded (length slips) (flat (slipsOf (boardsOf c old new)))
+  solve-is : getD answer′ 9 0 ≡ countOf 5 (plansOf c old new)
+  slips-are : slips′ ≡ padded (length slips) (flat (slipsOf (plansOf c old new)))
 
 slipped : (c : Conventions) (old new : List ℕ) (boxes : Boxes) (slips : List ℕ) (boxes′ : Boxes) (slips′ answer′ : List ℕ)
     → PlanOut c old new boxes slips boxes′ slips′ answer′ 0 → Slipped c old new slips slips′ answer′
@@ -138,11 +138,11 @@ slipped c old new boxes slips boxes′ slips′ answer′ o =
     let p = promised c old new boxes slips boxes′ slips′ answer′ o in
     let t = told c old new boxes slips boxes′ slips′ (p .totals) (p .planned) .totals in
     record {
-      solve-is = p .solve-told ∙ ap (λ (u : Totals). u .solve) t ∙ solve-sum (boardsOf c old new);
+      solve-is = p .solve-told ∙ ap (λ (u : Totals). u .solve) t ∙ solve-sum (plansOf c old new);
       slips-are = p .planned .slips-after;
     }
 
-state-told : (e : Editions) (js : List Judged) (p : ℕ) (answer : List ℕ) → answer ≡ stateNumbers e (stateBy e js p) → 0 ≡ getD answer 0 0
+state-told : (e : Editions) (js : List BoardPlan) (p : ℕ) (answer : List ℕ) → answer ≡ stateNumbers e (stateBy e js p) → 0 ≡ getD answer 0 0
     → (getD answer 3 0 ≡ stateNumber (stateAt js p)) × (getD answer 4 0 ≡ fromOf (stateAt js p))
 state-told (Both m n) js p answer e z = rw e (refl, refl)
 state-told (editions.Refused (Old f)) js p answer e z = absurd (read-number f (sym (rw e at z)))
@@ -190,10 +190,10 @@ module _ (c : Conventions) (old new answers finished : List ℕ) (e : FinishedEd
   board-finished : (old-cards new-cards slips : List ℕ) (n : ℕ)
       → ((j : ℕ) → j < length (cardsOf c old) → cardHere j old-cards ≡ cardFrom (cardsOf c old) j)
       → ((j : ℕ) → j < length (cardsOf c new) → cardHere j new-cards ≡ cardFrom (cardsOf c new) j)
-      → length answers ≡ 20 * countOf 5 (boardsOf c old new)
-      → slips ≡ padded n (flat (slipsOf (boardsOf c old new)))
+      → length answers ≡ 20 * countOf 5 (plansOf c old new)
+      → slips ≡ padded n (flat (slipsOf (plansOf c old new)))
       → (k : ℕ) → k < length (cardsOf c new)
-      → FinishedAt c old new old-cards new-cards (countOf 5 (boardsOf c old new)) slips answers k
+      → FinishedAt c old new old-cards new-cards (countOf 5 (plansOf c old new)) slips answers k
       (cardFrom (cardsOf c new) k) (cardFrom (cardsOf c finished) k)
   board-finished old-cards new-cards slips n olds-are news-are twenty are k l =
       let f = e .each k l in
@@ -207,7 +207,7 @@ module _ (c : Conventions) (old new answers finished : List ℕ) (e : FinishedEd
             f .cells (whole-kind c old new answers k l (t .deal .whole)) ∙ own-cells c old new answers k l (t .deal .whole) (t .table);
         cells-from = λ h d boxes boxes′ answer′ o.
             let m : k + 1 ≡ suc k = omega arith in
-            let s = rw m at (state-told (editionsOf c old new boxes) (boardsOf c old new) (k + 1) answer′ (o .told) (o .returned)) in
+            let s = rw m at (state-told (editionsOf c old new boxes) (plansOf c old new) (k + 1) answer′ (o .told) (o .returned)) in
             rw (s .0, s .1, f .cells (whole-kind c old new answers k l (d .whole)), ← d .hands)
             (cells-from c old new answers k l old-cards new-cards slips n olds-are news-are twenty are (d .whole));
       }
@@ -216,9 +216,9 @@ module _ (c : Conventions) (old new answers finished : List ℕ) (e : FinishedEd
 
 -- Where every whole board of the new edition has a table no board is to be solved.
 none-to-solve : (c : Conventions) (old new : List ℕ) → ((x : List ℕ) → Among x (cardsOf c new) → isWhole x ≡ true → hasTable x ≡ true)
-    → countOf 5 (boardsOf c old new) ≡ 0
+    → countOf 5 (plansOf c old new) ≡ 0
 none-to-solve c old new all =
-    let js = boardsOf c old new in
+    let js = plansOf c old new in
     let slips = padded 0 (flat (slipsOf js)) in
     let l = all-listed (cardsOf c old) (cardsOf c new) (CardsHanded c old) (CardsHanded c new) (countOf 5 js) 0 slips refl refl in
     by-cases (ltb 0 (countOf 5 js))
@@ -232,7 +232,7 @@ lists-nothing : (c : Conventions) (old new : List ℕ) → ((x : List ℕ) → A
     → IsTaken c old (boxes .old-cards) (boxes .old-entries) → IsTaken c new (boxes .new-cards) (boxes .new-entries)
     → (r ≡ 0) × (getD answer′ 9 0 ≡ 0) × (slips′ ≡ replicate (length slips) 0)
 lists-nothing c old new all boxes slips boxes′ slips′ answer′ r o to tn =
-    let js = boardsOf c old new in
+    let js = plansOf c old new in
     let none = none-to-solve c old new all in
     let z : r ≡ 0 =
     planned-when-taken c old new boxes slips boxes′ slips′ answer′ r o .1
@@ -256,7 +256,7 @@ finished-right c a old new boxes answers page boxes′ page′ answer′ o lent 
     let d = done c old new boxes answers page boxes′ page′ answer′ o in
     let finished = finishedPart page′ answer′ in
     let e = edition c a old new boxes answers page′ answer′ d in
-    let js = boardsOf c old new in
+    let js = plansOf c old new in
     let p = slipped c old new lent slips lent′ slips′ plan po in
     let twenty : length answers ≡ 20 * countOf 5 js = d .answered .twenty-each ∙ ap (λ (n : ℕ). 20 * n) (solve-sum js) in
     let olds-are = cards-handed c old oc oe ho in
@@ -299,7 +299,7 @@ pub boxes-are : (c : Conventions) (well : Bool) (old new : List ℕ) (boxes : Bo
 boxes-are c well old new boxes = record { old-cards = refl; old-entries = refl; new-cards = refl; new-entries = refl }
 
 -- golavimes_state can be asked once both editions were taken.
-asked : (e : Editions) (js : List Judged) (p : ℕ) → areBoth e ≡ true
+asked : (e : Editions) (js : List BoardPlan) (p : ℕ) → areBoth e ≡ true
     → (0 ≡ getD (stateNumbers e (stateBy e js p)) 0 0) × (getD (stateNumbers e (stateBy e js p)) 3 0 ≡ stateNumber (stateAt js p))
 asked (Both m n) js p t = (refl, refl)
 asked (editions.Refused f) js p t = clash t
@@ -321,7 +321,7 @@ pub written-when-none-wanted : WrittenWhenNoneWanted
 written-when-none-wanted c old new boxes answers page boxes′ page′ answer′ o cards entries w-page cards′ entries′ w-page′ w-answer′ wo h =
     let d = done c old new boxes answers page boxes′ page′ answer′ o in
     let e = editionsOf c old new boxes in
-    let js = boardsOf c old new in
+    let js = plansOf c old new in
     let low : (p : ℕ) → stateNumber (stateAt js p) < 2 =
     λ p.
     let s = asked e js p (d .both-taken) in

@@ -22,7 +22,7 @@ use Rattle.planning.proofs.BoxLaws.{taken-fits}
 use Rattle.planning.proofs.BothLaws.{both-are-taken, taken-short}
 use Rattle.writer.specs.declared.write.Writing.the-variants.{Written}
 use Rattle.writer.specs.Pages.{writtenText}
-use Rattle.writer.specs.Writings.{writtenBy, writingOf, isOut}
+use Rattle.writer.specs.Writings.{writtenBy, writingOf, isWritten}
 use Rattle.writer.specs.Given.{finishedText}
 use Rattle.writer.specs.Finishings.{finishingOf, isFinished}
 use Rattle.golavimes.specs.Answers.{readingNumbers, writingNumbers, editionsHead, WritingOut, FinishOut}
@@ -140,7 +140,7 @@ write-held c text cards entries page cards′ entries′ page′ answer′ o =
     let t =
     writing-zero (writtenText c text) (length page) (readingOf c text (length cards) (length entries))
     (sym (ap (λ (l : List ℕ). getD l 0 0) (o .told)) ∙ sym (o .returned)) in
-    let out = ap isOut (t .1) in
+    let out = ap isWritten (t .1) in
     held c text cards′ entries′ (length cards) (length entries) (t .0)
     (o .lent-after .cards-after ∙ rw out) (o .lent-after .entries-after ∙ rw out)
 

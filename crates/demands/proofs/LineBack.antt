@@ -22,12 +22,12 @@ use Rattle.reader.specs.declared.line.TagReading.the-variants.{Plain, WithComme
 use Rattle.reader.specs.Tag.{cut, trimSpan, isComment, splitOf, tagLine as readTagLine}
 use Rattle.reader.specs.TagBytes.{TagBytes, tagBytes, readTag, goodName, goodValue, unclosed, tagText}
 use Rattle.reader.specs.Lines.{isBlank, hasBrace, lastBrace, kindBy, splitAs, splitLine, bracketAs, bracketLine, lineKind}
-use Rattle.reader.specs.Pieces.{glue, rawLines}
+use Rattle.reader.specs.Pieces.{joinLine, rawLines}
 use Rattle.reader.specs.Plain.{goodDirective, goodBlock}
 use Rattle.reader.proofs.WordLaws.{same-is, and-false}
 use Rattle.reader.proofs.Tags.{never, some-inj, keep-is, trim-whole, trail, TagStands, TagTrimmed}
 use Rattle.reader.proofs.TagsBack.{placesOf, Good, TagsBack}
-use Rattle.writer.specs.Remarks.{Line, tagLine, dataLine, directiveLine, blockLine, lineText}
+use Rattle.writer.specs.Remarks.{WrittenLine, tagLine, dataLine, directiveLine, blockLine, lineText}
 use Rattle.demands.specs.PageBack.{isTrimmed, startsData, goodData, goodLine, Shut, last, more, upToBrace, ReadsAs, tag, section, directive, comment, block}
 
 -- ---- bytes
@@ -222,7 +222,7 @@ inside-line x n =
     rw q (inside (last {l = l} (among-behind 125 x (125 ∷ 10 ∷ []) refl)) (rw (last-brace x, take-append-seam)))
 
 -- A byte that is no `}` in front.
-inside-byte : (b : ℕ) (v : List ℕ) (ls : List (List ℕ)) → eqb b 125 ≡ false → Inside v ls → Inside (b ∷ v) (glue false b ls)
+inside-byte : (b : ℕ) (v : List ℕ) (ls : List (List ℕ)) → eqb b 125 ≡ false → Inside v ls → Inside (b ∷ v) (joinLine false b ls)
 unfolding hasBrace
 inside-byte b v (l ∷ []) n (inside (last h) u) = inside (last {l = b ∷ l} (rw (n, h))) (rw n (ap (λ (x : List ℕ). b ∷ x) u))
 inside-byte b v (l ∷ m ∷ ms) n (inside (more h s) u) = inside (more {l = b ∷ l} (rw (n, h)) s) (ap (λ (x : List ℕ). b ∷ x) u)
@@ -245,11 +245,11 @@ inside-lines (b ∷ bs) e =
     inside-line (b ∷ bs) (rw (t, n)))
     (λ u. rw t (inside-byte b bs (rawLines (bs ++ 125 ∷ 10 ∷ [])) u (inside-lines bs (h .1)))))
 
-block-by : (i : ℕ) (v : List ℕ) (ls : List (List ℕ)) → Inside v ls → ReadsAs (blockLine i v) (glue false 123 ls)
+block-by : (i : ℕ) (v : List ℕ) (ls : List (List ℕ)) → Inside v ls → ReadsAs (blockLine i v) (joinLine false 123 ls)
 block-by i v (l ∷ ls) (inside s u) = block (brace-kind l) s u
 
 -- THEOREM. Each line that can be written, with its LF, reads as what it was written as.
-pub LineBack : (l : Line) → goodLine l ≡ true → ReadsAs l (rawLines (lineText l))
+pub LineBack : (l : WrittenLine) → goodLine l ≡ true → ReadsAs l (rawLines (lineText l))
 unfolding lineText
 LineBack (tagLine n v) e =
     let g = both (goodName n) (goodValue v) e in

@@ -23,12 +23,12 @@ use Rattle.planning.specs.declared.editions.Editions.{Editions}
 use Rattle.planning.specs.declared.editions.Editions.the-variants.{Both}
 use Rattle.planning.specs.declared.editions.Editions.the-variants as editions
 use Rattle.planning.specs.declared.plan.Totals.{Totals}
-use Rattle.planning.specs.declared.plan.Planned.the-variants.{Listed}
-use Rattle.planning.specs.Cards.{dealOf, handsOf, isWhole, hasTable, fits}
-use Rattle.planning.specs.States.{Judged, firstFrom, judgedFrom, judged, stateAt, stateNumber}
+use Rattle.planning.specs.declared.plan.Planning.the-variants.{Planned}
+use Rattle.planning.specs.Cards.{cardDeal, handsOf, isWhole, hasTable, fits}
+use Rattle.planning.specs.States.{BoardPlan, firstFrom, boardPlansFrom, boardPlans, stateAt, stateNumber}
 use Rattle.planning.specs.Slips.{slipOf, slipsOf, totalsOf, countOf, cardFrom, cardAt}
-use Rattle.planning.specs.Plans.{Boxes, oldReading, newReading, bothAfter, editionsOf, areBoth, plannedBy, plannedOf, boardsOf, IsPlanned}
-use Rattle.planning.specs.Demands.{Among, WithDeal, First, slipHere, Holds, Unsolved, OfSolve, ListedOnce, ListedExactlyOnce, ListedWhenTaken, NothingListed, TotalsTold}
+use Rattle.planning.specs.Plans.{Boxes, oldReading, newReading, bothAfter, editionsOf, areBoth, plannedBy, planningOf, plansOf, IsPlanned}
+use Rattle.planning.specs.Demands.{Among, WithDeal, First, slipHere, Holds, Unsolved, OfSolve, ListedOnce, ListedExactlyOnce, PlannedIfTaken, NothingListed, TotalsTold}
 use Rattle.planning.proofs.AnswerLaws.{solve-sum}
 use Rattle.planning.proofs.FoundLaws.{Tells, zero-none, found-is-first, card-among, take-card}
 use Rattle.planning.proofs.CardLaws.{Handed, CardsHanded}
@@ -92,7 +92,7 @@ hands-before h k solve back w e a =
 
 module _ (olds news : List (List ℕ)) (so : Handed olds) (sn : Handed news) where
   abbrev slips : List (List ℕ)
-  slips = slipsOf (judgedFrom olds news 1 [] news)
+  slips = slipsOf (boardPlansFrom olds news 1 [] news)
 
   abbrev OfOne : ℕ → Type 0
   OfOne k = SlipOfBoard olds news 1 [] news (getD slips k [])
@@ -124,14 +124,14 @@ module _ (olds news : List (List ℕ)) (so : Handed olds) (sn : Handed news) whe
     is : First (WithDeal h) news (suc index)
 
   first-deal : (x : List ℕ) → Among x news → isWhole x ≡ true → FirstDeal (handsOf x)
-  first-deal x a w = go (firstFrom (fits false (dealOf x)) 1 news) refl
+  first-deal x a w = go (firstFrom (fits false (cardDeal x)) 1 news) refl
     where
-      tells : Tells (fits false (dealOf x)) (WithDeal (handsOf x)) news
+      tells : Tells (fits false (cardDeal x)) (WithDeal (handsOf x)) news
       tells = tells-deal x news (sn x a) sn
 
-      go : (k : ℕ) → firstFrom (fits false (dealOf x)) 1 news ≡ k → FirstDeal (handsOf x)
-      go zero e = absurd (zero-none (fits false (dealOf x)) (WithDeal (handsOf x)) news tells e x a (record { whole = w; hands = refl }))
-      go (suc k) e = record { index = k; is = found-is-first (fits false (dealOf x)) (WithDeal (handsOf x)) news tells k e }
+      go : (k : ℕ) → firstFrom (fits false (cardDeal x)) 1 news ≡ k → FirstDeal (handsOf x)
+      go zero e = absurd (zero-none (fits false (cardDeal x)) (WithDeal (handsOf x)) news tells e x a (record { whole = w; hands = refl }))
+      go (suc k) e = record { index = k; is = found-is-first (fits false (cardDeal x)) (WithDeal (handsOf x)) news tells k e }
 
   -- A slip of the list holds the hands.
   record SlipWith (h : Hands) : Type 0 where
@@ -185,7 +185,7 @@ module _ (olds news : List (List ℕ)) (so : Handed olds) (sn : Handed news) whe
     below : slip < length slips
     is : getD slips slip [] ≡ slipOf p (cardAt news p)
 
-  solve-slip : (p : ℕ) → stateAt (judged olds news) p ≡ Solve → SlipOn p
+  solve-slip : (p : ℕ) → stateAt (boardPlans olds news) p ≡ Solve → SlipOn p
   solve-slip p e =
       let b = board-at olds news p (λ z. let y : _≡_ {A = ℕ} 5 0 = sym (ap stateNumber e) ∙ z in omega arith) in
       let i = b .index in
@@ -194,11 +194,11 @@ module _ (olds news : List (List ℕ)) (so : Handed olds) (sn : Handed news) whe
       rw (b .is) (record { slip = s .index; below = s .below; is = s .is ∙ ap (λ (m : ℕ). slipOf m (cardFrom news i)) n })
 
   -- The slips handed back: those of the boards, and zeros.
-  pub all-listed : (solve n : ℕ) (back : List ℕ) → solve ≡ countOf 5 (judged olds news) → back ≡ padded n (flat (slipsOf (judged olds news)))
-      → ListedOnce (judged olds news) olds news solve back
-  unfolding judged
+  pub all-listed : (solve n : ℕ) (back : List ℕ) → solve ≡ countOf 5 (boardPlans olds news) → back ≡ padded n (flat (slipsOf (boardPlans olds news)))
+      → ListedOnce (boardPlans olds news) olds news solve back
+  unfolding boardPlans
   all-listed solve n back e q =
-      let js = judgedFrom olds news 1 [] news in
+      let js = boardPlansFrom olds news 1 [] news in
       let c : solve ≡ length slips = e ∙ sym (slips-count js) in
       let zs : List ℕ = replicate (n - length (flat slips)) 0 in
       let f = slips-five js in
@@ -236,12 +236,12 @@ module _ (olds news : List (List ℕ)) (so : Handed olds) (sn : Handed news) whe
 -- ---- the plan
 
 -- It is listed: both editions were taken, slips are enough, and the totals are those of the boards.
-pub record IsListed (e : Editions) (lent : ℕ) (u t : Totals) : Type 0 where
+pub record PlanAnswered (e : Editions) (lent : ℕ) (u t : Totals) : Type 0 where
   pub totals : t ≡ u
   pub enough : u .solve ≤ lent
   pub taken : areBoth e ≡ true
 
-pub plan-listed : (e : Editions) (lent : ℕ) (u t : Totals) → Listed t ≡ plannedBy e lent u → IsListed e lent u t
+pub plan-listed : (e : Editions) (lent : ℕ) (u t : Totals) → Planned t ≡ plannedBy e lent u → PlanAnswered e lent u t
 plan-listed (Both m n) lent u t q =
     by-cases (ltb lent (u .solve))
     (λ b. let z = rw b at q in let y : _≡_ {A = ℕ} 0 1 = cc in absurd (omega arith))
@@ -249,13 +249,13 @@ plan-listed (Both m n) lent u t q =
 plan-listed (editions.Refused f) lent u t q = let y : _≡_ {A = ℕ} 0 1 = cc in absurd (omega arith)
 
 pub told : (c : Conventions) (old new : List ℕ) (boxes : Boxes) (slips : List ℕ) (boxes′ : Boxes) (slips′ : List ℕ) (t : Totals)
-    → IsPlanned c old new boxes slips boxes′ slips′ (Listed t)
-    → IsListed (editionsOf c old new boxes) (length slips / 5) (totalsOf (boardsOf c old new)) t
-unfolding plannedOf
+    → IsPlanned c old new boxes slips boxes′ slips′ (Planned t)
+    → PlanAnswered (editionsOf c old new boxes) (length slips / 5) (totalsOf (plansOf c old new)) t
+unfolding planningOf
 told c old new boxes slips boxes′ slips′ t p =
-    plan-listed (editionsOf c old new boxes) (length slips / 5) (totalsOf (boardsOf c old new)) t (p .answer)
+    plan-listed (editionsOf c old new boxes) (length slips / 5) (totalsOf (plansOf c old new)) t (p .answer)
 
-boards-total : (t : Totals) (js : List Judged) → t ≡ totalsOf js → t .boards ≡ length js
+boards-total : (t : Totals) (js : List BoardPlan) → t ≡ totalsOf js → t .boards ≡ length js
 unfolding totalsOf
 boards-total t js e = ap (λ (u : Totals). u .boards) e
 
@@ -263,27 +263,27 @@ pub listed-exactly-once : ListedExactlyOnce
 listed-exactly-once c old new boxes slips boxes′ slips′ t p =
     let q = told c old new boxes slips boxes′ slips′ t p in
     all-listed (cardsOf c old) (cardsOf c new) (CardsHanded c old) (CardsHanded c new) (t .solve) (length slips) slips′
-    ((ap (λ (u : Totals). u .solve) (q .totals) ∙ solve-sum (boardsOf c old new))) (p .slips-after)
+    ((ap (λ (u : Totals). u .solve) (q .totals) ∙ solve-sum (plansOf c old new))) (p .slips-after)
 
 pub totals-told : TotalsTold
 totals-told c old new boxes slips boxes′ slips′ t p =
     let q = told c old new boxes slips boxes′ slips′ t p in (
-      boards-total t (boardsOf c old new) (q .totals) ∙ boards-all (cardsOf c old) (cardsOf c new),
-      rw (q .totals) (totals-add-up (boardsOf c old new)),
+      boards-total t (plansOf c old new) (q .totals) ∙ boards-all (cardsOf c old) (cardsOf c new),
+      rw (q .totals) (totals-add-up (plansOf c old new)),
     )
 
 -- ---- when it is listed
 
-both-are : (x y : Reading) (lent : ℕ) (u : Totals) → isTaken x ≡ true → isTaken y ≡ true → u .solve ≤ lent → plannedBy (bothAfter x y) lent u ≡ Listed u
+both-are : (x y : Reading) (lent : ℕ) (u : Totals) → isTaken x ≡ true → isTaken y ≡ true → u .solve ≤ lent → plannedBy (bothAfter x y) lent u ≡ Planned u
 both-are (Taken m n) (Taken k l) lent u a b h = rw (le-ltb lent (u .solve) h)
 both-are (Taken m n) (reading.Refused f) lent u a b h = clash b
 both-are (reading.Refused f) y lent u a b h = clash a
 
-pub listed-when-taken : ListedWhenTaken
-unfolding plannedOf editionsOf
-listed-when-taken c old new boxes slips boxes′ slips′ r p a b h =
+pub planned-if-taken : PlannedIfTaken
+unfolding planningOf editionsOf
+planned-if-taken c old new boxes slips boxes′ slips′ r p a b h =
     p .answer
-    ∙ both-are (oldReading c old boxes) (newReading c new boxes) (length slips / 5) (totalsOf (boardsOf c old new)) a b h
+    ∙ both-are (oldReading c old boxes) (newReading c new boxes) (length slips / 5) (totalsOf (plansOf c old new)) a b h
 
 at-among : (xs : List (List ℕ)) (p : ℕ) → 1 ≤ p → p ≤ length xs → Among (cardAt xs p) xs
 at-among xs zero o l = absurd (omega arith)
@@ -291,7 +291,7 @@ at-among xs (suc i) o l = card-among xs i (omega arith)
 
 -- A solve board has no table.
 pub no-solve : (c : Conventions) (old new slip : List ℕ) → ((x : List ℕ) → Among x (cardsOf c new) → isWhole x ≡ true → hasTable x ≡ true)
-    → OfSolve (boardsOf c old new) (cardsOf c new) slip → ⊥
+    → OfSolve (plansOf c old new) (cardsOf c new) slip → ⊥
 no-solve c old new slip all s =
     let f = states-mean c old new (s .position) (s .from-one) (s .is-there) Solve .0 (s .state) .0 in
     clash (sym (f .no-table) ∙ all (cardAt (cardsOf c new) (s .position)) (at-among (cardsOf c new) (s .position) (s .from-one) (s .is-there)) (f .whole))

@@ -10,11 +10,11 @@ use Rattle.reader.specs.declared.edition.ReadRefusal.the-variants.{Overlong, Bo
 use Rattle.planning.specs.declared.editions.EditionsRefusal.the-variants.{Old, New}
 use Rattle.planning.specs.declared.plan.PlanRefusal.the-variants.{Edition, SlipsShort}
 use Rattle.planning.specs.declared.plan.Totals.{Totals}
-use Rattle.planning.specs.declared.plan.Planned.{Planned}
-use Rattle.planning.specs.declared.plan.Planned.the-variants.{Listed}
-use Rattle.planning.specs.declared.plan.Planned.the-variants as planned
+use Rattle.planning.specs.declared.plan.Planning.{Planning}
+use Rattle.planning.specs.declared.plan.Planning.the-variants.{Planned}
+use Rattle.planning.specs.declared.plan.Planning.the-variants as planning
 use Rattle.reader.specs.Editions.{readNumber}
-use Rattle.planning.specs.Plans.{Boxes, plannedOf, IsPlanned}
+use Rattle.planning.specs.Plans.{Boxes, planningOf, IsPlanned}
 use Rattle.demands.proofs.Listed.{listed-exactly-once}
 use Rattle.demands.proofs.Inside.{listed-inside}
 use Rattle.golavimes.specs.Answers.{planNumbers, PlanOut}
@@ -78,27 +78,27 @@ read-number (BoxFull n) e = omega arith
 read-number (ListFull n) e = omega arith
 
 -- The answer that begins with 0 is a list, with its totals.
-pub record IsListed (p : Planned) : Type 0 where
+pub record HasTotals (p : Planning) : Type 0 where
   pub totals : Totals
-  pub is : p ≡ Listed totals
+  pub is : p ≡ Planned totals
 
-listed-zero : (p : Planned) → getD (planNumbers p) 0 0 ≡ 0 → IsListed p
-listed-zero (Listed t) e = record { totals = t; is = refl }
-listed-zero (planned.Refused (Edition (Old f))) e = absurd (read-number f e)
-listed-zero (planned.Refused (Edition (New f))) e = absurd (read-number f e)
-listed-zero (planned.Refused (SlipsShort n)) e = absurd (omega arith)
+listed-zero : (p : Planning) → getD (planNumbers p) 0 0 ≡ 0 → HasTotals p
+listed-zero (Planned t) e = record { totals = t; is = refl }
+listed-zero (planning.Refused (Edition (Old f))) e = absurd (read-number f e)
+listed-zero (planning.Refused (Edition (New f))) e = absurd (read-number f e)
+listed-zero (planning.Refused (SlipsShort n)) e = absurd (omega arith)
 
 -- What was promised of planning itself, and the boards to solve in the answer.
 pub record Promised (c : Conventions) (old new : List ℕ) (boxes : Boxes) (slips : List ℕ) (boxes′ : Boxes) (slips′ answer′ : List ℕ) : Type 0 where
   pub totals : Totals
-  pub planned : IsPlanned c old new boxes slips boxes′ slips′ (Listed totals)
+  pub planned : IsPlanned c old new boxes slips boxes′ slips′ (Planned totals)
   pub solve-told : getD answer′ 9 0 ≡ totals .solve
   pub boards-told : getD answer′ 3 0 ≡ totals .boards
 
 pub promised : (c : Conventions) (old new : List ℕ) (boxes : Boxes) (slips : List ℕ) (boxes′ : Boxes) (slips′ answer′ : List ℕ)
     → PlanOut c old new boxes slips boxes′ slips′ answer′ 0 → Promised c old new boxes slips boxes′ slips′ answer′
 promised c old new boxes slips boxes′ slips′ answer′ o =
-    let p = plannedOf c old new boxes (length slips) in
+    let p = planningOf c old new boxes (length slips) in
     let l = listed-zero p (sym (ap (λ (a : List ℕ). getD a 0 0) (o .told)) ∙ sym (o .returned)) in
     record {
       totals = l .totals;

@@ -15,38 +15,38 @@ use Rattle.reader.specs.Deals.{handsOfWords}
 use Rattle.reader.proofs.WordLaws.{same-is, same-self}
 use Rattle.planning.specs.declared.state.BoardState.{BoardState}
 use Rattle.planning.specs.declared.state.BoardState.the-variants.{Blank, Own, Old, Near, Twin, Solve}
-use Rattle.planning.specs.Cards.{dealOf, handsOf, isWhole, hasTable, hasDeal, fits}
-use Rattle.planning.specs.States.{firstFrom, firstWith, orElse, stateOf, judgedFrom, judged, boardFrom, stateIn, stateAt}
+use Rattle.planning.specs.Cards.{cardDeal, handsOf, isWhole, hasTable, hasDeal, fits}
+use Rattle.planning.specs.States.{firstFrom, firstWith, orElse, stateOf, boardPlansFrom, boardPlans, planFrom, stateIn, stateAt}
 use Rattle.planning.specs.Slips.{cardFrom}
 use Rattle.planning.specs.Demands.{WithDeal, Tabled, StateIs}
-use Rattle.planning.proofs.BoardLaws.{judged-count, past-none}
+use Rattle.planning.proofs.BoardLaws.{plans-count, past-none}
 use Rattle.planning.proofs.FoundLaws.{Tells, zero-none, none-zero, found-is-first, first-is-found, among-take, card-among}
 use Rattle.planning.proofs.CardLaws.{OfHands, Handed, hands-words}
 
 -- ---- the tests say what their names say
 
 -- A card y has the deal of the card x.
-deal-has : (x y : List ℕ) → hasDeal (dealOf x) y ≡ true → WithDeal (handsOf x) y
+deal-has : (x y : List ℕ) → hasDeal (cardDeal x) y ≡ true → WithDeal (handsOf x) y
 unfolding hasDeal
 deal-has x y e =
-    let h = both (isWhole y) (same (dealOf x) (dealOf y)) e in
-    record { whole = h .0; hands = ap handsOfWords (sym (same-is (dealOf x) (dealOf y) (h .1))) }
+    let h = both (isWhole y) (same (cardDeal x) (cardDeal y)) e in
+    record { whole = h .0; hands = ap handsOfWords (sym (same-is (cardDeal x) (cardDeal y) (h .1))) }
 
-has-deal : (x y : List ℕ) → OfHands x → OfHands y → WithDeal (handsOf x) y → hasDeal (dealOf x) y ≡ true
+has-deal : (x y : List ℕ) → OfHands x → OfHands y → WithDeal (handsOf x) y → hasDeal (cardDeal x) y ≡ true
 unfolding hasDeal
-has-deal x y g h d = rw (d .whole, hands-words x y g h (sym (d .hands)), same-self (dealOf y))
+has-deal x y g h d = rw (d .whole, hands-words x y g h (sym (d .hands)), same-self (cardDeal y))
 
-pub tells-deal : (x : List ℕ) (xs : List (List ℕ)) → OfHands x → Handed xs → Tells (fits false (dealOf x)) (WithDeal (handsOf x)) xs
+pub tells-deal : (x : List ℕ) (xs : List (List ℕ)) → OfHands x → Handed xs → Tells (fits false (cardDeal x)) (WithDeal (handsOf x)) xs
 unfolding fits
 tells-deal x xs g s y a = (
-  λ e. deal-has x y (both (hasDeal (dealOf x) y) true e .0),
+  λ e. deal-has x y (both (hasDeal (cardDeal x) y) true e .0),
   λ d. rw (has-deal x y g (s y a) d),
 )
 
-tells-table : (x : List ℕ) (xs : List (List ℕ)) → OfHands x → Handed xs → Tells (fits true (dealOf x)) (Tabled (handsOf x)) xs
+tells-table : (x : List ℕ) (xs : List (List ℕ)) → OfHands x → Handed xs → Tells (fits true (cardDeal x)) (Tabled (handsOf x)) xs
 unfolding fits
 tells-table x xs g s y a = (
-  λ e. let h = both (hasDeal (dealOf x) y) (hasTable y) e in record { deal = deal-has x y (h .0); table = h .1 },
+  λ e. let h = both (hasDeal (cardDeal x) y) (hasTable y) e in record { deal = deal-has x y (h .0); table = h .1 },
   λ d. rw (has-deal x y g (s y a) (d .deal), d .table),
 )
 
@@ -56,22 +56,22 @@ suc-not : (k : ℕ) → eqb (suc k) 0 ≡ false
 suc-not k = ne-eqb (suc k) 0 (λ e. omega arith)
 
 module _ (olds news earlier : List (List ℕ)) (x : List ℕ) (g : OfHands x) (so : Handed olds) (sn : Handed news) (se : Handed earlier) where
-  old-tells : Tells (fits true (dealOf x)) (Tabled (handsOf x)) olds
+  old-tells : Tells (fits true (cardDeal x)) (Tabled (handsOf x)) olds
   old-tells = tells-table x olds g so
 
-  new-tells : Tells (fits true (dealOf x)) (Tabled (handsOf x)) news
+  new-tells : Tells (fits true (cardDeal x)) (Tabled (handsOf x)) news
   new-tells = tells-table x news g sn
 
-  twin-tells : Tells (fits false (dealOf x)) (WithDeal (handsOf x)) earlier
+  twin-tells : Tells (fits false (cardDeal x)) (WithDeal (handsOf x)) earlier
   twin-tells = tells-deal x earlier g se
 
   pub state-says : StateIs olds news earlier x (stateOf olds news earlier x)
   unfolding stateOf firstWith
   state-says =
-      go (isWhole x) (hasTable x) (firstFrom (fits true (dealOf x)) 1 olds) (firstFrom (fits true (dealOf x)) 1 news) (firstFrom (fits false (dealOf x)) 1 earlier) refl refl refl refl refl
+      go (isWhole x) (hasTable x) (firstFrom (fits true (cardDeal x)) 1 olds) (firstFrom (fits true (cardDeal x)) 1 news) (firstFrom (fits false (cardDeal x)) 1 earlier) refl refl refl refl refl
     where
-      go : (w t : Bool) (k m n : ℕ) → isWhole x ≡ w → hasTable x ≡ t → firstFrom (fits true (dealOf x)) 1 olds ≡ k → firstFrom (fits true (dealOf x)) 1 news ≡ m
-          → firstFrom (fits false (dealOf x)) 1 earlier ≡ n
+      go : (w t : Bool) (k m n : ℕ) → isWhole x ≡ w → hasTable x ≡ t → firstFrom (fits true (cardDeal x)) 1 olds ≡ k → firstFrom (fits true (cardDeal x)) 1 news ≡ m
+          → firstFrom (fits false (cardDeal x)) 1 earlier ≡ n
           → StateIs olds news earlier x (cond w (cond t Own (orElse Old k (orElse Near m (orElse Twin n Solve)))) Blank)
       go false t k m n ew et ek em en = ew
       go true true k m n ew et ek em en = (ew, et)
@@ -101,28 +101,28 @@ module _ (olds news earlier : List (List ℕ)) (x : List ℕ) (g : OfHands x) (s
 
 -- The state of the board number i, from 0.
 from-state : (olds news : List (List ℕ)) (p : ℕ) (earlier xs : List (List ℕ)) (i : ℕ) → i < length xs
-    → stateIn (boardFrom (judgedFrom olds news p earlier xs) i) ≡ stateOf olds news (earlier ++ take i xs) (cardFrom xs i)
+    → stateIn (planFrom (boardPlansFrom olds news p earlier xs) i) ≡ stateOf olds news (earlier ++ take i xs) (cardFrom xs i)
 from-state olds news p earlier [] i h = absurd (omega arith)
 from-state olds news p earlier (x ∷ xs) zero h = rw append-nil
 from-state olds news p earlier (x ∷ xs) (suc i) h =
     from-state olds news (p + 1) (earlier ++ (x ∷ [])) xs i (omega arith)
     ∙ ap (λ (l : List (List ℕ)). stateOf olds news l (cardFrom xs i)) (append-snoc earlier x (take i xs))
 
-pub state-here : (olds news : List (List ℕ)) (i : ℕ) → i < length news → stateAt (judged olds news) (suc i) ≡ stateOf olds news (take i news) (cardFrom news i)
-unfolding judged
+pub state-here : (olds news : List (List ℕ)) (i : ℕ) → i < length news → stateAt (boardPlans olds news) (suc i) ≡ stateOf olds news (take i news) (cardFrom news i)
+unfolding boardPlans
 state-here olds news i h = from-state olds news 1 [] news i h
 
-pub state-none : (olds news : List (List ℕ)) (p : ℕ) → length news < p → stateAt (judged olds news) p ≡ Blank
-unfolding judged
+pub state-none : (olds news : List (List ℕ)) (p : ℕ) → length news < p → stateAt (boardPlans olds news) p ≡ Blank
+unfolding boardPlans
 state-none olds news zero h = refl
-state-none olds news (suc i) h = ap stateIn (past-none (judgedFrom olds news 1 [] news) i (omega (arith, judged-count olds news 1 [] news)))
+state-none olds news (suc i) h = ap stateIn (past-none (boardPlansFrom olds news 1 [] news) i (omega (arith, plans-count olds news 1 [] news)))
 
 -- What is said of each board of an edition.
 abbrev pub SaysAt : List (List ℕ) → List (List ℕ) → ℕ → BoardState → Type 0
 SaysAt olds news i s = StateIs olds news (take i news) (cardFrom news i) s
 
 module _ (olds news : List (List ℕ)) (so : Handed olds) (sn : Handed news) where
-  pub here-says : (i : ℕ) → i < length news → (s : BoardState) → (stateAt (judged olds news) (suc i) ≡ s) ↔ SaysAt olds news i s
+  pub here-says : (i : ℕ) → i < length news → (s : BoardState) → (stateAt (boardPlans olds news) (suc i) ≡ s) ↔ SaysAt olds news i s
   here-says i h s =
       let g = sn (cardFrom news i) (card-among news i h) in
       let se : Handed (take i news) = λ x a. sn x (among-take i news a) in (

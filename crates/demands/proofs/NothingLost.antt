@@ -16,8 +16,8 @@ use Rattle.reader.specs.Plain.{Remark, PlainBoard, plainOf}
 use Rattle.reader.proofs.EntryLaws.{All, none as no-more, one}
 use Rattle.reader.proofs.PlainAnchors.{Anchors, PlainAnchors}
 use Rattle.writer.specs.Tags.{WrittenTag, writtenTags}
-use Rattle.writer.specs.Remarks.{anchorOf, anchoredFrom, directivesOf, blocksOf, isLeading, isUnder, isLost, Line, tagLine, dataLine, directiveLine, blockLine, linesText, leadingLines, bodyLines, boardLines}
-use Rattle.writer.specs.Pages.{bodyText, builtInHeader, headerText, firstPart, nextPart}
+use Rattle.writer.specs.Remarks.{anchorOf, anchoredFrom, directivesOf, blocksOf, isLeading, isUnder, tagUnwritten, WrittenLine, tagLine, dataLine, directiveLine, blockLine, linesText, leadingLines, bodyLines, boardLines}
+use Rattle.writer.specs.Pages.{bodyText, builtInHeader, pageHeader, firstPart, nextPart}
 use Rattle.writer.specs.Given.{withTable}
 use Rattle.writer.proofs.GroupTexts.{lines-join}
 use Rattle.writer.proofs.NamesOnce.{timesWritten, NamesOnce}
@@ -32,11 +32,11 @@ all-remark no-more i k e = let z : _≡_ {A = ℕ} 0 1 = cc in absurd (omega ari
 all-remark {P = P} (one {x = r} p a) zero k e = let same-remark : r ≡ k = cc in subst P same-remark p
 all-remark (one p a) (suc i) k e = all-remark a i k e
 
-all-at : {P : Line → Type 0} (xs : List Line) (y : Line) (zs : List Line) → All P (xs ++ y ∷ zs) → P y
+all-at : {P : WrittenLine → Type 0} (xs : List WrittenLine) (y : WrittenLine) (zs : List WrittenLine) → All P (xs ++ y ∷ zs) → P y
 all-at [] y zs (one p a) = p
 all-at (x ∷ xs) y zs (one p a) = all-at xs y zs a
 
-until-all : (xs ys : List Line) → untilTag xs ≡ xs → untilTag (xs ++ ys) ≡ xs ++ untilTag ys
+until-all : (xs ys : List WrittenLine) → untilTag xs ≡ xs → untilTag (xs ++ ys) ≡ xs ++ untilTag ys
 until-all [] ys e = refl
 until-all (tagLine n v ∷ xs) ys e = let z : _≡_ {A = ℕ} 0 1 = cc in absurd (omega arith)
 until-all (dataLine d ∷ xs) ys e = let t : untilTag xs ≡ xs = cc in rw (until-all xs ys t)
@@ -65,8 +65,8 @@ nothing-lost b ws reached once-each =
     each-ordered-all rk ds ks ws ranked
     (those-ranked b L ds ks ws refl directive isLeading false (leading-kept b L ds ks ws refl) hd)
     (those-ranked b L ds ks ws refl block isLeading false (leading-kept b L ds ks ws refl) hk)
-    (those-ranked b L ds ks ws refl block (isLost ws) true (λ k u. u) hk)
-    (those-ranked b L ds ks ws refl directive (isLost ws) true (λ k u. u) hd) in
+    (those-ranked b L ds ks ws refl block (tagUnwritten ws) true (λ k u. u) hk)
+    (those-ranked b L ds ks ws refl directive (tagUnwritten ws) true (λ k u. u) hd) in
     record {
       placed = λ kind front back i x e. from-good b L kind i x front back (each-at front (lineOf kind i x) back (subst (Each (Good b L) []) e good));
       block-once = λ i k h. block-times (b .tags) (b .blocks) ds ws i k h;
@@ -80,7 +80,7 @@ nothing-lost b ws reached once-each =
       in-order = λ p q front between back i j x y e u.
           from-behind rk q (rk p i) i j y
           (all-at between (lineOf q j y) (untilTag back)
-          (subst (All (Behind rk (rk p i) i)) (until-all between (lineOf q j y ∷ back) u ∙ ap (λ (l : List Line). between ++ l) (until-remark q j y back))
+          (subst (All (Behind rk (rk p i) i)) (until-all between (lineOf q j y ∷ back) u ∙ ap (λ (l : List WrittenLine). between ++ l) (until-remark q j y back))
           (from-ordered rk p i x front (between ++ lineOf q j y ∷ back)
           (each-at front (lineOf p i x) (between ++ lineOf q j y ∷ back) (subst (Each (Ordered rk) []) e ordered)))));
     }
@@ -103,11 +103,11 @@ nothing-is-lost =
 
 -- ---- the page
 
-header-led : (ls : List Line) (bs : List ℕ) → 0 < length ls → headerText ls ++ bs ≡ linesText ls ++ 10 ∷ bs
+header-led : (ls : List WrittenLine) (bs : List ℕ) → 0 < length ls → pageHeader ls ++ bs ≡ linesText ls ++ 10 ∷ bs
 header-led [] bs h = absurd (omega arith)
 header-led (l ∷ ls) bs h = append-assoc (linesText (l ∷ ls)) (10 ∷ []) bs
 
-header-none : (ls : List Line) (bs : List ℕ) → length ls ≡ 0 → headerText ls ++ bs ≡ builtInHeader ++ (linesText ls ++ bs)
+header-none : (ls : List WrittenLine) (bs : List ℕ) → length ls ≡ 0 → pageHeader ls ++ bs ≡ builtInHeader ++ (linesText ls ++ bs)
 header-none [] bs h = refl
 header-none (l ∷ ls) bs h = absurd (omega arith)
 

@@ -13,9 +13,9 @@ use Rattle.reader.specs.Editions.{cardsOf}
 use Rattle.reader.proofs.StoreLaws.{Blocks, none, one, blocks-map, length-flat, put-zeros, putAll-append}
 use Rattle.planning.specs.declared.behind.Behind.{Behind}
 use Rattle.planning.specs.declared.behind.Behind.the-variants.{InOld, InNew, Nothing}
-use Rattle.planning.specs.States.{Judged, stateNumber, fromOf}
+use Rattle.planning.specs.States.{BoardPlan, stateNumber, fromOf}
 use Rattle.planning.specs.Slips.{behindOf, behindNumbers, boardNumbers, numbersFrom}
-use Rattle.planning.specs.Plans.{boardsOf}
+use Rattle.planning.specs.Plans.{plansOf}
 use Rattle.planning.specs.Demands.{fiveAt, Numbered, NumbersTold}
 use Rattle.planning.proofs.SlipLaws.{fives-length, fives-here}
 use Rattle.demands.proofs.Listed.{behind-zero}
@@ -59,11 +59,11 @@ five-long (InOld a e) s f = refl
 five-long (InNew a e) s f = refl
 five-long Nothing s f = refl
 
-numbers-five : (os ns : List (List ℕ)) (js : List Judged) → Blocks 5 (numbersFrom os ns js)
+numbers-five : (os ns : List (List ℕ)) (js : List BoardPlan) → Blocks 5 (numbersFrom os ns js)
 unfolding boardNumbers
 numbers-five os ns js = blocks-map 5 (boardNumbers os ns) (λ j. five-long (behindOf os ns j) (stateNumber (j .state)) (fromOf (j .state))) js
 
-numbers-at : (os ns : List (List ℕ)) (js : List Judged) (k : ℕ) → k < length js → getD (numbersFrom os ns js) k [] ≡ fiveAt os ns js (suc k)
+numbers-at : (os ns : List (List ℕ)) (js : List BoardPlan) (k : ℕ) → k < length js → getD (numbersFrom os ns js) k [] ≡ fiveAt os ns js (suc k)
 unfolding boardNumbers
 numbers-at os ns [] k h = absurd (omega arith)
 numbers-at os ns (j ∷ js) zero h = refl
@@ -71,7 +71,7 @@ numbers-at os ns (j ∷ js) (suc k) h = numbers-at os ns js k (omega arith)
 
 -- ---- all boards
 
-all-numbered : (olds news : List (List ℕ)) (js : List Judged) (L : ℕ) (back : List ℕ) → length js ≡ length news
+all-numbered : (olds news : List (List ℕ)) (js : List BoardPlan) (L : ℕ) (back : List ℕ) → length js ≡ length news
     → back ≡ putAll 5 (replicate L 0) 0 (numbersFrom olds news js) → Numbered olds news js L back
 all-numbered olds news js L back ej e =
     let xs = numbersFrom olds news js in
@@ -104,4 +104,4 @@ all-numbered olds news js L back ej e =
 
 pub numbers-told : NumbersTold
 numbers-told c old new boxes numbers boxes′ numbers′ m n b =
-    all-numbered (cardsOf c old) (cardsOf c new) (boardsOf c old new) (length numbers) numbers′ (boards-all (cardsOf c old) (cardsOf c new)) (b .numbers-after)
+    all-numbered (cardsOf c old) (cardsOf c new) (plansOf c old new) (length numbers) numbers′ (boards-all (cardsOf c old) (cardsOf c new)) (b .numbers-after)

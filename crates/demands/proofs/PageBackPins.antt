@@ -10,24 +10,24 @@ use Rattle.tables.specs.Tables.{digitOf, digitByte, digitsReading, tableOfDigit
 use Rattle.reader.specs.Tag.{trimSpan, trimPart, bracketOf, endsQuoted, nameOf, isQuoted, valueOf, isComment, commentOf, tagLine, dataBracket, dataAfter, splitOf}
 use Rattle.reader.specs.TagBytes.{tagText}
 use Rattle.reader.specs.Lines.{isBlank, hasBrace, splitLine, bracketLine, lineKind}
-use Rattle.reader.specs.Words.{levelOf, bidCode, isPass, underscoreCode, signCode, callOf, callToken, isMark, sectionEnd, isAllPass, cardNumber, cardOf, isDoubling, contractTrump, isNoSide, isBothSides, vulnerabilityOf, vulnerabilityToken}
+use Rattle.reader.specs.Words.{levelOf, bidCode, isPass, underscoreCode, signCode, callOf, callToken, isMark, sectionEnd, isAllPass, cardNumber, cardNamed, isDoubling, contractTrump, isNoSide, isBothSides, vulnerabilityOf, vulnerabilityToken}
 use Rattle.reader.specs.Names.{tagNames, tagNumber}
 use Rattle.reader.specs.Deals.{has, ones, cardsNamed, handsAfter, dealOf, handWords, handsOfWords, cardText, ranksText, suitText, handText, dealText}
 use Rattle.reader.specs.Auction.{callTokenOf, called, calledPiece}
-use Rattle.reader.specs.Play.{weight, bestSlot, opened, isDash, played, playedBytes, playedPiece, lastTrick}
-use Rattle.reader.specs.Sections.{noteAfter, stopsAt, pieceOf, sectionData, walked, noWalk, walkedAll}
-use Rattle.reader.specs.Boards.{identityBy, dealBy, tableBy, contractBy, isKeptValue, isKept, valuesBy, applied, openBy, closed, tagged, readTag, blocked, braced, inNote, lineOut, recordOut}
+use Rattle.reader.specs.Play.{weight, bestSlot, opened, isGap, played, playedBytes, playedPiece, lastTrick}
+use Rattle.reader.specs.Sections.{commentaryAfter, stopsAt, pieceOf, sectionData, walked, noWalk, walkedAll}
+use Rattle.reader.specs.Boards.{identityBy, dealBy, tableBy, contractBy, isKeptValue, isKept, valuesBy, applied, openBy, closed, tagged, tagLineOut, blocked, braced, inCommentary, lineOut, recordOut}
 use Rattle.reader.specs.Records.{scanned, closesRecord, recordsOf}
 use Rattle.reader.specs.Plain.{itemOf, plainBy, plainOf, plainBoards}
 use Rattle.writer.specs.Sections.{endLines, auctionLines, noteIn, notesFrom, noteValues, playLines}
 use Rattle.writer.specs.Tags.{seatText, resultText, isExtra, earlyExtras, lateExtras, headTags, tableTags, dealTags, auctionTags, playTags, writtenTags}
 use Rattle.writer.specs.Remarks.{directivesOf, blocksOf, directivesAfter, blocksAfter, leadingLines, bodyLines, boardLines, lineText}
 use Rattle.writer.specs.Pages.{builtInHeader, firstPart, nextPart, writtenText}
-use Rattle.demands.specs.PageBack.{Place, Texts, asDirectives, asBlocks, pageBack}
+use Rattle.demands.specs.PageBack.{AnchoredBytes, Texts, asDirectives, asBlocks, pageBack}
 
 -- What the directives, or the blocks, of a text are once its edition is written and read back, board by board.
-unfoldable back : Texts → String → List (List Place)
-unfolding isWhite isInside trimmed digits decimal builtIn capital seatOf suitOf honourOf rankOf digitOf digitByte digitsReading tableOfDigits trimSpan trimPart bracketOf endsQuoted nameOf isQuoted valueOf isComment commentOf tagLine dataBracket dataAfter splitOf tagText isBlank hasBrace splitLine bracketLine lineKind levelOf bidCode isPass underscoreCode signCode callOf callToken isMark sectionEnd isAllPass cardNumber cardOf isDoubling contractTrump isNoSide isBothSides vulnerabilityOf vulnerabilityToken tagNames tagNumber has ones cardsNamed handsAfter dealOf handWords handsOfWords cardText ranksText suitText handText dealText callTokenOf called calledPiece weight bestSlot opened isDash played playedBytes playedPiece lastTrick noteAfter stopsAt pieceOf sectionData walked noWalk walkedAll identityBy dealBy tableBy contractBy isKeptValue isKept valuesBy applied openBy closed tagged readTag blocked braced inNote lineOut recordOut scanned closesRecord recordsOf itemOf plainBy plainOf plainBoards endLines auctionLines noteIn notesFrom noteValues playLines seatText resultText isExtra earlyExtras lateExtras headTags tableTags dealTags auctionTags playTags writtenTags directivesOf blocksOf directivesAfter blocksAfter leadingLines bodyLines boardLines lineText builtInHeader firstPart nextPart writtenText
+unfoldable back : Texts → String → List (List AnchoredBytes)
+unfolding isWhite isInside trimmed digits decimal builtIn capital seatOf suitOf honourOf rankOf digitOf digitByte digitsReading tableOfDigits trimSpan trimPart bracketOf endsQuoted nameOf isQuoted valueOf isComment commentOf tagLine dataBracket dataAfter splitOf tagText isBlank hasBrace splitLine bracketLine lineKind levelOf bidCode isPass underscoreCode signCode callOf callToken isMark sectionEnd isAllPass cardNumber cardNamed isDoubling contractTrump isNoSide isBothSides vulnerabilityOf vulnerabilityToken tagNames tagNumber has ones cardsNamed handsAfter dealOf handWords handsOfWords cardText ranksText suitText handText dealText callTokenOf called calledPiece weight bestSlot opened isGap played playedBytes playedPiece lastTrick commentaryAfter stopsAt pieceOf sectionData walked noWalk walkedAll identityBy dealBy tableBy contractBy isKeptValue isKept valuesBy applied openBy closed tagged tagLineOut blocked braced inCommentary lineOut recordOut scanned closesRecord recordsOf itemOf plainBy plainOf plainBoards endLines auctionLines noteIn notesFrom noteValues playLines seatText resultText isExtra earlyExtras lateExtras headTags tableTags dealTags auctionTags playTags writtenTags directivesOf blocksOf directivesAfter blocksAfter leadingLines bodyLines boardLines lineText builtInHeader firstPart nextPart writtenText
 back t s = pageBack t builtIn (plainBoards builtIn (ascii s))
 
 -- Before any tag, and under its own tag; an edition of two boards.

@@ -13,14 +13,14 @@ use Rattle.reader.specs.declared.line.Line.the-variants.{Blank, Brace, Directiv
 use Rattle.reader.specs.declared.record.Scan.{Scan}
 use Rattle.reader.specs.Store.{flat}
 use Rattle.reader.specs.Lines.{isBlank, hasBrace, lineKind, opensBoard}
-use Rattle.reader.specs.Pieces.{glue, rawLines}
-use Rattle.reader.specs.Sections.{opensNote, noteAfter}
+use Rattle.reader.specs.Pieces.{joinLine, rawLines}
+use Rattle.reader.specs.Sections.{opensCommentary, commentaryAfter}
 use Rattle.reader.specs.Records.{fresh, scanned, closesRecord, recordsFrom, recordsOf}
 use Rattle.reader.specs.TagBytes.{tagText}
 use Rattle.reader.specs.Plain.{PlainBoard, goodDirective}
 use Rattle.writer.specs.Tags.{headTags, writtenTags}
-use Rattle.writer.specs.Remarks.{Anchored, directivesOf, blocksOf, those, isLeading, Line, tagLine, dataLine, directiveLine, blockLine, directiveLines, blockLines, leadingLines, bodyLines, lineText, linesText}
-use Rattle.writer.specs.Pages.{ownPlay, bodyText, builtInHeader, headerText, firstPart, nextPart, nextParts, pageText}
+use Rattle.writer.specs.Remarks.{Anchored, directivesOf, blocksOf, those, isLeading, WrittenLine, tagLine, dataLine, directiveLine, blockLine, directiveLines, blockLines, leadingLines, bodyLines, lineText, linesText}
+use Rattle.writer.specs.Pages.{ownPlay, bodyText, builtInHeader, pageHeader, firstPart, nextPart, nextParts, pageText}
 use Rattle.demands.specs.PageBack.{all, goodLine, Shut, last, more, ReadsAs, tag, section, directive, comment, block, ownText, recordsAfter, pageRecords}
 use Rattle.demands.proofs.LineBack.{or-true, LineBack}
 use Rattle.reader.proofs.Seams.{flat-raw}
@@ -31,7 +31,7 @@ some-lines : {P : Type 0} (t : List ℕ) → ((l : List ℕ) (ls : List (List �
 some-lines [] go = go (10 ∷ []) [] refl
 some-lines (b ∷ bs) go = cases (eqb b 10) (rawLines (bs ++ 10 ∷ [])) go
   where
-    cases : {P : Type 0} (t : Bool) (ls : List (List ℕ)) → ((m : List ℕ) (ms : List (List ℕ)) → glue t b ls ≡ m ∷ ms → P) → P
+    cases : {P : Type 0} (t : Bool) (ls : List (List ℕ)) → ((m : List ℕ) (ms : List (List ℕ)) → joinLine t b ls ≡ m ∷ ms → P) → P
     cases true ls k = k (b ∷ []) ls refl
     cases false [] k = k (b ∷ []) [] refl
     cases false (l ∷ ls) k = k (b ∷ l) ls refl
@@ -44,7 +44,7 @@ feed-then : (t r : List ℕ) → rawLines ((t ++ 10 ∷ []) ++ r) ≡ rawLines (
 feed-then t r = rw append-assoc (feed-lines t r)
 
 -- A written line ends with its LF.
-pub line-then : (l : Line) (r : List ℕ) → rawLines (lineText l ++ r) ≡ rawLines (lineText l) ++ rawLines r
+pub line-then : (l : WrittenLine) (r : List ℕ) → rawLines (lineText l ++ r) ≡ rawLines (lineText l) ++ rawLines r
 unfolding lineText
 line-then (tagLine n v) r = feed-then (tagText n v) r
 line-then (dataLine d) r = feed-then d r
@@ -72,10 +72,10 @@ calm-walk s text (l ∷ ls) r e =
 
 -- Outside commentary, and inside it; m says whether a tag was met.
 abbrev outside : Bool → Scan
-outside m = record { noting = false; met = m }
+outside m = record { commentary = false; met = m }
 
 abbrev inside : Bool → Scan
-inside m = record { noting = true; met = m }
+inside m = record { commentary = true; met = m }
 
 -- Lines that stand outside commentary and close no record; o says whether they hold a tag.
 record Passes (m o : Bool) (ls : List (List ℕ)) : Type 0 where
@@ -99,8 +99,8 @@ unfolding closesRecord
 closes-none true l e = e
 closes-none false l e = refl
 
-one-passes : (m : Bool) (l : List ℕ) (k : Kind) → lineKind l ≡ k → isFilled k ≡ true → opensNote k l ≡ false → Passes m (opensBoard k) (l ∷ [])
-unfolding scanned noteAfter
+one-passes : (m : Bool) (l : List ℕ) (k : Kind) → lineKind l ≡ k → isFilled k ≡ true → opensCommentary k l ≡ false → Passes m (opensBoard k) (l ∷ [])
+unfolding scanned commentaryAfter
 one-passes m l k e f n =
     let b = not-blank l (rw e f) in
     record { calmly = rw (closes-none m l b); lands = rw (e, n) }
@@ -110,13 +110,13 @@ record Ends (m : Bool) (ls : List (List ℕ)) : Type 0 where
   lands : ran (inside m) ls ≡ outside m
 
 shut-ends : (m : Bool) (ls : List (List ℕ)) → Shut ls → Ends m ls
-unfolding scanned noteAfter closesRecord
+unfolding scanned commentaryAfter closesRecord
 shut-ends m (l ∷ []) (last h) = record { calmly = refl; lands = rw h }
 shut-ends m (l ∷ ls) (more h s) = let i = shut-ends m ls s in record { calmly = rw h (i .calmly); lands = rw h (i .lands) }
 
 -- ---- written lines
 
-abbrev isTagLine : Line → Bool
+abbrev isTagLine : WrittenLine → Bool
 isTagLine (tagLine n v) = true
 isTagLine (dataLine d) = false
 isTagLine (directiveLine i d) = false
@@ -126,8 +126,8 @@ or-false : (m : Bool) → (m || false) ≡ m
 or-false true = refl
 or-false false = refl
 
-reads-pass : (m : Bool) (l : Line) (ls : List (List ℕ)) → ReadsAs l ls → Passes m (isTagLine l) ls
-unfolding scanned noteAfter hasBrace
+reads-pass : (m : Bool) (l : WrittenLine) (ls : List (List ℕ)) → ReadsAs l ls → Passes m (isTagLine l) ls
+unfolding scanned commentaryAfter hasBrace
 reads-pass m (tagLine n v) (l ∷ []) (tag {t = t} k x y) = one-passes m l _ k refl refl
 reads-pass m (dataLine d) (l ∷ []) (section k x) = one-passes m l _ k refl refl
 reads-pass m (directiveLine i d) (l ∷ []) (directive g k x) = one-passes m l _ k refl refl
@@ -138,7 +138,7 @@ reads-pass m (blockLine i v) (b ∷ ls) (block {l = l} k (more h s) u) =
     let b = not-blank (123 ∷ l) (rw k) in
     record { calmly = rw (closes-none m (123 ∷ l) b, k, h, or-false m) (i .calmly); lands = rw (k, h, or-false m) (i .lands) }
 
-abbrev anyTag : List Line → Bool
+abbrev anyTag : List WrittenLine → Bool
 anyTag [] = false
 anyTag (l ∷ ls) = isTagLine l || anyTag ls
 
@@ -147,7 +147,7 @@ or-assoc true b d = refl
 or-assoc false b d = refl
 
 -- Written lines, and what follows them; text is the record's so far.
-lines-walk : (m : Bool) (text : List ℕ) (ls : List Line) (r : List ℕ) → all goodLine ls ≡ true
+lines-walk : (m : Bool) (text : List ℕ) (ls : List WrittenLine) (r : List ℕ) → all goodLine ls ≡ true
     → recordsFrom (outside m) text (rawLines (linesText ls ++ r)) ≡ recordsFrom (outside (m || anyTag ls)) (text ++ linesText ls) (rawLines r)
 lines-walk m text [] r e = rw (append-nil, or-false m)
 lines-walk m text (l ∷ ls) r e =
@@ -163,7 +163,7 @@ no-tags : (ks : List Anchored) → anyTag (directiveLines ks) ≡ false
 no-tags [] = refl
 no-tags (k ∷ ks) = no-tags ks
 
-tag-behind : (xs ys : List Line) → anyTag ys ≡ true → anyTag (xs ++ ys) ≡ true
+tag-behind : (xs ys : List WrittenLine) → anyTag ys ≡ true → anyTag (xs ++ ys) ≡ true
 tag-behind [] ys e = e
 tag-behind (x ∷ xs) ys e = rw (tag-behind xs ys e) (or-true (isTagLine x))
 
@@ -189,41 +189,41 @@ own-walk c b r g =
 
 -- An empty line before any tag closes no record.
 blank-before : (text r : List ℕ) → recordsFrom fresh text (rawLines (10 ∷ r)) ≡ recordsFrom fresh (text ++ 10 ∷ []) (rawLines r)
-unfolding closesRecord scanned noteAfter lineKind isBlank trimmed isWhite
+unfolding closesRecord scanned commentaryAfter lineKind isBlank trimmed isWhite
 blank-before text r = refl
 
 -- Directives and an empty line.
-directives-walk : (ls : List Line) (r : List ℕ) → all goodLine ls ≡ true → anyTag ls ≡ false → recordsFrom fresh [] (rawLines ((linesText ls ++ 10 ∷ []) ++ r)) ≡ recordsFrom fresh (linesText ls ++ 10 ∷ []) (rawLines r)
+directives-walk : (ls : List WrittenLine) (r : List ℕ) → all goodLine ls ≡ true → anyTag ls ≡ false → recordsFrom fresh [] (rawLines ((linesText ls ++ 10 ∷ []) ++ r)) ≡ recordsFrom fresh (linesText ls ++ 10 ∷ []) (rawLines r)
 directives-walk ls r g n =
     rw (append-assoc (linesText ls) (10 ∷ []) r) (lines-walk false [] ls (10 ∷ r) g ∙ rw n (blank-before (linesText ls) r))
 
 -- The header as lines, and the empty line behind them.
-abbrev pub headerLines : List Line → List Line
+abbrev pub headerLines : List WrittenLine → List WrittenLine
 headerLines [] = directiveLine 0 (ascii "% PBN 2.1") ∷ directiveLine 1 (ascii "% EXPORT") ∷ []
 headerLines (l ∷ ls) = l ∷ ls
 
-pub header-lines : (ls : List Line) → headerText ls ≡ linesText (headerLines ls) ++ 10 ∷ []
+pub header-lines : (ls : List WrittenLine) → pageHeader ls ≡ linesText (headerLines ls) ++ 10 ∷ []
 unfolding builtInHeader lineText
 header-lines [] = refl
 header-lines (l ∷ ls) = refl
 
-pub header-good : (ls : List Line) → all goodLine ls ≡ true → all goodLine (headerLines ls) ≡ true
+pub header-good : (ls : List WrittenLine) → all goodLine ls ≡ true → all goodLine (headerLines ls) ≡ true
 unfolding goodDirective trimmed isWhite
 header-good [] e = refl
 header-good (l ∷ ls) e = e
 
-header-none : (ls : List Line) → anyTag ls ≡ false → anyTag (headerLines ls) ≡ false
+header-none : (ls : List WrittenLine) → anyTag ls ≡ false → anyTag (headerLines ls) ≡ false
 header-none [] e = refl
 header-none (l ∷ ls) e = e
 
-header-walk : (ls : List Line) (r : List ℕ) → all goodLine ls ≡ true → anyTag ls ≡ false → recordsFrom fresh [] (rawLines (headerText ls ++ r)) ≡ recordsFrom fresh (headerText ls) (rawLines r)
+header-walk : (ls : List WrittenLine) (r : List ℕ) → all goodLine ls ≡ true → anyTag ls ≡ false → recordsFrom fresh [] (rawLines (pageHeader ls ++ r)) ≡ recordsFrom fresh (pageHeader ls) (rawLines r)
 header-walk ls r g n = rw (header-lines ls) (directives-walk (headerLines ls) r (header-good ls g) (header-none ls n))
 
 first-walk : (c : Conventions) (b : PlainBoard) (r : List ℕ) → GoodLines c b → recordsFrom fresh [] (rawLines (firstPart c b ++ r)) ≡ recordsFrom (outside true) (firstPart c b) (rawLines r)
 unfolding firstPart leadingLines
 first-walk c b r g =
     let w = writtenTags c b (ownPlay c (b .play)) in
-    let h = headerText (leadingLines b) in
+    let h = pageHeader (leadingLines b) in
     rw (append-assoc h (bodyText c b) r)
     (header-walk (leadingLines b) (bodyText c b ++ r) (g .leading-good) (no-tags (those isLeading (directivesOf b)))
     ∙ (lines-walk false h (bodyLines b w) r (g .body-good) ∙ rw (body-tag c b (ownPlay c (b .play)))))
@@ -248,6 +248,6 @@ boards-after c own (b ∷ bs) (a-board g h) =
 
 -- THEOREM. Where every line can be written, the page has one record for each board: its lines, the header in the first.
 pub LinedRecords : (c : Conventions) (bs : List PlainBoard) → AllLined c bs → recordsOf (pageText c bs) ≡ pageRecords c bs
-unfolding recordsOf builtInHeader closesRecord scanned noteAfter lineKind isBlank trimmed isWhite
+unfolding recordsOf builtInHeader closesRecord scanned commentaryAfter lineKind isBlank trimmed isWhite
 LinedRecords c [] no-boards = refl
 LinedRecords c (b ∷ bs) (a-board g h) = first-walk c b (nextParts c bs) g ∙ boards-after c (firstPart c b) bs h

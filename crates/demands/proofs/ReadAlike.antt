@@ -37,7 +37,7 @@ use Rattle.demands.proofs.Inside.{stands-card, starts-at, ends-at}
 use Rattle.demands.proofs.Listed.{told, totals-told}
 use Rattle.golavimes.specs.Answers.{readingNumbers}
 use Rattle.demands.specs.Demand1.{boardsIn}
-use Rattle.demands.specs.Boards.{Board, recordStart, entriesFrom, boardHere, isEntryPlace, isTextPlace, countedWord, countedEntry, ReadAlike}
+use Rattle.demands.specs.Boards.{Board, recordStart, entryBlocks, boardHere, isEntryPlace, isTextPlace, countedWord, countedEntry, ReadAlike}
 use Rattle.demands.specs.Demand3.{HasFellow, OutsideAlike, OutsideReadAlike, CardsHanded, CountsTold}
 use Rattle.demands.proofs.Listing.{promised}
 use Rattle.demands.proofs.Handed.{Held, taken-as, reading-zero, handed}
@@ -162,14 +162,14 @@ flat-append [] ys = refl
 flat-append (x ∷ xs) ys = ap (λ (l : List ℕ). x ++ l) (flat-append xs ys) ∙ sym (append-assoc x (flat xs) (flat ys))
 
 -- Words that begin with blocks of four have these as their first entries.
-entries-front : {xs : List (List ℕ)} (rest : List ℕ) → Blocks 4 xs → entriesFrom (length xs) (flat xs ++ rest) ≡ xs
+entries-front : {xs : List (List ℕ)} (rest : List ℕ) → Blocks 4 xs → entryBlocks (length xs) (flat xs ++ rest) ≡ xs
 entries-front rest blocks.none = refl
 entries-front rest (blocks.one {x = x} {xs = xs} e b) =
     rw (append-assoc x (flat xs) rest, take-at x (flat xs ++ rest) 4 e, drop-at x (flat xs ++ rest) 4 e, entries-front rest b)
 
 -- Entries that stand in an edition's, with n before them, stand so in the words.
 entries-held : (c : Conventions) (text cards entries : List ℕ) → Held c text cards entries → (n : ℕ) (xs : List (List ℕ)) → Blocks 4 xs → Stands (entriesOf c text) n xs
-    → entriesFrom (length xs) (drop (4 * n) entries) ≡ xs
+    → entryBlocks (length xs) (drop (4 * n) entries) ≡ xs
 entries-held c text cards entries h n xs b s =
     let zs : List ℕ = replicate (h .lent-entries - length (flat (entriesOf c text))) 0 in
     let front = blocks-left (s .before) (xs ++ s .after) (rw (s .whole) at (all-blocks c text)) in

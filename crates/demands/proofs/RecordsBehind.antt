@@ -17,9 +17,9 @@ use Rattle.reader.specs.Fellows.{Stands}
 use Rattle.reader.proofs.Fellows.{EveryBoard, RecordFilled, RecordEnds}
 use Rattle.planning.specs.declared.state.BoardState.{BoardState}
 use Rattle.planning.specs.declared.state.BoardState.the-variants.{Blank, Own, Old, Near, Twin, Solve}
-use Rattle.planning.specs.States.{judgedFrom, judged, boardFrom, stateIn, stateAt}
+use Rattle.planning.specs.States.{boardPlansFrom, boardPlans, planFrom, stateIn, stateAt}
 use Rattle.planning.specs.Slips.{cardFrom, behindState, behindIn, behindAt, partOf}
-use Rattle.planning.specs.Plans.{oldReading, newReading, bothAfter, editionsOf, behindBy, boardsOf}
+use Rattle.planning.specs.Plans.{oldReading, newReading, bothAfter, editionsOf, behindBy, plansOf}
 use Rattle.planning.specs.Demands.{recordAt, IsBehind, PlacesBehind, RecordsBehind}
 use Rattle.planning.proofs.BothLaws.{taken-short}
 use Rattle.planning.proofs.StateLaws.{reach}
@@ -65,14 +65,14 @@ whole-record c text k short h =
 -- ---- a board and its state
 
 from-behind : (os ns olds news : List (List ℕ)) (p : ℕ) (earlier xs : List (List ℕ)) (i : ℕ) → i < length xs
-    → behindIn os ns (boardFrom (judgedFrom olds news p earlier xs) i) ≡ behindState os ns (cardFrom xs i) (stateIn (boardFrom (judgedFrom olds news p earlier xs) i))
+    → behindIn os ns (planFrom (boardPlansFrom olds news p earlier xs) i) ≡ behindState os ns (cardFrom xs i) (stateIn (planFrom (boardPlansFrom olds news p earlier xs) i))
 from-behind os ns olds news p earlier [] i h = absurd (omega arith)
 from-behind os ns olds news p earlier (x ∷ xs) zero h = refl
 from-behind os ns olds news p earlier (x ∷ xs) (suc i) h = from-behind os ns olds news (p + 1) (earlier ++ (x ∷ [])) xs i (omega arith)
 
 behind-here : (olds news : List (List ℕ)) (i : ℕ) → i < length news
-    → behindAt olds news (judged olds news) (suc i) ≡ behindState olds news (cardFrom news i) (stateAt (judged olds news) (suc i))
-unfolding judged
+    → behindAt olds news (boardPlans olds news) (suc i) ≡ behindState olds news (cardFrom news i) (stateAt (boardPlans olds news) (suc i))
+unfolding boardPlans
 behind-here olds news i h = from-behind olds news olds news 1 [] news i h
 
 -- The record at a position from 1.
@@ -103,12 +103,12 @@ places-behind c old new zero so sn o l = absurd (omega arith)
 places-behind c old new (suc i) so sn o l =
     let h : i < length (cardsOf c new) = omega arith in
     rw (behind-here (cardsOf c old) (cardsOf c new) i h)
-    (behind-is c old new so sn i h (stateAt (boardsOf c old new) (suc i)) (reach-here (cardsOf c old) (cardsOf c new) i h))
+    (behind-is c old new so sn i h (stateAt (plansOf c old new) (suc i)) (reach-here (cardsOf c old) (cardsOf c new) i h))
 
 -- ---- as handed back
 
 both-behind : (x y : Reading) (c : Conventions) (old new : List ℕ) (p : ℕ) → isTaken x ≡ true → isTaken y ≡ true
-    → behindBy (bothAfter x y) c old new p ≡ behindAt (cardsOf c old) (cardsOf c new) (boardsOf c old new) p
+    → behindBy (bothAfter x y) c old new p ≡ behindAt (cardsOf c old) (cardsOf c new) (plansOf c old new) p
 both-behind (Taken m n) (Taken k l) c old new p a b = refl
 both-behind (Taken m n) (reading.Refused f) c old new p a b = clash b
 both-behind (reading.Refused f) y c old new p a b = clash a

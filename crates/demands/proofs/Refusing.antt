@@ -19,12 +19,12 @@ use Rattle.planning.specs.declared.editions.EditionsRefusal.the-variants.{Old, 
 use Rattle.planning.specs.declared.editions.Editions.{Editions}
 use Rattle.planning.specs.declared.editions.Editions.the-variants.{Both}
 use Rattle.planning.specs.declared.editions.Editions.the-variants as editions
-use Rattle.planning.specs.declared.plan.Planned.{Planned}
-use Rattle.planning.specs.declared.plan.Planned.the-variants.{Listed}
-use Rattle.planning.specs.declared.plan.Planned.the-variants as planned
-use Rattle.planning.specs.States.{Judged}
+use Rattle.planning.specs.declared.plan.Planning.{Planning}
+use Rattle.planning.specs.declared.plan.Planning.the-variants.{Planned}
+use Rattle.planning.specs.declared.plan.Planning.the-variants as planning
+use Rattle.planning.specs.States.{BoardPlan}
 use Rattle.planning.specs.Slips.{totalsOf}
-use Rattle.planning.specs.Plans.{Boxes, editionsNumber, editionsCarries, editionRefused, editionsOf, areBoth, plannedOf, isListed, boardsOf, stateBy, behindBy, boardsAfter, BoxesAfter}
+use Rattle.planning.specs.Plans.{Boxes, editionsNumber, editionsCarries, editionRefused, editionsOf, areBoth, planningOf, isPlanned, plansOf, stateBy, behindBy, boardsAfter, BoxesAfter}
 use Rattle.golavimes.specs.Answers.{readingNumbers, editionsHead, headThen, planNumbers, stateNumbers, recordNumbers, boardsNumbers}
 use Rattle.demands.specs.Demand1.{Refusal, refusal, Begins, GivenFrom, FirstThatHolds, Overlong, BoxFull, ListFull, ofEdition, ofEditions, solveIn, SlipsShort, BoxesZero, NoValues, ReadRefuses, PlanRefuses, StateRefuses, BehindRefuses, BoardsRefuse}
 
@@ -197,15 +197,15 @@ boxes-zero c well old new boxes boxes′ w b =
 
 -- ---- planning
 
-planned-not : (p : Planned) → (getD (planNumbers p) 0 0 ≡ 0 → ⊥) → (isListed p ≡ false) × NoValues 7 (planNumbers p)
-planned-not (Listed t) h = absurd (h refl)
-planned-not (planned.Refused f) h = (refl, refl)
+planned-not : (p : Planning) → (getD (planNumbers p) 0 0 ≡ 0 → ⊥) → (isPlanned p ≡ false) × NoValues 7 (planNumbers p)
+planned-not (Planned t) h = absurd (h refl)
+planned-not (planning.Refused f) h = (refl, refl)
 
-pub plan-met : (c : Conventions) (old new : List ℕ) (boxes : Boxes) (slips answer : List ℕ) → answer ≡ planNumbers (plannedOf c old new boxes (length slips))
+pub plan-met : (c : Conventions) (old new : List ℕ) (boxes : Boxes) (slips answer : List ℕ) → answer ≡ planNumbers (planningOf c old new boxes (length slips))
     → Met answer (ofEditions c old new boxes ++ (refusal 4 0 (solveIn c old new) (SlipsShort c old new slips) ∷ []))
-unfolding plannedOf
+unfolding planningOf
 plan-met c old new boxes slips answer e =
-    let t = totalsOf (boardsOf c old new) in
+    let t = totalsOf (plansOf c old new) in
     editions-met c old new boxes answer (refusal 4 0 (t .solve) (length slips / 5 < t .solve) ∷ [])
     (λ f q. rw (e, q) (record { number-said = refl; edition-said = refl; carried-said = refl }))
     (λ m n q.
@@ -215,13 +215,13 @@ plan-met c old new boxes slips answer e =
 
 pub plan-refuses : PlanRefuses
 plan-refuses c old new boxes slips boxes′ slips′ answer′ r o =
-    let q = plannedOf c old new boxes (length slips) in
-    let refused : (r ≡ 0 → ⊥) → (isListed q ≡ false) × NoValues 7 (planNumbers q) =
+    let q = planningOf c old new boxes (length slips) in
+    let refused : (r ≡ 0 → ⊥) → (isPlanned q ≡ false) × NoValues 7 (planNumbers q) =
     λ h. planned-not q (λ z. h (o .returned ∙ ap (λ (l : List ℕ). getD l 0 0) (o .told) ∙ z)) in
     record {
       refused = first-that-holds (ofEditions c old new boxes ++ (refusal 4 0 (solveIn c old new) (SlipsShort c old new slips) ∷ [])) answer′ refl (plan-met c old new boxes slips answer′ (o .told));
       returned = o .returned;
-      boxes-zero = λ h. boxes-zero c (isListed q) old new boxes boxes′ (refused h .0) (o .boxes-after);
+      boxes-zero = λ h. boxes-zero c (isPlanned q) old new boxes boxes′ (refused h .0) (o .boxes-after);
       slips-zero = λ h. o .slips-after ∙ rw (refused h .0);
       no-values = λ h. rw (o .told) (refused h .1);
     }
@@ -229,14 +229,14 @@ plan-refuses c old new boxes slips boxes′ slips′ answer′ r o =
 -- ---- a position, and all boards
 
 -- Both editions, where the answer does not begin with 0.
-state-not : (e : Editions) (js : List Judged) (p : ℕ) → (editionsHead e .refusal ≡ 0 → ⊥) → (areBoth e ≡ false) × NoValues 2 (stateNumbers e (stateBy e js p))
+state-not : (e : Editions) (js : List BoardPlan) (p : ℕ) → (editionsHead e .refusal ≡ 0 → ⊥) → (areBoth e ≡ false) × NoValues 2 (stateNumbers e (stateBy e js p))
 state-not (Both m n) js p h = absurd (h refl)
 state-not (editions.Refused f) js p h = (refl, refl)
 
 pub state-refuses : StateRefuses
 state-refuses c old new boxes boxes′ p answer′ r o =
     let q = editionsOf c old new boxes in
-    let js = boardsOf c old new in
+    let js = plansOf c old new in
     let refused : (r ≡ 0 → ⊥) → (areBoth q ≡ false) × NoValues 2 (stateNumbers q (stateBy q js p)) =
     λ h. state-not q js p (λ z. h (o .returned ∙ ap (λ (l : List ℕ). getD l 0 0) (o .told) ∙ z)) in
     record {

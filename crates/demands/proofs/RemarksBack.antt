@@ -17,15 +17,15 @@ use Rattle.tables.specs.Letters.{Accepted, every, among}
 use Rattle.tables.proofs.Laws.{by-cases, both, either, clash}
 use Rattle.reader.specs.Lines.{isBlank, hasBrace, lastBrace, lineKind}
 use Rattle.reader.specs.Pieces.{rawLines}
-use Rattle.reader.specs.Sections.{noteAfter}
+use Rattle.reader.specs.Sections.{commentaryAfter}
 use Rattle.reader.specs.Records.{recordsOf}
 use Rattle.reader.specs.Plain.{TagPair, Remark, PlainBoard, blockValue, plainOf, plainBoards}
 use Rattle.reader.proofs.WordLaws.{and-false}
 use Rattle.writer.specs.Tags.{WrittenTag, writtenTags}
-use Rattle.writer.specs.Remarks.{Anchored, nameAt, anchorOf, anchoredFrom, directivesOf, blocksOf, those, isLeading, isLost, isUnder, wrote, Line, tagLine, dataLine, directiveLine, blockLine, directiveLines, blockLines, directivesAfter, blocksAfter, tagsLines, leadingLines, bodyLines, lineText, linesText}
+use Rattle.writer.specs.Remarks.{Anchored, nameAt, anchorOf, anchoredFrom, directivesOf, blocksOf, those, isLeading, tagUnwritten, isUnder, wrote, WrittenLine, tagLine, dataLine, directiveLine, blockLine, directiveLines, blockLines, directivesAfter, blocksAfter, tagsLines, leadingLines, bodyLines, lineText, linesText}
 use Rattle.writer.specs.Pages.{ownPlay, bodyText, firstPart, pageText, writtenText}
 use Rattle.writer.specs.Given.{finishedBoards, finishedText}
-use Rattle.demands.specs.PageBack.{all, goodLine, isSigned, Shut, last, more, upToBrace, ReadsAs, tag, section, directive, comment, block, AllWritable, all-none, all-one, ownText, recordsAfter, tagsAsWritten, Place, placeOf, Texts, asDirectives, asBlocks, blockText, commentText, under, allUnder, underTags, lastName, readBack, remarksBack, builtInBack, pageBack, RemarksRead, EditionRemarks, FinishedRemarks}
+use Rattle.demands.specs.PageBack.{all, goodLine, isSigned, Shut, last, more, upToBrace, ReadsAs, tag, section, directive, comment, block, AllWritable, all-none, all-one, ownText, recordsAfter, tagsAsWritten, AnchoredBytes, anchoredBytes, Texts, asDirectives, asBlocks, blockText, commentText, under, allUnder, underTags, lastNameFrom, readBack, remarksBack, builtInBack, pageBack, RemarksRead, EditionRemarks, FinishedRemarks}
 use Rattle.reader.proofs.LineTags.{lineTags, lineDirectives, directivesOfLines, DirectivesOfLines, blockOn, innerBlock, lineBlocks, blockAfter, blocksOfLines, BlocksOfLines}
 use Rattle.demands.proofs.LineBack.{wrong, LineBack}
 use Rattle.demands.proofs.PageWalk.{GoodLines, line-then, headerLines, header-lines, header-good}
@@ -36,7 +36,7 @@ use Rattle.demands.proofs.WrittenTagsBack.{pairsIn, header-pairs, leadi
 -- ---- what written lines give
 
 -- Directives or blocks.
-abbrev textsOn : Texts → Line → List (List ℕ)
+abbrev textsOn : Texts → WrittenLine → List (List ℕ)
 textsOn t (tagLine n v) = []
 textsOn t (dataLine d) = []
 textsOn t (directiveLine i d) = t .of-directive d
@@ -48,17 +48,17 @@ remarked n [] = []
 remarked n (x ∷ xs) = record { bytes = x; before = n } ∷ remarked n xs
 
 -- One more tag stands before what follows a tag line.
-abbrev tagsAfter : ℕ → Line → ℕ
+abbrev tagsAfter : ℕ → WrittenLine → ℕ
 tagsAfter n (tagLine m v) = n + 1
 tagsAfter n (dataLine d) = n
 tagsAfter n (directiveLine i d) = n
 tagsAfter n (blockLine i v) = n
 
-abbrev remarksAt : Texts → ℕ → List Line → List Remark
+abbrev remarksAt : Texts → ℕ → List WrittenLine → List Remark
 remarksAt t n [] = []
 remarksAt t n (l ∷ ls) = remarked n (textsOn t l) ++ remarksAt t (tagsAfter n l) ls
 
-abbrev countAfter : ℕ → List Line → ℕ
+abbrev countAfter : ℕ → List WrittenLine → ℕ
 countAfter n [] = n
 countAfter n (l ∷ ls) = countAfter (tagsAfter n l) ls
 
@@ -66,17 +66,17 @@ countAfter n (l ∷ ls) = countAfter (tagsAfter n l) ls
 record Reads (t : Texts) (read : ℕ → List (List ℕ) → List Remark) : Type 0 where
   of-none : (n : ℕ) → read n [] ≡ []
   of-blank : (n : ℕ) (r : List (List ℕ)) → read n ((10 ∷ []) ∷ r) ≡ read n r
-  of-line : (n : ℕ) (l : Line) (ls r : List (List ℕ)) → ReadsAs l ls → read n (ls ++ r) ≡ remarked n (textsOn t l) ++ read (tagsAfter n l) r
+  of-line : (n : ℕ) (l : WrittenLine) (ls r : List (List ℕ)) → ReadsAs l ls → read n (ls ++ r) ≡ remarked n (textsOn t l) ++ read (tagsAfter n l) r
 
 -- ---- directives
 
 shut-directives : (n : ℕ) (ls r : List (List ℕ)) → Shut ls → directivesOfLines true n (ls ++ r) ≡ directivesOfLines false n r
-unfolding lineTags lineDirectives noteAfter
+unfolding lineTags lineDirectives commentaryAfter
 shut-directives n (l ∷ []) r (last h) = rw (h, add-zero n)
 shut-directives n (l ∷ ls) r (more h s) = rw (h, add-zero n) (shut-directives n ls r s)
 
-line-directives : (n : ℕ) (l : Line) (ls r : List (List ℕ)) → ReadsAs l ls → directivesOfLines false n (ls ++ r) ≡ remarked n (textsOn asDirectives l) ++ directivesOfLines false (tagsAfter n l) r
-unfolding lineTags lineDirectives noteAfter hasBrace
+line-directives : (n : ℕ) (l : WrittenLine) (ls r : List (List ℕ)) → ReadsAs l ls → directivesOfLines false n (ls ++ r) ≡ remarked n (textsOn asDirectives l) ++ directivesOfLines false (tagsAfter n l) r
+unfolding lineTags lineDirectives commentaryAfter hasBrace
 line-directives n (tagLine m v) (l ∷ []) r (tag k x y) = rw k
 line-directives n (dataLine d) (l ∷ []) r (section k x) = rw (k, add-zero n)
 line-directives n (directiveLine i d) (l ∷ []) r (directive g k x) = rw (k, add-zero n, g, x)
@@ -85,7 +85,7 @@ line-directives n (blockLine i v) (l ∷ []) r (block k (last h) u) = rw (k, h, 
 line-directives n (blockLine i v) (l ∷ ls) r (block k (more h s) u) = rw (k, h, add-zero n) (shut-directives n ls r s)
 
 directives-read : Reads asDirectives (directivesOfLines false)
-unfolding lineTags lineDirectives noteAfter lineKind isBlank trimmed isWhite
+unfolding lineTags lineDirectives commentaryAfter lineKind isBlank trimmed isWhite
 directives-read = record { of-none = λ n. refl; of-blank = λ n r. rw (add-zero n); of-line = line-directives }
 
 -- ---- blocks
@@ -104,7 +104,7 @@ any-text g h n [] = refl
 any-text g h n (l ∷ ls) = refl
 
 shut-blocks : (g : List ℕ) (n : ℕ) (l : List ℕ) (ls r : List (List ℕ)) → Shut (l ∷ ls) → blocksOfLines true g n ((l ∷ ls) ++ r) ≡ blockOn (g ++ upToBrace l ls) n ++ blocksOfLines false [] n r
-unfolding lineTags lineBlocks blockAfter noteAfter
+unfolding lineTags lineBlocks blockAfter commentaryAfter
 shut-blocks g n l [] r (last h) = rw (h, add-zero n, any-text (g ++ l) [] n r)
 shut-blocks g n l (m ∷ ms) r (more h s) = rw (h, add-zero n, shut-blocks (g ++ l) n m ms r s, append-assoc g l (upToBrace m ms))
 
@@ -140,8 +140,8 @@ block-inner l = let e : suc (lastBrace l) - 1 ≡ lastBrace l = omega arith in r
 value-then : (n : ℕ) (v : List ℕ) (ks : List Remark) → map blockValue (blockOn v n ++ ks) ≡ remarked n (blockText v) ++ map blockValue ks
 value-then n v ks = map-append blockValue (blockOn v n) ks ∙ rw (block-value n v)
 
-line-blocks : (n : ℕ) (l : Line) (ls r : List (List ℕ)) → ReadsAs l ls → blocksRead n (ls ++ r) ≡ remarked n (textsOn asBlocks l) ++ blocksRead (tagsAfter n l) r
-unfolding lineTags lineBlocks blockAfter noteAfter hasBrace isWhite
+line-blocks : (n : ℕ) (l : WrittenLine) (ls r : List (List ℕ)) → ReadsAs l ls → blocksRead n (ls ++ r) ≡ remarked n (textsOn asBlocks l) ++ blocksRead (tagsAfter n l) r
+unfolding lineTags lineBlocks blockAfter commentaryAfter hasBrace isWhite
 line-blocks n (tagLine m v) (l ∷ []) r (tag k x y) = rw (k, any-text (drop (length (lead l) + 1) l) [] (n + 1) r)
 line-blocks n (dataLine d) (l ∷ []) r (section k x) = rw (k, add-zero n, any-text (drop (length (lead l) + 1) l) [] n r)
 line-blocks n (directiveLine i d) (l ∷ []) r (directive g k x) = rw (k, add-zero n, any-text (drop (length (lead l) + 1) l) [] n r, g)
@@ -160,31 +160,31 @@ line-blocks n (blockLine i v) (b ∷ m ∷ ms) r (block {l = l} k (more h s) u) 
     ap (map blockValue) e ∙ value-then n v (blocksOfLines false [] n r)
 
 blocks-read : Reads asBlocks blocksRead
-unfolding lineTags lineBlocks blockAfter noteAfter lineKind isBlank trimmed isWhite
+unfolding lineTags lineBlocks blockAfter commentaryAfter lineKind isBlank trimmed isWhite
 blocks-read = record { of-none = λ n. refl; of-blank = λ n r. rw (add-zero n, any-text [] [] n r); of-line = line-blocks }
 
 -- ---- anchors
 
 -- The name of the last tag line.
-abbrev nameAfter : Option (List ℕ) → Line → Option (List ℕ)
+abbrev nameAfter : Option (List ℕ) → WrittenLine → Option (List ℕ)
 nameAfter a (tagLine m v) = some m
 nameAfter a (dataLine d) = a
 nameAfter a (directiveLine i d) = a
 nameAfter a (blockLine i v) = a
 
-abbrev nameBehind : Option (List ℕ) → List Line → Option (List ℕ)
+abbrev nameBehind : Option (List ℕ) → List WrittenLine → Option (List ℕ)
 nameBehind a [] = a
 nameBehind a (l ∷ ls) = nameBehind (nameAfter a l) ls
 
-name-append : (a : Option (List ℕ)) (xs ys : List Line) → nameBehind a (xs ++ ys) ≡ nameBehind (nameBehind a xs) ys
+name-append : (a : Option (List ℕ)) (xs ys : List WrittenLine) → nameBehind a (xs ++ ys) ≡ nameBehind (nameBehind a xs) ys
 name-append a [] ys = refl
 name-append a (x ∷ xs) ys = name-append (nameAfter a x) xs ys
 
 -- A remark's bytes and its anchor among the tags ts.
-abbrev placeIn : List TagPair → Remark → Place
+abbrev placeIn : List TagPair → Remark → AnchoredBytes
 placeIn ts k = (k .bytes, anchorOf ts (k .before))
 
-anchored-places : (ts : List TagPair) (i : ℕ) (ks : List Remark) → map placeOf (anchoredFrom ts i ks) ≡ map (placeIn ts) ks
+anchored-places : (ts : List TagPair) (i : ℕ) (ks : List Remark) → map anchoredBytes (anchoredFrom ts i ks) ≡ map (placeIn ts) ks
 anchored-places ts i [] = refl
 anchored-places ts i (k ∷ ks) = rw (anchored-places ts (i + 1) ks)
 
@@ -196,12 +196,12 @@ name-behind : (pre : List TagPair) (p : TagPair) (q : List TagPair) → nameAt (
 name-behind [] p q = refl
 name-behind (x ∷ xs) p q = name-behind xs p q
 
-abbrev placesAt : Texts → Option (List ℕ) → List Line → List Place
+abbrev placesAt : Texts → Option (List ℕ) → List WrittenLine → List AnchoredBytes
 placesAt t a [] = []
 placesAt t a (l ∷ ls) = under a (textsOn t l) ++ placesAt t (nameAfter a l) ls
 
 module _ (t : Texts) where
-  anchors-at : (ts pre post : List TagPair) (m : ℕ) (a : Option (List ℕ)) (ls : List Line) → ts ≡ pre ++ (pairsIn ls ++ post) → m ≡ length pre → anchorOf ts m ≡ a
+  anchors-at : (ts pre post : List TagPair) (m : ℕ) (a : Option (List ℕ)) (ls : List WrittenLine) → ts ≡ pre ++ (pairsIn ls ++ post) → m ≡ length pre → anchorOf ts m ≡ a
       → map (placeIn ts) (remarksAt t m ls) ≡ placesAt t a ls
   anchors-at ts pre post m a [] e em ea = refl
   anchors-at ts pre post m a (tagLine n v ∷ ls) e em ea =
@@ -218,20 +218,20 @@ module _ (t : Texts) where
 
   -- ---- the lines of a board
 
-  places-append : (a : Option (List ℕ)) (xs ys : List Line) → placesAt t a (xs ++ ys) ≡ placesAt t a xs ++ placesAt t (nameBehind a xs) ys
+  places-append : (a : Option (List ℕ)) (xs ys : List WrittenLine) → placesAt t a (xs ++ ys) ≡ placesAt t a xs ++ placesAt t (nameBehind a xs) ys
   places-append a [] ys = refl
   places-append a (x ∷ xs) ys =
       rw (places-append (nameAfter a x) xs ys) (sym (append-assoc (under a (textsOn t x)) (placesAt t (nameAfter a x) xs) (placesAt t (nameBehind (nameAfter a x) xs) ys)))
 
   -- Lines of one group, under the anchor a: what they give, and no tag among them.
-  record Group (a : Option (List ℕ)) (ls : List Line) (ps : List Place) : Type 0 where
+  record Group (a : Option (List ℕ)) (ls : List WrittenLine) (ps : List AnchoredBytes) : Type 0 where
     gives : placesAt t a ls ≡ ps
     same-name : nameBehind a ls ≡ a
 
-  group-then : {a : Option (List ℕ)} {xs : List Line} {ps : List Place} (ys : List Line) → Group a xs ps → placesAt t a (xs ++ ys) ≡ ps ++ placesAt t a ys
+  group-then : {a : Option (List ℕ)} {xs : List WrittenLine} {ps : List AnchoredBytes} (ys : List WrittenLine) → Group a xs ps → placesAt t a (xs ++ ys) ≡ ps ++ placesAt t a ys
   group-then {a} {xs} {ps} ys g = rw (places-append a xs ys, g .gives, g .same-name)
 
-  group-name : {a : Option (List ℕ)} {xs : List Line} {ps : List Place} (ys : List Line) → Group a xs ps → nameBehind a (xs ++ ys) ≡ nameBehind a ys
+  group-name : {a : Option (List ℕ)} {xs : List WrittenLine} {ps : List AnchoredBytes} (ys : List WrittenLine) → Group a xs ps → nameBehind a (xs ++ ys) ≡ nameBehind a ys
   group-name {a} {xs} {ps} ys g = rw (name-append a xs ys, g .same-name)
 
   data-group : (a : Option (List ℕ)) (ds : List (List ℕ)) → Group a (map dataLine ds) []
@@ -256,7 +256,7 @@ module _ (t : Texts) where
       by false = blocks-group a (those (isUnder (w .name)) ks)
 
   module _ (ds ks : List Anchored) where
-    tags-name : (a : Option (List ℕ)) (earlier ws : List WrittenTag) → nameBehind a (tagsLines ds ks earlier ws) ≡ lastName a ws
+    tags-name : (a : Option (List ℕ)) (earlier ws : List WrittenTag) → nameBehind a (tagsLines ds ks earlier ws) ≡ lastNameFrom a ws
     unfolding directivesAfter
     tags-name a earlier [] = refl
     tags-name a earlier (w ∷ ws) =
@@ -281,8 +281,8 @@ module _ (t : Texts) where
   unfolding leadingLines
   leading-places b = directives-group none (those isLeading (directivesOf b)) .gives
 
-  header-places : (ls : List Line) (ps : List Place) → placesAt t none ls ≡ ps → placesAt t none (headerLines ls) ≡ builtInBack t ls ++ ps
-  header-places [] ps e = rw (← e) (ap (λ (x : List Place). under none (t .of-directive (ascii "% PBN 2.1")) ++ x) (append-nil _) ∙ sym (append-nil _))
+  header-places : (ls : List WrittenLine) (ps : List AnchoredBytes) → placesAt t none ls ≡ ps → placesAt t none (headerLines ls) ≡ builtInBack t ls ++ ps
+  header-places [] ps e = rw (← e) (ap (λ (x : List AnchoredBytes). under none (t .of-directive (ascii "% PBN 2.1")) ++ x) (append-nil _) ∙ sym (append-nil _))
   header-places (l ∷ ls) ps e = e
 
   body-places : (b : PlainBoard) (ws : List WrittenTag) → allUnder (t .of-directive) none (those isLeading (directivesOf b)) ++ placesAt t none (bodyLines b ws) ≡ readBack t (directivesOf b) (blocksOf b) ws
@@ -290,16 +290,16 @@ module _ (t : Texts) where
   body-places b ws =
       let ds = directivesOf b in
       let ks = blocksOf b in
-      let a = lastName none ws in
-      let lost = blockLines (those (isLost ws) ks) ++ directiveLines (those (isLost ws) ds) in
-      ap (λ (x : List Place). allUnder (t .of-directive) none (those isLeading ds) ++ x)
+      let a = lastNameFrom none ws in
+      let lost = blockLines (those (tagUnwritten ws) ks) ++ directiveLines (those (tagUnwritten ws) ds) in
+      ap (λ (x : List AnchoredBytes). allUnder (t .of-directive) none (those isLeading ds) ++ x)
       (group-then (tagsLines ds ks [] ws ++ lost) (blocks-group none (those isLeading ks))
-      ∙ ap (λ (x : List Place). allUnder (t .of-block) none (those isLeading ks) ++ x)
+      ∙ ap (λ (x : List AnchoredBytes). allUnder (t .of-block) none (those isLeading ks) ++ x)
       (places-append none (tagsLines ds ks [] ws) lost
-      ∙ rw (tags-places ds ks none [] ws, tags-name ds ks none [] ws, group-then (directiveLines (those (isLost ws) ds)) (blocks-group a (those (isLost ws) ks)), directives-group a (those (isLost ws) ds) .gives)))
+      ∙ rw (tags-places ds ks none [] ws, tags-name ds ks none [] ws, group-then (directiveLines (those (tagUnwritten ws) ds)) (blocks-group a (those (tagUnwritten ws) ks)), directives-group a (those (tagUnwritten ws) ds) .gives)))
 
   -- Lines hs without tags, then the lines of a board's body, whose tags are ts.
-  lines-places : (ts : List TagPair) (hs ls : List Line) → pairsIn hs ≡ [] → ts ≡ pairsIn ls → map (placeIn ts) (remarksAt t 0 hs ++ remarksAt t 0 ls) ≡ placesAt t none hs ++ placesAt t none ls
+  lines-places : (ts : List TagPair) (hs ls : List WrittenLine) → pairsIn hs ≡ [] → ts ≡ pairsIn ls → map (placeIn ts) (remarksAt t 0 hs ++ remarksAt t 0 ls) ≡ placesAt t none hs ++ placesAt t none ls
   lines-places ts hs ls n e =
       let x = anchors-at ts [] ts 0 none hs (rw n) refl refl in
       let y = anchors-at ts [] [] 0 none ls (e ∙ sym (append-nil (pairsIn ls))) refl refl in
@@ -318,14 +318,14 @@ module _ (t : Texts) where
       let lead = allUnder (t .of-directive) none (those isLeading (directivesOf b)) in
       let body = placesAt t none (bodyLines b ws) in
       lines-places (tagsAsWritten c b) (headerLines (leadingLines b)) (bodyLines b ws) (header-pairs (leadingLines b) (leading-pairs b)) (sym (body-pairs b ws))
-      ∙ ap (λ (x : List Place). x ++ body) (header-places (leadingLines b) lead (leading-places b))
+      ∙ ap (λ (x : List AnchoredBytes). x ++ body) (header-places (leadingLines b) lead (leading-places b))
       ∙ append-assoc (builtInBack t (leadingLines b)) lead body
-      ∙ ap (λ (x : List Place). builtInBack t (leadingLines b) ++ x) (body-places b ws)
+      ∙ ap (λ (x : List AnchoredBytes). builtInBack t (leadingLines b) ++ x) (body-places b ws)
 
 -- ---- records
 
 -- Lines that hold no tag.
-abbrev tagless : List Line → Type 0
+abbrev tagless : List WrittenLine → Type 0
 tagless ls = (n : ℕ) → countAfter n ls ≡ n
 
 directives-tagless : (ks : List Anchored) → tagless (directiveLines ks)
@@ -336,7 +336,7 @@ leading-tagless : (b : PlainBoard) → tagless (leadingLines b)
 unfolding leadingLines
 leading-tagless b = directives-tagless (those isLeading (directivesOf b))
 
-header-tagless : (ls : List Line) → tagless ls → tagless (headerLines ls)
+header-tagless : (ls : List WrittenLine) → tagless ls → tagless (headerLines ls)
 header-tagless [] h n = refl
 header-tagless (l ∷ ls) h n = h n
 
@@ -345,11 +345,11 @@ abbrev Gives : (ℕ → List (List ℕ) → List Remark) → List ℕ → List R
 Gives read own ks = (r : List ℕ) → ((n : ℕ) → read n (rawLines r) ≡ []) → read 0 (rawLines (own ++ r)) ≡ ks
 
 -- The remarks of a record that are read, in their places.
-abbrev placesRead : (ℕ → List (List ℕ) → List Remark) → Conventions → List ℕ → List Place
+abbrev placesRead : (ℕ → List (List ℕ) → List Remark) → Conventions → List ℕ → List AnchoredBytes
 placesRead read d r = map (placeIn (plainOf d r .tags)) (read 0 (rawLines r))
 
 module _ (t : Texts) (read : ℕ → List (List ℕ) → List Remark) (reads : Reads t read) where
-  lines-read : (n : ℕ) (ls : List Line) (r : List ℕ) → all goodLine ls ≡ true → read n (rawLines (linesText ls ++ r)) ≡ remarksAt t n ls ++ read (countAfter n ls) (rawLines r)
+  lines-read : (n : ℕ) (ls : List WrittenLine) (r : List ℕ) → all goodLine ls ≡ true → read n (rawLines (linesText ls ++ r)) ≡ remarksAt t n ls ++ read (countAfter n ls) (rawLines r)
   lines-read n [] r e = refl
   lines-read n (l ∷ ls) r e =
       let h = both (goodLine l) (all goodLine ls) e in
@@ -399,17 +399,17 @@ module _ (t : Texts) (read : ℕ → List (List ℕ) → List Remark) (reads : R
 
   -- The same of the remarks that a plain board has.
   read-back : (c d : Conventions) → Accepted c → (bs : List PlainBoard) → AllWritable bs → (had : PlainBoard → List Anchored)
-      → ((r : List ℕ) → map placeOf (had (plainOf d r)) ≡ placesRead read d r) → map (λ r. map placeOf (had (plainOf d r))) (recordsOf (pageText c bs)) ≡ pageBack t c bs
+      → ((r : List ℕ) → map anchoredBytes (had (plainOf d r)) ≡ placesRead read d r) → map (λ r. map anchoredBytes (had (plainOf d r))) (recordsOf (pageText c bs)) ≡ pageBack t c bs
   read-back c d ok bs w had placed =
-      map-congr-left {f = λ r. map placeOf (had (plainOf d r))} {g = placesRead read d} {l = recordsOf (pageText c bs)} (λ r m. placed r) ∙ page-places c d ok bs w
+      map-congr-left {f = λ r. map anchoredBytes (had (plainOf d r))} {g = placesRead read d} {l = recordsOf (pageText c bs)} (λ r m. placed r) ∙ page-places c d ok bs w
 
 -- ---- the theorems
 
-directives-placed : (d : Conventions) (r : List ℕ) → map placeOf (directivesOf (plainOf d r)) ≡ placesRead (directivesOfLines false) d r
+directives-placed : (d : Conventions) (r : List ℕ) → map anchoredBytes (directivesOf (plainOf d r)) ≡ placesRead (directivesOfLines false) d r
 unfolding directivesOf
 directives-placed d r = anchored-places (plainOf d r .tags) 0 (plainOf d r .directives) ∙ rw (DirectivesOfLines d r)
 
-blocks-placed : (d : Conventions) (r : List ℕ) → map placeOf (blocksOf (plainOf d r)) ≡ placesRead blocksRead d r
+blocks-placed : (d : Conventions) (r : List ℕ) → map anchoredBytes (blocksOf (plainOf d r)) ≡ placesRead blocksRead d r
 unfolding blocksOf
 blocks-placed d r = anchored-places (plainOf d r .tags) 0 (plainOf d r .blocks) ∙ rw (BlocksOfLines d r)
 

@@ -9,7 +9,7 @@ use Rattle.reader.specs.Plain.{TagPair, Remark}
 use Rattle.reader.proofs.WordLaws.{same-self}
 use Rattle.reader.proofs.EntryLaws.{All, none as no-more, one, all-append, all-map}
 use Rattle.writer.specs.Tags.{WrittenTag}
-use Rattle.writer.specs.Remarks.{Anchored, anchoredFrom, those, isLeading, isUnder, wrote, isLost, Line, tagLine, dataLine, directiveLine, blockLine, tagsLines}
+use Rattle.writer.specs.Remarks.{Anchored, anchoredFrom, those, isLeading, isUnder, wrote, tagUnwritten, WrittenLine, tagLine, dataLine, directiveLine, blockLine, tagsLines}
 use Rattle.demands.specs.NothingLost.{Kind, directive, block, lineOf, untilTag, InOrder, by-rank, as-met}
 use Rattle.demands.proofs.LinesWritten.{remarkLines, blocksUnder, tag-lines, allLines, until-remarks, numbered, Each, ended, next, each-quiet, each-end, all-data, all-until}
 
@@ -33,31 +33,31 @@ those-rise t ts j (r ∷ rs) =
 
 module _ (rk : Kind → ℕ → ℕ) where
   -- A remark's line that stands behind the remark of a rank and a number; and one of a higher rank.
-  abbrev pub Behind : ℕ → ℕ → Line → Type 0
+  abbrev pub Behind : ℕ → ℕ → WrittenLine → Type 0
   Behind r i (tagLine n v) = Unit {0}
   Behind r i (dataLine d) = Unit {0}
   Behind r i (directiveLine j x) = InOrder r i (rk directive j) j
   Behind r i (blockLine j x) = InOrder r i (rk block j) j
 
-  abbrev Higher : ℕ → Line → Type 0
+  abbrev Higher : ℕ → WrittenLine → Type 0
   Higher r (tagLine n v) = Unit {0}
   Higher r (dataLine d) = Unit {0}
   Higher r (directiveLine j x) = r < rk directive j
   Higher r (blockLine j x) = r < rk block j
 
-  abbrev pub Ordered : List Line → Line → List Line → Type 0
+  abbrev pub Ordered : List WrittenLine → WrittenLine → List WrittenLine → Type 0
   Ordered f (tagLine n v) back = Unit {0}
   Ordered f (dataLine d) back = Unit {0}
   Ordered f (directiveLine i x) back = All (Behind (rk directive i) i) (untilTag back)
   Ordered f (blockLine i x) back = All (Behind (rk block i) i) (untilTag back)
 
-  higher-behind : (r i : ℕ) (l : Line) → Higher r l → Behind r i l
+  higher-behind : (r i : ℕ) (l : WrittenLine) → Higher r l → Behind r i l
   higher-behind r i (tagLine n v) h = tt
   higher-behind r i (dataLine d) h = tt
   higher-behind r i (directiveLine j x) h = by-rank h
   higher-behind r i (blockLine j x) h = by-rank h
 
-  higher-less : (r s : ℕ) → r ≤ s → (l : Line) → Higher s l → Higher r l
+  higher-less : (r s : ℕ) → r ≤ s → (l : WrittenLine) → Higher s l → Higher r l
   higher-less r s q (tagLine n v) h = tt
   higher-less r s q (dataLine d) h = tt
   higher-less r s q (directiveLine j x) h = omega arith
@@ -75,11 +75,11 @@ module _ (rk : Kind → ℕ → ℕ) where
   to-higher directive r j x h = h
   to-higher block r j x h = h
 
-  to-ordered : (kind : Kind) (i : ℕ) (x : List ℕ) (f back : List Line) → All (Behind (rk kind i) i) (untilTag back) → Ordered f (lineOf kind i x) back
+  to-ordered : (kind : Kind) (i : ℕ) (x : List ℕ) (f back : List WrittenLine) → All (Behind (rk kind i) i) (untilTag back) → Ordered f (lineOf kind i x) back
   to-ordered directive i x f back h = h
   to-ordered block i x f back h = h
 
-  pub from-ordered : (kind : Kind) (i : ℕ) (x : List ℕ) (f back : List Line) → Ordered f (lineOf kind i x) back → All (Behind (rk kind i) i) (untilTag back)
+  pub from-ordered : (kind : Kind) (i : ℕ) (x : List ℕ) (f back : List WrittenLine) → Ordered f (lineOf kind i x) back → All (Behind (rk kind i) i) (untilTag back)
   from-ordered directive i x f back h = h
   from-ordered block i x f back h = h
 
@@ -92,9 +92,9 @@ module _ (rk : Kind → ℕ → ℕ) where
   behind-lines kind r i no-more no-more = no-more
   behind-lines kind r i (one {x = k} e a) (one h b) = one (to-behind kind r i (k .number) (k .bytes) (as-met (sym e) h)) (behind-lines kind r i a b)
 
-  each-ordered : (kind : Kind) (r : ℕ) {ks : List Anchored} (f ys : List Line) → All (λ k. rk kind (k .number) ≡ r) ks → Rising ks → All (Higher r) (untilTag ys)
+  each-ordered : (kind : Kind) (r : ℕ) {ks : List Anchored} (f ys : List WrittenLine) → All (λ k. rk kind (k .number) ≡ r) ks → Rising ks → All (Higher r) (untilTag ys)
       → Each Ordered (f ++ remarkLines kind ks) ys → Each Ordered f (remarkLines kind ks ++ ys)
-  each-ordered kind r f ys no-more no-rise h e = subst (λ (g : List Line). Each Ordered g ys) (append-nil f) e
+  each-ordered kind r f ys no-more no-rise h e = subst (λ (g : List WrittenLine). Each Ordered g ys) (append-nil f) e
   each-ordered kind r f ys (one {x = k} {xs = ks} q a) (rise lo up) h e =
       let l = lineOf kind (k .number) (k .bytes) in
       let here : All (Behind r (k .number)) (untilTag (remarkLines kind ks ++ ys)) =
@@ -102,9 +102,9 @@ module _ (rk : Kind → ℕ → ℕ) where
       (all-append (behind-lines kind r (k .number) a lo) (all-map (higher-behind r (k .number)) h)) in
       next
       (to-ordered kind (k .number) (k .bytes) f (remarkLines kind ks ++ ys) (subst (λ (s : ℕ). All (Behind s (k .number)) (untilTag (remarkLines kind ks ++ ys))) (sym q) here))
-      (each-ordered kind r (f ++ l ∷ []) ys a up h (subst (λ (g : List Line). Each Ordered g ys) (sym (append-assoc f (l ∷ []) (remarkLines kind ks))) e))
+      (each-ordered kind r (f ++ l ∷ []) ys a up h (subst (λ (g : List WrittenLine). Each Ordered g ys) (sym (append-assoc f (l ∷ []) (remarkLines kind ks))) e))
 
-  soon-higher : (r : ℕ) (ds ks : List Anchored) (earlier ws : List WrittenTag) (ys : List Line) → All (Higher r) (untilTag ys)
+  soon-higher : (r : ℕ) (ds ks : List Anchored) (earlier ws : List WrittenTag) (ys : List WrittenLine) → All (Higher r) (untilTag ys)
       → All (Higher r) (untilTag (tagsLines ds ks earlier ws ++ ys))
   soon-higher r ds ks earlier [] ys h = h
   soon-higher r ds ks earlier (w ∷ ws) ys h = no-more
@@ -125,9 +125,9 @@ module _ (rk : Kind → ℕ → ℕ) where
         blocks-rise = r .blocks-rise;
       }
 
-  each-ordered-tags : (ds ks : List Anchored) (earlier ws : List WrittenTag) (f ys : List Line) → Ranked ws ds ks → All (Higher 1) (untilTag ys)
+  each-ordered-tags : (ds ks : List Anchored) (earlier ws : List WrittenTag) (f ys : List WrittenLine) → Ranked ws ds ks → All (Higher 1) (untilTag ys)
       → Each Ordered (f ++ tagsLines ds ks earlier ws) ys → Each Ordered f (tagsLines ds ks earlier ws ++ ys)
-  each-ordered-tags ds ks earlier [] f ys r h e = subst (λ (g : List Line). Each Ordered g ys) (append-nil f) e
+  each-ordered-tags ds ks earlier [] f ys r h e = subst (λ (g : List WrittenLine). Each Ordered g ys) (append-nil f) e
   each-ordered-tags ds ks earlier (w ∷ ws) f ys r h e =
       let n = w .name in
       let tag = tagLine n (w .value) in
@@ -143,28 +143,28 @@ module _ (rk : Kind → ℕ → ℕ) where
       let above-directives : All (Higher 0) (untilTag (B ++ (T ++ ys))) =
       subst (All (Higher 0)) (sym (until-remarks block under-ks (T ++ ys)))
       (all-append (higher-lines block 0 1 (omega arith) ranks) (all-map (higher-less 0 1 (omega arith)) soon)) in
-      subst (λ (X : List Line). Each Ordered f (X ++ ys)) (sym (tag-lines ds ks earlier ws w))
+      subst (λ (X : List WrittenLine). Each Ordered f (X ++ ys)) (sym (tag-lines ds ks earlier ws w))
       (simp append-assoc
       (next tt
       (each-quiet (f ++ tag ∷ []) (R ++ (B ++ (T ++ ys))) (all-data (w .lines) (λ d g back. tt))
       (each-ordered directive 0 (f ++ tag ∷ [] ++ D) (B ++ (T ++ ys)) (r .directives-under n here) (r .directives-rise (isUnder n)) above-directives
       (each-ordered block 1 (f ++ tag ∷ [] ++ D ++ R) (T ++ ys) ranks rises soon
       (each-ordered-tags ds ks (earlier ++ w ∷ []) ws (f ++ tag ∷ [] ++ D ++ R ++ B) ys (fewer w r) h
-      (simp append-assoc (subst (λ (X : List Line). Each Ordered (f ++ X) ys) (tag-lines ds ks earlier ws w) e))))))))
+      (simp append-assoc (subst (λ (X : List WrittenLine). Each Ordered (f ++ X) ys) (tag-lines ds ks earlier ws w) e))))))))
 
   pub each-ordered-all : (ds ks : List Anchored) (ws : List WrittenTag) → Ranked ws ds ks
       → All (λ k. rk directive (k .number) ≡ 0) (those isLeading ds) → All (λ k. rk block (k .number) ≡ 1) (those isLeading ks)
-      → All (λ k. rk block (k .number) ≡ 2) (those (isLost ws) ks) → All (λ k. rk directive (k .number) ≡ 3) (those (isLost ws) ds)
+      → All (λ k. rk block (k .number) ≡ 2) (those (tagUnwritten ws) ks) → All (λ k. rk directive (k .number) ≡ 3) (those (tagUnwritten ws) ds)
       → Each Ordered [] (allLines ds ks ws)
   each-ordered-all ds ks ws r a0 a1 a2 a3 =
       let A = remarkLines directive (those isLeading ds) in
       let B = remarkLines block (those isLeading ks) in
       let T = tagsLines ds ks [] ws in
-      let Y = remarkLines block (those (isLost ws) ks) in
-      let Z = remarkLines directive (those (isLost ws) ds) in
-      let last : All (Higher 2) (untilTag Z) = all-until directive (those (isLost ws) ds) (higher-lines directive 2 3 (omega arith) a3) in
+      let Y = remarkLines block (those (tagUnwritten ws) ks) in
+      let Z = remarkLines directive (those (tagUnwritten ws) ds) in
+      let last : All (Higher 2) (untilTag Z) = all-until directive (those (tagUnwritten ws) ds) (higher-lines directive 2 3 (omega arith) a3) in
       let ends : All (Higher 1) (untilTag (Y ++ Z)) =
-      subst (All (Higher 1)) (sym (until-remarks block (those (isLost ws) ks) Z))
+      subst (All (Higher 1)) (sym (until-remarks block (those (tagUnwritten ws) ks) Z))
       (all-append (higher-lines block 1 2 (omega arith) a2) (all-map (higher-less 1 2 (omega arith)) last)) in
       let tags = soon-higher 1 ds ks [] ws (Y ++ Z) ends in
       let blocks : All (Higher 0) (untilTag (B ++ (T ++ (Y ++ Z)))) =
@@ -173,5 +173,5 @@ module _ (rk : Kind → ℕ → ℕ) where
       each-ordered directive 0 [] (B ++ (T ++ (Y ++ Z))) a0 (r .directives-rise isLeading) blocks
       (each-ordered block 1 A (T ++ (Y ++ Z)) a1 (r .blocks-rise isLeading) tags
       (each-ordered-tags ds ks [] ws (A ++ B) (Y ++ Z) r ends
-      (each-ordered block 2 (A ++ B ++ T) Z a2 (r .blocks-rise (isLost ws)) last
-      (each-end (each-ordered directive 3 (A ++ B ++ T ++ Y) [] a3 (r .directives-rise (isLost ws)) no-more ended)))))
+      (each-ordered block 2 (A ++ B ++ T) Z a2 (r .blocks-rise (tagUnwritten ws)) last
+      (each-end (each-ordered directive 3 (A ++ B ++ T ++ Y) [] a3 (r .directives-rise (tagUnwritten ws)) no-more ended)))))

@@ -13,7 +13,7 @@ use Rattle.reader.specs.declared.deal.Hands.{Hands}
 use Rattle.reader.specs.Editions.{cardsOf}
 use Rattle.planning.specs.declared.state.BoardState.the-variants.{Own, Near, Twin, Solve}
 use Rattle.planning.specs.Cards.{handsOf, hasTable, fits}
-use Rattle.planning.specs.States.{firstWith, judged, stateAt, stateNumber}
+use Rattle.planning.specs.States.{firstWith, boardPlans, stateAt, stateNumber}
 use Rattle.planning.specs.Slips.{cardFrom}
 use Rattle.planning.specs.Demands.{WithDeal, Tabled, None, FirstMeans, StatesMean, BlankOutside, TwinsOfSolve, NearOfOwn}
 use Rattle.planning.proofs.FoundLaws.{Tells, zero-none, none-zero, found-is-first, first-is-found, numbered, card-among, take-card}
@@ -48,7 +48,7 @@ pub record Board (news : List (List ℕ)) (p : ℕ) : Type 0 where
   pub is : p ≡ suc index
   pub below : index < length news
 
-pub board-at : (olds news : List (List ℕ)) (p : ℕ) → (stateNumber (stateAt (judged olds news) p) ≡ 0 → ⊥) → Board news p
+pub board-at : (olds news : List (List ℕ)) (p : ℕ) → (stateNumber (stateAt (boardPlans olds news) p) ≡ 0 → ⊥) → Board news p
 board-at olds news zero n = absurd (n refl)
 board-at olds news (suc i) n =
     by-cases (ltb i (length news))
@@ -58,7 +58,7 @@ board-at olds news (suc i) n =
 module _ (olds news : List (List ℕ)) (so : Handed olds) (sn : Handed news) where
   -- The first board with the deal h, where no board has deal and table, is a solve board.
   pub first-solves : (h : Hands) (j : ℕ) → j < length news → WithDeal h (cardFrom news j) → None (Tabled h) olds → None (Tabled h) news
-      → ((m : ℕ) → m < j → WithDeal h (cardFrom news m) → ⊥) → stateAt (judged olds news) (suc j) ≡ Solve
+      → ((m : ℕ) → m < j → WithDeal h (cardFrom news m) → ⊥) → stateAt (boardPlans olds news) (suc j) ≡ Solve
   first-solves h j b d none-old nn nb =
       let e : handsOf (cardFrom news j) ≡ h = d .hands in
       here-says olds news so sn j b Solve .1 (
@@ -76,18 +76,18 @@ module _ (olds news : List (List ℕ)) (so : Handed olds) (sn : Handed news) whe
           nb (n .number) l (rw q k)
 
 -- A source is a board.
-pub reach-here : (olds news : List (List ℕ)) (i : ℕ) → i < length news → reach (length olds) (length news) (stateAt (judged olds news) (suc i))
+pub reach-here : (olds news : List (List ℕ)) (i : ℕ) → i < length news → reach (length olds) (length news) (stateAt (boardPlans olds news) (suc i))
 reach-here olds news i h =
     rw (state-here olds news i h) (state-reach olds news (take i news) (cardFrom news i) (omega (arith, length-take-le i news (omega arith))))
 
 module _ (olds news : List (List ℕ)) where
-  twin-source : (i k : ℕ) → i < length news → stateAt (judged olds news) (suc i) ≡ Twin k → (1 ≤ k) × (k < suc i) × (stateAt (judged olds news) k ≡ Solve)
+  twin-source : (i k : ℕ) → i < length news → stateAt (boardPlans olds news) (suc i) ≡ Twin k → (1 ≤ k) × (k < suc i) × (stateAt (boardPlans olds news) k ≡ Solve)
   twin-source i zero b e = absurd (omega (arith, (rw e at (reach-here olds news i b)) .0))
   twin-source i (suc j) b e =
       let s = twin-solve olds news i (omega arith) (cardFrom news i) j (sym (state-here olds news i b) ∙ e) in
       (omega arith, omega (arith, s .0), state-here olds news j (omega (arith, s .0)) ∙ s .1)
 
-  near-source : (i k : ℕ) → i < length news → stateAt (judged olds news) (suc i) ≡ Near k → stateAt (judged olds news) k ≡ Own
+  near-source : (i k : ℕ) → i < length news → stateAt (boardPlans olds news) (suc i) ≡ Near k → stateAt (boardPlans olds news) k ≡ Own
   near-source i zero b e = absurd (omega (arith, (rw e at (reach-here olds news i b)) .0))
   near-source i (suc j) b e =
       let s = near-own olds news (take i news) (cardFrom news i) j (sym (state-here olds news i b) ∙ e) in

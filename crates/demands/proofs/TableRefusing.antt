@@ -20,10 +20,10 @@ use Rattle.tables.specs.Numbers.{numberOf}
 use Rattle.tables.specs.Letters.{seatOf, strainOf}
 use Rattle.tables.specs.Refusals.{refusalNumber, refusalCarries}
 use Rattle.tables.specs.Page.{answerOf, pageOf}
-use Rattle.tables.specs.Tables.{Reading, holds, refuses, tableRead, digitOf, firstBad, digitsReading, tableOfDigits, cellOf, resultRow, fieldsRow, rowWith, rowOf, storedRow, gathered, unless, gather, tableOfRows}
+use Rattle.tables.specs.Tables.{TableReading, holds, refuses, tableRead, digitOf, firstBad, digitsReading, tableOfDigits, cellOf, resultRow, fieldsRow, rowWith, rowOf, storedRow, gathered, unless, gather, tableOfRows}
 use Rattle.tables.proofs.Laws.{by-cases, clash}
 use Rattle.golavimes.specs.Answers.{writtenNumbers, decodedNumbers}
-use Rattle.demands.specs.Demand1.{refusal, PageFull, valueOf, digitsBefore, ofDigits, isFault, rowsBefore, field, NotThree, BadSeat, BadStrain, NoNumber, Above, InRow, cellsAfter, absent, ofRows, NoValues, WriterRefuses, DigitsRefuse, RowsRefuse}
+use Rattle.demands.specs.Demand1.{refusal, PageFull, valueCharacters, digitsBefore, ofDigits, isFault, rowsBefore, field, NotThree, BadSeat, BadStrain, NoNumber, Above, InRow, cellsAfter, absent, ofRows, NoValues, WriterRefuses, DigitsRefuse, RowsRefuse}
 use Rattle.demands.proofs.Refusing.{Says, Met, nothing, this, later, met-by, first-that-holds}
 
 -- ---- pages
@@ -58,18 +58,18 @@ writer-refuses text page page′ answer′ r o =
 -- ---- tables that are read
 
 -- A table that is refused is all zero, and its answer says the refusal.
-table-not : (t : Reading) → (getD (decodedNumbers (tableRead t .answer)) 0 0 ≡ 0 → ⊥) → tableRead t .table ≡ replicate 20 0
+table-not : (t : TableReading) → (getD (decodedNumbers (tableRead t .answer)) 0 0 ≡ 0 → ⊥) → tableRead t .table ≡ replicate 20 0
 table-not (holds cells) h = absurd (h refl)
 table-not (refuses f) h = refl
 
-table-one : (t : Reading) → getD (decodedNumbers (tableRead t .answer)) 1 0 ≡ 0
+table-one : (t : TableReading) → getD (decodedNumbers (tableRead t .answer)) 1 0 ≡ 0
 table-one (holds cells) = refl
 table-one (refuses f) = refl
 
-refused-says : (t : Reading) (answer : List ℕ) (f : TableRefusal) → answer ≡ decodedNumbers (tableRead t .answer) → t ≡ refuses f → Says answer (refusalNumber f) 0 (refusalCarries f)
+refused-says : (t : TableReading) (answer : List ℕ) (f : TableRefusal) → answer ≡ decodedNumbers (tableRead t .answer) → t ≡ refuses f → Says answer (refusalNumber f) 0 (refusalCarries f)
 refused-says t answer f e q = rw (e, q) (record { number-said = refl; edition-said = refl; carried-said = refl })
 
-holds-says : (t : Reading) (answer cells : List ℕ) → answer ≡ decodedNumbers (tableRead t .answer) → t ≡ holds cells → Says answer 0 0 0
+holds-says : (t : TableReading) (answer cells : List ℕ) → answer ≡ decodedNumbers (tableRead t .answer) → t ≡ holds cells → Says answer 0 0 0
 holds-says t answer cells e q = rw (e, q) (record { number-said = refl; edition-said = refl; carried-said = refl })
 
 -- ---- digits
@@ -91,7 +91,7 @@ bad-none (x ∷ xs) i e h =
 digits-met : (value answer : List ℕ) → answer ≡ decodedNumbers (tableRead (tableOfDigits value) .answer) → Met answer (ofDigits value)
 unfolding tableOfDigits digitsReading
 digits-met value answer e =
-    let xs = valueOf value in
+    let xs = valueCharacters value in
     met-by (eqb (length xs) 20)
     (λ t. later (λ h. h (eqb-true (length xs) 20 t)) (go xs t e (firstBad xs 0) refl))
     (λ t. this (eqb-false (length xs) 20 t) (refused-says (digitsReading xs) answer (Length (length xs)) e (rw t)))
@@ -203,12 +203,12 @@ module _ (c : Conventions) (n : ℕ) (row : List ℕ) where
   unfolding rowOf
   row-why h = with-why (fields row) refl h
 
-unless-fault : (x : Row) (r : Reading) → isFault x ≡ true → unless x r ≡ refuses (faultIn x)
+unless-fault : (x : Row) (r : TableReading) → isFault x ≡ true → unless x r ≡ refuses (faultIn x)
 unless-fault Blank r e = clash e
 unless-fault (Cell k v) r e = clash e
 unless-fault (Fault f) r e = refl
 
-unless-good : (x : Row) (r : Reading) → isFault x ≡ false → unless x r ≡ r
+unless-good : (x : Row) (r : TableReading) → isFault x ≡ false → unless x r ≡ r
 unless-good Blank r e = refl
 unless-good (Cell k v) r e = refl
 unless-good (Fault f) r e = clash (sym e)

@@ -31,7 +31,7 @@ use Rattle.reader.proofs.Folds.{foldTags, fold-append, foldDeal, foldTable, Num
 use Rattle.writer.specs.Sections.{noteValues}
 use Rattle.writer.specs.Tags.{WrittenTag, tagOf, orEmpty, ifThere, seatText, resultText, firstSeat, dealValue, named, firstValue, isExtra, extrasFrom, beforeDeal, fromDeal, earlyExtras, lateExtras, dealerTags, headTags, tableTags, dealTags, noteTag, auctionTags, playTags, writtenTags}
 use Rattle.writer.specs.Pages.{ownPlay}
-use Rattle.demands.specs.PageBack.{all, pairOf, tagsAsWritten}
+use Rattle.demands.specs.PageBack.{all, tagPair, tagsAsWritten}
 use Rattle.demands.proofs.TrimmedDirectives.{all-append}
 
 -- ---- the tags among which the deal and the table stand
@@ -133,10 +133,10 @@ behind-quiet c b play =
 
 -- No tag has the number n.
 abbrev Without : ℕ → List WrittenTag → Type 0
-Without n ws = All (Numbered (λ k. k ≡ n → ⊥)) (map pairOf ws)
+Without n ws = All (Numbered (λ k. k ≡ n → ⊥)) (map tagPair ws)
 
 without-append : (n : ℕ) (ws vs : List WrittenTag) → Without n ws → Without n vs → Without n (ws ++ vs)
-without-append n ws vs a b = rw (map-append pairOf ws vs) (each-append a b)
+without-append n ws vs a b = rw (map-append tagPair ws vs) (each-append a b)
 
 quiet-without : (n : ℕ) → isQuiet n ≡ false → (ws : List WrittenTag) → all quiet ws ≡ true → Without n ws
 quiet-without n q [] e = none
@@ -176,16 +176,16 @@ rest-without n q e c b play =
     (quiet-without n q (behind c b play) (behind-quiet c b play))
 
 deal-told : (c : Conventions) (b : PlainBoard) (play : List (List ℕ))
-    → foldDeal c (map pairOf (writtenTags c b play)) ≡ dealBy c 4 (dealValue c b (b .values .deal)) (noBoard .deal)
+    → foldDeal c (map tagPair (writtenTags c b play)) ≡ dealBy c 4 (dealValue c b (b .values .deal)) (noBoard .deal)
 deal-told c b play =
     let tables = tableTags (b .table) in
     let rest = between c b ++ (tables ++ behind c b play) in
     rw (
       written-parts c b play,
       append-assoc (before c b) (dealTag c b ∷ between c b) (tables ++ behind c b play),
-      map-append pairOf (before c b) (dealTag c b ∷ rest),
+      map-append tagPair (before c b) (dealTag c b ∷ rest),
     )
-    (FoldOne (dealBy c) 4 (deal-heeds c) (noBoard .deal) (map pairOf (before c b)) (pairOf (dealTag c b)) (map pairOf rest)
+    (FoldOne (dealBy c) 4 (deal-heeds c) (noBoard .deal) (map tagPair (before c b)) (tagPair (dealTag c b)) (map tagPair rest)
     (quiet-without 4 refl (before c b) (before-quiet c b)) deal-number
     (without-append 4 (between c b) (tables ++ behind c b play)
     (quiet-without 4 refl (between c b) (between-quiet c b))
@@ -193,19 +193,19 @@ deal-told c b play =
 
 -- Tags without the number heeded stand around ws.
 fold-within : {A : Type 0} (f : ℕ → List ℕ → A → A) (n : ℕ) → Heeds f n → (a : A) (xs ws ys : List WrittenTag) → Without n xs → Without n ys
-    → foldTags f a (map pairOf (xs ++ (ws ++ ys))) ≡ foldTags f a (map pairOf ws)
+    → foldTags f a (map tagPair (xs ++ (ws ++ ys))) ≡ foldTags f a (map tagPair ws)
 fold-within f n h a xs ws ys x y =
     rw (
-      map-append pairOf xs (ws ++ ys),
-      map-append pairOf ws ys,
-      fold-append f a (map pairOf xs) (map pairOf ws ++ map pairOf ys),
+      map-append tagPair xs (ws ++ ys),
+      map-append tagPair ws ys,
+      fold-append f a (map tagPair xs) (map tagPair ws ++ map tagPair ys),
       FoldNone f n h a x,
-      fold-append f a (map pairOf ws) (map pairOf ys),
+      fold-append f a (map tagPair ws) (map tagPair ys),
     )
-    (FoldNone f n h (foldTags f a (map pairOf ws)) y)
+    (FoldNone f n h (foldTags f a (map tagPair ws)) y)
 
 table-told : (c : Conventions) (b : PlainBoard) (play : List (List ℕ))
-    → foldTable (map pairOf (writtenTags c b play)) ≡ foldTable (map pairOf (tableTags (b .table)))
+    → foldTable (map tagPair (writtenTags c b play)) ≡ foldTable (map tagPair (tableTags (b .table)))
 table-told c b play =
     rw (written-parts c b play)
     (fold-within tableBy 18 table-heeds (noBoard .table) (before c b ++ dealTag c b ∷ between c b) (tableTags (b .table)) (behind c b play)
@@ -273,7 +273,7 @@ pub record SameTable (d e : TableCard) : Type 0 where
   pub same-kind : eqb (d .kind) 0 ≡ eqb (e .kind) 0
   pub same-cells : (e .kind ≡ 0 → ⊥) → d .cells ≡ e .cells
 
-table-again : (t : TableCard) → Twenty (t .cells) → SameTable (foldTable (map pairOf (tableTags t))) t
+table-again : (t : TableCard) → Twenty (t .cells) → SameTable (foldTable (map tagPair (tableTags t))) t
 unfolding tableTags tableBy tagNames tagNumber
 table-again t w =
     by-cases (eqb (t .kind) 0)

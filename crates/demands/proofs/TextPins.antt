@@ -10,17 +10,17 @@ use Rattle.tables.specs.Tables.{digitOf, digitsReading, tableOfDigits}
 use Rattle.reader.specs.Tag.{trimSpan, trimPart, bracketOf, endsQuoted, nameOf, isQuoted, valueOf, isComment, commentOf, tagLine, dataBracket, dataAfter, splitOf}
 use Rattle.reader.specs.Lines.{isBlank, hasBrace, splitLine, bracketLine, lineKind}
 use Rattle.reader.specs.Names.{tagNames, tagNumber}
-use Rattle.reader.specs.Sections.{noteAfter}
+use Rattle.reader.specs.Sections.{commentaryAfter}
 use Rattle.reader.specs.Deals.{ones, cardCount, wholeHands, cardsNamed, handsAfter, handWords, handsOfWords}
 use Rattle.reader.specs.Deals.{dealOf as dealIn}
-use Rattle.reader.specs.Boards.{identityBy, dealBy, tableBy, contractBy, isKeptValue, isKept, valuesBy, applied, openBy, closed, tagged, readTag, lineOut, recordOut}
+use Rattle.reader.specs.Boards.{identityBy, dealBy, tableBy, contractBy, isKeptValue, isKept, valuesBy, applied, openBy, closed, tagged, tagLineOut, lineOut, recordOut}
 use Rattle.reader.specs.Records.{scanned, closesRecord, recordsOf}
 use Rattle.reader.specs.Editions.{cardWords, cardsOf}
 use Rattle.planning.specs.declared.state.BoardState.the-variants.{Blank, Old, Twin, Solve}
-use Rattle.planning.specs.Cards.{dealOf, isWhole, hasTable, hasDeal, fits}
-use Rattle.planning.specs.States.{Judged, firstWith, stateOf, judged}
+use Rattle.planning.specs.Cards.{cardDeal, isWhole, hasTable, hasDeal, fits}
+use Rattle.planning.specs.States.{BoardPlan, firstWith, stateOf, boardPlans}
 use Rattle.planning.specs.Slips.{slipOf, slipsOf}
-use Rattle.planning.specs.Plans.{boardsOf}
+use Rattle.planning.specs.Plans.{plansOf}
 
 abbrev deal-a : List ℕ
 deal-a = ascii "[Deal \"N:AKQJT98765432... .AKQJT98765432.. ..AKQJT98765432. ...AKQJT98765432\"]\n"
@@ -54,19 +54,19 @@ abbrev none : Hands
 none = record { north = 0; east = 0; south = 0; west = 0 }
 
 pub pin-old-cards : cardsOf builtIn old ≡ card 0 4 1 a 1 0 0 122 ∷ []
-unfolding isWhite isInside trimmed builtIn capital seatOf suitOf honourOf rankOf digitOf digitsReading tableOfDigits trimSpan trimPart bracketOf endsQuoted nameOf isQuoted valueOf isComment commentOf tagLine dataBracket dataAfter splitOf isBlank hasBrace splitLine bracketLine lineKind tagNames tagNumber noteAfter cardsNamed handsAfter handWords dealIn identityBy dealBy tableBy contractBy isKeptValue isKept valuesBy applied openBy closed tagged readTag lineOut recordOut scanned closesRecord recordsOf cardWords cardsOf
+unfolding isWhite isInside trimmed builtIn capital seatOf suitOf honourOf rankOf digitOf digitsReading tableOfDigits trimSpan trimPart bracketOf endsQuoted nameOf isQuoted valueOf isComment commentOf tagLine dataBracket dataAfter splitOf isBlank hasBrace splitLine bracketLine lineKind tagNames tagNumber commentaryAfter cardsNamed handsAfter handWords dealIn identityBy dealBy tableBy contractBy isKeptValue isKept valuesBy applied openBy closed tagged tagLineOut lineOut recordOut scanned closesRecord recordsOf cardWords cardsOf
 pin-old-cards = refl
 
 pub pin-new-cards : cardsOf builtIn new ≡ card 0 2 1 a 0 0 0 80 ∷ card 2 2 1 b 0 0 80 160 ∷ card 4 2 1 b 0 0 160 240 ∷ card 6 2 0 none 0 8 240 252 ∷ []
-unfolding isWhite isInside trimmed builtIn capital seatOf suitOf honourOf rankOf digitOf digitsReading tableOfDigits trimSpan trimPart bracketOf endsQuoted nameOf isQuoted valueOf isComment commentOf tagLine dataBracket dataAfter splitOf isBlank hasBrace splitLine bracketLine lineKind tagNames tagNumber noteAfter cardsNamed handsAfter handWords dealIn identityBy dealBy tableBy contractBy isKeptValue isKept valuesBy applied openBy closed tagged readTag lineOut recordOut scanned closesRecord recordsOf cardWords cardsOf
+unfolding isWhite isInside trimmed builtIn capital seatOf suitOf honourOf rankOf digitOf digitsReading tableOfDigits trimSpan trimPart bracketOf endsQuoted nameOf isQuoted valueOf isComment commentOf tagLine dataBracket dataAfter splitOf isBlank hasBrace splitLine bracketLine lineKind tagNames tagNumber commentaryAfter cardsNamed handsAfter handWords dealIn identityBy dealBy tableBy contractBy isKeptValue isKept valuesBy applied openBy closed tagged tagLineOut lineOut recordOut scanned closesRecord recordsOf cardWords cardsOf
 pin-new-cards = refl
 
 -- ---- states and slips
 
-pub pin-text-states : map (λ (j : Judged). j .state) (boardsOf builtIn old new) ≡ Old 1 ∷ Solve ∷ Twin 2 ∷ Blank ∷ []
-unfolding ones cardCount wholeHands handWords handsOfWords dealOf isWhole hasTable hasDeal fits firstWith stateOf judged
+pub pin-text-states : map (λ (j : BoardPlan). j .state) (plansOf builtIn old new) ≡ Old 1 ∷ Solve ∷ Twin 2 ∷ Blank ∷ []
+unfolding ones cardCount wholeHands handWords handsOfWords cardDeal isWhole hasTable hasDeal fits firstWith stateOf boardPlans
 pin-text-states = rw (pin-old-cards, pin-new-cards)
 
-pub pin-text-slips : slipsOf (boardsOf builtIn old new) ≡ (2 ∷ 8191 ∷ 4503049871556608 ∷ 549688705024 ∷ 67100672 ∷ []) ∷ []
-unfolding ones cardCount wholeHands handWords handsOfWords dealOf isWhole hasTable hasDeal fits firstWith stateOf judged slipOf
+pub pin-text-slips : slipsOf (plansOf builtIn old new) ≡ (2 ∷ 8191 ∷ 4503049871556608 ∷ 549688705024 ∷ 67100672 ∷ []) ∷ []
+unfolding ones cardCount wholeHands handWords handsOfWords cardDeal isWhole hasTable hasDeal fits firstWith stateOf boardPlans slipOf
 pin-text-slips = rw (pin-old-cards, pin-new-cards)

@@ -6,11 +6,11 @@ use mathlib.Core.List.{List, [], _∷_, _++_}
 use native.Mathlib.Omega.{arith}
 use lib.Dec.{eqb}
 use lib.ListN.{length}
-use Rattle.planning.proofs.BoardLaws.{judged-count}
+use Rattle.planning.proofs.BoardLaws.{plans-count}
 use Rattle.planning.proofs.SlipLaws.{slips-count}
 use Rattle.planning.specs.declared.state.BoardState.{BoardState}
 use Rattle.planning.specs.declared.state.BoardState.the-variants.{Blank, Own, Old, Near, Twin, Solve}
-use Rattle.planning.specs.States.{Judged, judgedFrom, judged, stateNumber, isSolve}
+use Rattle.planning.specs.States.{BoardPlan, boardPlansFrom, boardPlans, stateNumber, isSolve}
 use Rattle.planning.specs.Slips.{slipOf, slipsOf, countOf, totalsOf}
 use Rattle.planning.specs.Demands.{TotalsAddUp}
 
@@ -30,7 +30,7 @@ one (Near k) a b d e f g = omega arith
 one (Twin k) a b d e f g = omega arith
 one Solve a b d e f g = omega arith
 
-sum-is : (js : List Judged) → length js ≡ countOf 0 js + countOf 1 js + countOf 2 js + countOf 3 js + countOf 4 js + countOf 5 js
+sum-is : (js : List BoardPlan) → length js ≡ countOf 0 js + countOf 1 js + countOf 2 js + countOf 3 js + countOf 4 js + countOf 5 js
 sum-is [] = omega arith
 sum-is (j ∷ js) = ap suc (sum-is js) ∙ one (j .state) (countOf 0 js) (countOf 1 js) (countOf 2 js) (countOf 3 js) (countOf 4 js) (countOf 5 js)
 
@@ -38,6 +38,6 @@ pub totals-add-up : TotalsAddUp
 unfolding totalsOf
 totals-add-up js = record { sum = sum-is js; slips = slips-count js }
 
-pub boards-all : (olds news : List (List ℕ)) → length (judged olds news) ≡ length news
-unfolding judged
-boards-all olds news = judged-count olds news 1 [] news
+pub boards-all : (olds news : List (List ℕ)) → length (boardPlans olds news) ≡ length news
+unfolding boardPlans
+boards-all olds news = plans-count olds news 1 [] news

@@ -17,7 +17,7 @@ use Rattle.reader.specs.Tag.{cut, trimSpan, isComment, splitOf, tagLine}
 use Rattle.reader.specs.TagBytes.{close, behind, unquote, filled, commentBytes, TagBytes, tagBytes, readTag}
 use Rattle.reader.specs.Lines.{isBlank, splitAs, splitLine, bracketAs, bracketLine, lineKind}
 use Rattle.reader.specs.Pieces.{rawLines}
-use Rattle.reader.specs.Sections.{noteAfter}
+use Rattle.reader.specs.Sections.{commentaryAfter}
 use Rattle.reader.specs.Plain.{Remark, plainOf}
 use Rattle.reader.proofs.WordLaws.{same-self}
 use Rattle.reader.proofs.Tags.{some-inj, bind-some, cond-some, TagStands, trimmed-twice}
@@ -75,16 +75,16 @@ kind-trimmed l n =
     (λ w. rw (t, u, w, is-trimmed (cut (trimSpan l) l) l (cut-trim l)))
     (λ w. by-cases (eqb b 91) (λ x. rw (t, u, w, x) (bracket-trimmed (tagLine l) l n (TagStands l))) (λ x. rw (t, u, w, x)))))
 
-line-trimmed : (noting : Bool) (l : List ℕ) (n : ℕ) → all bytesTrimmed (lineDirectives noting l n) ≡ true
+line-trimmed : (commentary : Bool) (l : List ℕ) (n : ℕ) → all bytesTrimmed (lineDirectives commentary l n) ≡ true
 unfolding lineDirectives
 line-trimmed true l n = refl
 line-trimmed false l n = kind-trimmed l n
 
-lines-trimmed : (noting : Bool) (n : ℕ) (ls : List (List ℕ)) → all bytesTrimmed (directivesOfLines noting n ls) ≡ true
-lines-trimmed noting n [] = refl
-lines-trimmed noting n (l ∷ ls) =
-    all-append bytesTrimmed (lineDirectives noting l n) (directivesOfLines (noteAfter noting l) (n + length (lineTags noting l)) ls)
-    (line-trimmed noting l n) (lines-trimmed (noteAfter noting l) (n + length (lineTags noting l)) ls)
+lines-trimmed : (commentary : Bool) (n : ℕ) (ls : List (List ℕ)) → all bytesTrimmed (directivesOfLines commentary n ls) ≡ true
+lines-trimmed commentary n [] = refl
+lines-trimmed commentary n (l ∷ ls) =
+    all-append bytesTrimmed (lineDirectives commentary l n) (directivesOfLines (commentaryAfter commentary l) (n + length (lineTags commentary l)) ls)
+    (line-trimmed commentary l n) (lines-trimmed (commentaryAfter commentary l) (n + length (lineTags commentary l)) ls)
 
 -- THEOREM. The directives of a plain board are trimmed.
 pub PlainTrimmed : (c : Conventions) (r : List ℕ) → all (λ k. isTrimmed (k .bytes)) (plainOf c r .directives) ≡ true

@@ -12,11 +12,11 @@ use Rattle.reader.specs.declared.deal.Hands.{Hands}
 use Rattle.reader.specs.Tag.{trimSpan, trimPart, bracketOf, endsQuoted, nameOf, isQuoted, valueOf, isComment, commentOf, tagLine, dataBracket, dataAfter, splitOf}
 use Rattle.reader.specs.Lines.{isBlank, hasBrace, splitLine, bracketLine, lineKind}
 use Rattle.reader.specs.Names.{tagNames, tagNumber}
-use Rattle.reader.specs.Sections.{noteAfter}
+use Rattle.reader.specs.Sections.{commentaryAfter}
 use Rattle.reader.specs.Store.{flat}
 use Rattle.reader.specs.Deals.{cardsNamed, handsAfter, handWords}
 use Rattle.reader.specs.Deals.{dealOf as dealIn}
-use Rattle.reader.specs.Boards.{identityBy, dealBy, tableBy, contractBy, isKeptValue, isKept, valuesBy, applied, openBy, closed, tagged, readTag, lineOut, recordOut}
+use Rattle.reader.specs.Boards.{identityBy, dealBy, tableBy, contractBy, isKeptValue, isKept, valuesBy, applied, openBy, closed, tagged, tagLineOut, lineOut, recordOut}
 use Rattle.reader.specs.Records.{scanned, closesRecord, recordsOf, isSeam, seamAt, AlikeBut}
 use Rattle.reader.specs.Editions.{cardWords, cardOf, cardsFrom, cardsOf, entriesOf}
 use Rattle.reader.proofs.Seams.{records-fit}
@@ -24,7 +24,7 @@ use Rattle.reader.proofs.Alike.{entriesIn}
 use Rattle.reader.proofs.Counts.{EntriesFew}
 use Rattle.reader.proofs.CardShape.{word-1}
 use Rattle.reader.proofs.Fellows.{entries-counted}
-use Rattle.demands.specs.Worked.{front, oldStretch, newStretch, back, old, new, dealA, dealB, dealD, ladder}
+use Rattle.demands.specs.Worked.{workedFront, oldStretch, newStretch, workedBack, old, new, dealA, dealB, dealD, ladder}
 
 -- A card with the entries before it and its own, the hands, the table with its cells, the event's entry, and a record from start to end.
 abbrev card : ℕ → ℕ → Hands → ℕ → List ℕ → ℕ → ℕ → ℕ → List ℕ
@@ -48,11 +48,11 @@ abbrev news : List (List ℕ)
 news = frontCard ∷ card 4 2 dealB 0 (replicate 20 0) 0 123 203 ∷ card 6 4 dealD 1 ladder 0 203 325 ∷ []
 
 pub old-cards : cardsOf builtIn old ≡ olds
-unfolding isWhite isInside trimmed builtIn capital seatOf suitOf honourOf rankOf digitOf digitsReading tableOfDigits trimSpan trimPart bracketOf endsQuoted nameOf isQuoted valueOf isComment commentOf tagLine dataBracket dataAfter splitOf isBlank hasBrace splitLine bracketLine lineKind tagNames tagNumber noteAfter cardsNamed handsAfter handWords dealIn identityBy dealBy tableBy contractBy isKeptValue isKept valuesBy applied openBy closed tagged readTag lineOut recordOut scanned closesRecord recordsOf cardWords cardsOf
+unfolding isWhite isInside trimmed builtIn capital seatOf suitOf honourOf rankOf digitOf digitsReading tableOfDigits trimSpan trimPart bracketOf endsQuoted nameOf isQuoted valueOf isComment commentOf tagLine dataBracket dataAfter splitOf isBlank hasBrace splitLine bracketLine lineKind tagNames tagNumber commentaryAfter cardsNamed handsAfter handWords dealIn identityBy dealBy tableBy contractBy isKeptValue isKept valuesBy applied openBy closed tagged tagLineOut lineOut recordOut scanned closesRecord recordsOf cardWords cardsOf
 old-cards = refl
 
 pub new-cards : cardsOf builtIn new ≡ news
-unfolding isWhite isInside trimmed builtIn capital seatOf suitOf honourOf rankOf digitOf digitsReading tableOfDigits trimSpan trimPart bracketOf endsQuoted nameOf isQuoted valueOf isComment commentOf tagLine dataBracket dataAfter splitOf isBlank hasBrace splitLine bracketLine lineKind tagNames tagNumber noteAfter cardsNamed handsAfter handWords dealIn identityBy dealBy tableBy contractBy isKeptValue isKept valuesBy applied openBy closed tagged readTag lineOut recordOut scanned closesRecord recordsOf cardWords cardsOf
+unfolding isWhite isInside trimmed builtIn capital seatOf suitOf honourOf rankOf digitOf digitsReading tableOfDigits trimSpan trimPart bracketOf endsQuoted nameOf isQuoted valueOf isComment commentOf tagLine dataBracket dataAfter splitOf isBlank hasBrace splitLine bracketLine lineKind tagNames tagNumber commentaryAfter cardsNamed handsAfter handWords dealIn identityBy dealBy tableBy contractBy isKeptValue isKept valuesBy applied openBy closed tagged tagLineOut lineOut recordOut scanned closesRecord recordsOf cardWords cardsOf
 new-cards = refl
 
 -- ---- entries: the words 1 of an edition's cards add up to them
@@ -83,6 +83,6 @@ new-entries = entries-counted-by builtIn new (omega arith) ∙ rw new-cards
 
 -- ---- the premises
 
-pub alike : AlikeBut front oldStretch newStretch back
-unfolding isWhite isInside trimmed trimSpan trimPart bracketOf endsQuoted nameOf isQuoted valueOf isComment commentOf tagLine dataBracket dataAfter splitOf isBlank hasBrace splitLine bracketLine lineKind noteAfter scanned closesRecord isSeam seamAt
+pub alike : AlikeBut workedFront oldStretch newStretch workedBack
+unfolding isWhite isInside trimmed trimSpan trimPart bracketOf endsQuoted nameOf isQuoted valueOf isComment commentOf tagLine dataBracket dataAfter splitOf isBlank hasBrace splitLine bracketLine lineKind commentaryAfter scanned closesRecord isSeam seamAt
 alike = record { front-seam = refl; back-seam = refl; front-seam′ = refl; back-seam′ = refl }

@@ -17,11 +17,11 @@ use Rattle.reader.specs.Deals.{ones, cardCount, wholeHands, handWords, handsOfW
 use Rattle.reader.specs.Store.{lent}
 use Rattle.reader.specs.Editions.{readingOf, cardsOf, entriesOf}
 use Rattle.planning.specs.declared.plan.Totals.{Totals}
-use Rattle.planning.specs.declared.plan.Planned.the-variants.{Listed}
-use Rattle.planning.specs.Cards.{dealOf, isWhole, hasTable}
-use Rattle.planning.specs.States.{stateOf, judged}
+use Rattle.planning.specs.declared.plan.Planning.the-variants.{Planned}
+use Rattle.planning.specs.Cards.{cardDeal, isWhole, hasTable}
+use Rattle.planning.specs.States.{stateOf, boardPlans}
 use Rattle.planning.specs.Slips.{cardFrom, slipsOf, totalsOf}
-use Rattle.planning.specs.Plans.{Boxes, editionsOf, plannedOf, boardsOf}
+use Rattle.planning.specs.Plans.{Boxes, editionsOf, planningOf, plansOf}
 use Rattle.planning.proofs.AnswerLaws.{solve-sum}
 use Rattle.planning.proofs.SlipLaws.{slips-count}
 use Rattle.writer.specs.declared.finish.Finishing.the-variants.{Finished}
@@ -100,12 +100,12 @@ finish-out c old new boxes answers page f l =
 -- Planned with no slip lent, where no board is to be solved.
 plan-out : (c : Conventions) (old new : List ℕ) (boxes : Boxes) (t : Totals)
     → IsTaken c old (boxes .old-cards) (boxes .old-entries) → IsTaken c new (boxes .new-cards) (boxes .new-entries)
-    → totalsOf (boardsOf c old new) ≡ t → t .solve ≡ 0
-    → PlanOut c old new boxes [] (boxesAfter c true old new boxes) [] (planNumbers (Listed t)) 0
-unfolding plannedOf editionsOf
+    → totalsOf (plansOf c old new) ≡ t → t .solve ≡ 0
+    → PlanOut c old new boxes [] (boxesAfter c true old new boxes) [] (planNumbers (Planned t)) 0
+unfolding planningOf editionsOf
 plan-out c old new boxes t to tn e z =
-    let js = boardsOf c old new in
-    let p : plannedOf c old new boxes 0 ≡ Listed t =
+    let js = plansOf c old new in
+    let p : planningOf c old new boxes 0 ≡ Planned t =
     rw (
       taken-reading c old (boxes .old-cards) (boxes .old-entries) to,
       taken-reading c new (boxes .new-cards) (boxes .new-entries) tn,
@@ -163,8 +163,8 @@ allOwn = record { boards = 3; blank = 0; own = 3; old = 0; near = 0; twin = 0; s
 
 own-totals : (olds xs : List (List ℕ)) → length xs ≡ 3
     → ((k : ℕ) → k < 3 → (isWhole (cardFrom xs k) ≡ true) × (hasTable (cardFrom xs k) ≡ true))
-    → totalsOf (judged olds xs) ≡ allOwn
-unfolding judged stateOf totalsOf
+    → totalsOf (boardPlans olds xs) ≡ allOwn
+unfolding boardPlans stateOf totalsOf
 own-totals olds [] e h = absurd (omega arith)
 own-totals olds (x ∷ []) e h = absurd (omega arith)
 own-totals olds (x ∷ y ∷ []) e h = absurd (omega arith)
@@ -176,7 +176,7 @@ own-totals olds (x ∷ y ∷ z ∷ []) e h =
 own-totals olds (x ∷ y ∷ z ∷ w ∷ xs) e h = absurd (omega arith)
 
 new-whole : (k : ℕ) → k < 3 → isWhole (cardFrom (cardsOf builtIn new) k) ≡ true
-unfolding ones cardCount wholeHands handWords handsOfWords dealOf isWhole
+unfolding ones cardCount wholeHands handWords handsOfWords cardDeal isWhole
 new-whole zero l = rw new-cards
 new-whole (suc zero) l = rw new-cards
 new-whole (suc (suc zero)) l = rw new-cards

@@ -16,7 +16,7 @@ use Rattle.writer.specs.declared.write.Writing.{Writing}
 use Rattle.writer.specs.declared.write.Writing.the-variants.{Written, Refused}
 use Rattle.writer.specs.declared.write.WriteRefusal.the-variants.{Edition, PageFull}
 use Rattle.writer.specs.Pages.{writtenText}
-use Rattle.writer.specs.Writings.{writtenBy, writingOf, isOut}
+use Rattle.writer.specs.Writings.{writtenBy, writingOf, isWritten}
 use Rattle.golavimes.specs.Answers.{writingNumbers}
 use Rattle.demands.specs.Demand1.{refusal, ofEdition, NoValues, WriteRefuses}
 use Rattle.demands.proofs.Refusing.{Says, Met, nothing, met-below, edition-met, first-that-holds}
@@ -26,7 +26,7 @@ says-writing : (w : Writing) (answer : List ℕ) (number carries : ℕ) → answ
 says-writing w answer number carries e a b d = rw e (record { number-said = a; edition-said = b; carried-said = d })
 
 -- A writing whose answer does not begin with 0 is none that was written.
-writing-not : (w : Writing) → (getD (writingNumbers w) 0 0 ≡ 0 → ⊥) → (isOut w ≡ false) × NoValues 1 (writingNumbers w)
+writing-not : (w : Writing) → (getD (writingNumbers w) 0 0 ≡ 0 → ⊥) → (isWritten w ≡ false) × NoValues 1 (writingNumbers w)
 writing-not (Written n) h = absurd (h refl)
 writing-not (Refused f) h = (refl, refl)
 
@@ -53,7 +53,7 @@ module _ (c : Conventions) (text cards entries page answer : List ℕ)
 pub write-refuses : WriteRefuses
 write-refuses c text cards entries page cards′ entries′ page′ answer′ r o =
     let w = writingOf c text (length cards) (length entries) (length page) in
-    let refused : (r ≡ 0 → ⊥) → (isOut w ≡ false) × NoValues 1 (writingNumbers w) =
+    let refused : (r ≡ 0 → ⊥) → (isWritten w ≡ false) × NoValues 1 (writingNumbers w) =
     λ h. writing-not w (λ z. h (o .returned ∙ ap (λ (l : List ℕ). getD l 0 0) (o .told) ∙ z)) in
     record {
       refused = first-that-holds (ofEdition 0 c text cards entries ++ (refusal 7 0 (length (writtenText c text)) (length page < length (writtenText c text)) ∷ [])) answer′ refl

@@ -9,14 +9,14 @@ use Rattle.tables.specs.Letters.{Accepted}
 use Rattle.tables.proofs.Laws.{both}
 use Rattle.reader.specs.Lines.{isBlank, hasBrace, lineKind}
 use Rattle.reader.specs.Pieces.{rawLines}
-use Rattle.reader.specs.Sections.{noteAfter}
+use Rattle.reader.specs.Sections.{commentaryAfter}
 use Rattle.reader.specs.Records.{recordsOf}
 use Rattle.reader.specs.Plain.{TagPair, PlainBoard, plainOf, plainBoards}
 use Rattle.writer.specs.Tags.{WrittenTag, writtenTags}
-use Rattle.writer.specs.Remarks.{Anchored, directivesOf, blocksOf, those, isLeading, isLost, isUnder, wrote, Line, tagLine, dataLine, directiveLine, blockLine, directiveLines, blockLines, directivesAfter, blocksAfter, tagsLines, leadingLines, bodyLines, lineText, linesText}
-use Rattle.writer.specs.Pages.{ownPlay, bodyText, headerText, firstPart, pageText, writtenText}
+use Rattle.writer.specs.Remarks.{Anchored, directivesOf, blocksOf, those, isLeading, tagUnwritten, isUnder, wrote, WrittenLine, tagLine, dataLine, directiveLine, blockLine, directiveLines, blockLines, directivesAfter, blocksAfter, tagsLines, leadingLines, bodyLines, lineText, linesText}
+use Rattle.writer.specs.Pages.{ownPlay, bodyText, pageHeader, firstPart, pageText, writtenText}
 use Rattle.writer.specs.Given.{finishedBoards, finishedText}
-use Rattle.demands.specs.PageBack.{all, goodLine, Shut, last, more, ReadsAs, tag, section, directive, comment, block, Writable, AllWritable, all-none, all-one, ownText, recordsAfter, pairOf, tagsAsWritten, EditionTags, FinishedTags}
+use Rattle.demands.specs.PageBack.{all, goodLine, Shut, last, more, ReadsAs, tag, section, directive, comment, block, Writable, AllWritable, all-none, all-one, ownText, recordsAfter, tagPair, tagsAsWritten, EditionTags, FinishedTags}
 use Rattle.reader.proofs.LineTags.{lineTags, tagsOfLines, TagsOfLines}
 use Rattle.demands.proofs.LineBack.{LineBack}
 use Rattle.demands.proofs.PageWalk.{GoodLines, line-then, headerLines, header-lines, header-good}
@@ -26,23 +26,23 @@ use Rattle.demands.proofs.PageBack.{PageRecords, all-plain, all-finishe
 -- ---- lines
 
 -- The tags of written lines.
-abbrev pub pairsOn : Line → List TagPair
+abbrev pub pairsOn : WrittenLine → List TagPair
 pairsOn (tagLine n v) = record { name = n; value = v } ∷ []
 pairsOn (dataLine d) = []
 pairsOn (directiveLine i d) = []
 pairsOn (blockLine i v) = []
 
-abbrev pub pairsIn : List Line → List TagPair
+abbrev pub pairsIn : List WrittenLine → List TagPair
 pairsIn [] = []
 pairsIn (l ∷ ls) = pairsOn l ++ pairsIn ls
 
 shut-tags : (ls r : List (List ℕ)) → Shut ls → tagsOfLines true (ls ++ r) ≡ tagsOfLines false r
-unfolding lineTags noteAfter
+unfolding lineTags commentaryAfter
 shut-tags (l ∷ []) r (last h) = rw h
 shut-tags (l ∷ ls) r (more h s) = rw h (shut-tags ls r s)
 
-reads-tags : (l : Line) (ls r : List (List ℕ)) → ReadsAs l ls → tagsOfLines false (ls ++ r) ≡ pairsOn l ++ tagsOfLines false r
-unfolding lineTags noteAfter hasBrace
+reads-tags : (l : WrittenLine) (ls r : List (List ℕ)) → ReadsAs l ls → tagsOfLines false (ls ++ r) ≡ pairsOn l ++ tagsOfLines false r
+unfolding lineTags commentaryAfter hasBrace
 reads-tags (tagLine n v) (l ∷ []) r (tag k x y) = rw (k, x, y)
 reads-tags (dataLine d) (l ∷ []) r (section k x) = rw k
 reads-tags (directiveLine i d) (l ∷ []) r (directive g k x) = rw k
@@ -50,7 +50,7 @@ reads-tags (directiveLine i d) (l ∷ []) r (comment g k h) = rw (k, h)
 reads-tags (blockLine i v) (l ∷ []) r (block k (last h) u) = rw (k, h)
 reads-tags (blockLine i v) (l ∷ ls) r (block k (more h s) u) = rw (k, h) (shut-tags ls r s)
 
-lines-tags : (ls : List Line) (r : List ℕ) → all goodLine ls ≡ true → tagsOfLines false (rawLines (linesText ls ++ r)) ≡ pairsIn ls ++ tagsOfLines false (rawLines r)
+lines-tags : (ls : List WrittenLine) (r : List ℕ) → all goodLine ls ≡ true → tagsOfLines false (rawLines (linesText ls ++ r)) ≡ pairsIn ls ++ tagsOfLines false (rawLines r)
 lines-tags [] r e = refl
 lines-tags (l ∷ ls) r e =
     let h = both (goodLine l) (all goodLine ls) e in
@@ -59,11 +59,11 @@ lines-tags (l ∷ ls) r e =
 
 -- ---- the lines of a board
 
-pub pairs-append : (xs ys : List Line) → pairsIn (xs ++ ys) ≡ pairsIn xs ++ pairsIn ys
+pub pairs-append : (xs ys : List WrittenLine) → pairsIn (xs ++ ys) ≡ pairsIn xs ++ pairsIn ys
 pairs-append [] ys = refl
 pairs-append (x ∷ xs) ys = rw (pairs-append xs ys) (sym (append-assoc (pairsOn x) (pairsIn xs) (pairsIn ys)))
 
-no-pairs : {A : Type 0} (f : A → Line) → ((x : A) → pairsOn (f x) ≡ []) → (xs : List A) → pairsIn (map f xs) ≡ []
+no-pairs : {A : Type 0} (f : A → WrittenLine) → ((x : A) → pairsOn (f x) ≡ []) → (xs : List A) → pairsIn (map f xs) ≡ []
 no-pairs f h [] = refl
 no-pairs f h (x ∷ xs) = rw (h x) (no-pairs f h xs)
 
@@ -73,7 +73,7 @@ no-directive-pairs ks = no-pairs (λ (k : Anchored). directiveLine (k .number) (
 no-block-pairs : (ks : List Anchored) → pairsIn (blockLines ks) ≡ []
 no-block-pairs ks = no-pairs (λ (k : Anchored). blockLine (k .number) (k .bytes)) (λ k. refl) ks
 
-after-pairs : (ds ks : List Anchored) (earlier : List WrittenTag) (w : WrittenTag) (ls : List Line)
+after-pairs : (ds ks : List Anchored) (earlier : List WrittenTag) (w : WrittenTag) (ls : List WrittenLine)
     → pairsIn (map dataLine (w .lines) ++ (directivesAfter ds w ++ (blocksAfter ks earlier w ++ ls))) ≡ pairsIn ls
 unfolding directivesAfter blocksAfter
 after-pairs ds ks earlier w ls =
@@ -90,29 +90,29 @@ after-pairs ds ks earlier w ls =
     blocks true = refl
     blocks false = no-block-pairs (those (isUnder (w .name)) ks)
 
-tags-pairs : (ds ks : List Anchored) (earlier ws : List WrittenTag) → pairsIn (tagsLines ds ks earlier ws) ≡ map pairOf ws
+tags-pairs : (ds ks : List Anchored) (earlier ws : List WrittenTag) → pairsIn (tagsLines ds ks earlier ws) ≡ map tagPair ws
 tags-pairs ds ks earlier [] = refl
 tags-pairs ds ks earlier (w ∷ ws) =
-    ap (λ (x : List TagPair). pairOf w ∷ x) (after-pairs ds ks earlier w (tagsLines ds ks (earlier ++ w ∷ []) ws) ∙ tags-pairs ds ks (earlier ++ w ∷ []) ws)
+    ap (λ (x : List TagPair). tagPair w ∷ x) (after-pairs ds ks earlier w (tagsLines ds ks (earlier ++ w ∷ []) ws) ∙ tags-pairs ds ks (earlier ++ w ∷ []) ws)
 
 pub leading-pairs : (b : PlainBoard) → pairsIn (leadingLines b) ≡ []
 unfolding leadingLines
 leading-pairs b = no-directive-pairs (those isLeading (directivesOf b))
 
-pub body-pairs : (b : PlainBoard) (ws : List WrittenTag) → pairsIn (bodyLines b ws) ≡ map pairOf ws
+pub body-pairs : (b : PlainBoard) (ws : List WrittenTag) → pairsIn (bodyLines b ws) ≡ map tagPair ws
 unfolding bodyLines
 body-pairs b ws =
     let ds = directivesOf b in
     let ks = blocksOf b in
-    let lost = blockLines (those (isLost ws) ks) ++ directiveLines (those (isLost ws) ds) in
+    let lost = blockLines (those (tagUnwritten ws) ks) ++ directiveLines (those (tagUnwritten ws) ds) in
     rw (
       pairs-append (blockLines (those isLeading ks)) (tagsLines ds ks [] ws ++ lost),
       no-block-pairs (those isLeading ks),
       pairs-append (tagsLines ds ks [] ws) lost,
       tags-pairs ds ks [] ws,
-      pairs-append (blockLines (those (isLost ws) ks)) (directiveLines (those (isLost ws) ds)),
-      no-block-pairs (those (isLost ws) ks),
-      no-directive-pairs (those (isLost ws) ds),
+      pairs-append (blockLines (those (tagUnwritten ws) ks)) (directiveLines (those (tagUnwritten ws) ds)),
+      no-block-pairs (those (tagUnwritten ws) ks),
+      no-directive-pairs (those (tagUnwritten ws) ds),
       append-nil,
     )
 
@@ -120,17 +120,17 @@ body-pairs b ws =
 
 -- Nothing, or an empty line.
 blank-tags : (r : List ℕ) → tagsOfLines false (rawLines (10 ∷ r)) ≡ tagsOfLines false (rawLines r)
-unfolding lineTags noteAfter lineKind isBlank trimmed isWhite
+unfolding lineTags commentaryAfter lineKind isBlank trimmed isWhite
 blank-tags r = refl
 
-directives-tags : (ls : List Line) (r : List ℕ) → all goodLine ls ≡ true → pairsIn ls ≡ [] → tagsOfLines false (rawLines ((linesText ls ++ 10 ∷ []) ++ r)) ≡ tagsOfLines false (rawLines r)
+directives-tags : (ls : List WrittenLine) (r : List ℕ) → all goodLine ls ≡ true → pairsIn ls ≡ [] → tagsOfLines false (rawLines ((linesText ls ++ 10 ∷ []) ++ r)) ≡ tagsOfLines false (rawLines r)
 directives-tags ls r e n = rw (append-assoc (linesText ls) (10 ∷ []) r) (lines-tags ls (10 ∷ r) e ∙ rw n (blank-tags r))
 
-pub header-pairs : (ls : List Line) → pairsIn ls ≡ [] → pairsIn (headerLines ls) ≡ []
+pub header-pairs : (ls : List WrittenLine) → pairsIn ls ≡ [] → pairsIn (headerLines ls) ≡ []
 header-pairs [] e = refl
 header-pairs (l ∷ ls) e = e
 
-header-tags : (ls : List Line) (r : List ℕ) → all goodLine ls ≡ true → pairsIn ls ≡ [] → tagsOfLines false (rawLines (headerText ls ++ r)) ≡ tagsOfLines false (rawLines r)
+header-tags : (ls : List WrittenLine) (r : List ℕ) → all goodLine ls ≡ true → pairsIn ls ≡ [] → tagsOfLines false (rawLines (pageHeader ls ++ r)) ≡ tagsOfLines false (rawLines r)
 header-tags ls r e n = rw (header-lines ls) (directives-tags (headerLines ls) r (header-good ls e) (header-pairs ls n))
 
 module _ (c : Conventions) (b : PlainBoard) (g : GoodLines c b) where
@@ -147,7 +147,7 @@ module _ (c : Conventions) (b : PlainBoard) (g : GoodLines c b) where
   pub first-tags : (r : List ℕ) → tagsOfLines false (rawLines (firstPart c b ++ r)) ≡ tagsAsWritten c b ++ tagsOfLines false (rawLines r)
   unfolding firstPart
   first-tags r =
-      rw (append-assoc (headerText (leadingLines b)) (bodyText c b) r)
+      rw (append-assoc (pageHeader (leadingLines b)) (bodyText c b) r)
       (header-tags (leadingLines b) (bodyText c b ++ r) (g .leading-good) (leading-pairs b) ∙ body-tags r)
 
 -- A record whose tags are ts, whatever follows.

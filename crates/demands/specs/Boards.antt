@@ -51,13 +51,13 @@ abbrev pub recordStart : List ℕ → ℕ
 recordStart card = getD card 60 0
 
 -- The first n entries in words.
-abbrev pub entriesFrom : ℕ → List ℕ → List (List ℕ)
-entriesFrom zero words = []
-entriesFrom (suc n) words = take 4 words ∷ entriesFrom n (drop 4 words)
+abbrev pub entryBlocks : ℕ → List ℕ → List (List ℕ)
+entryBlocks zero words = []
+entryBlocks (suc n) words = take 4 words ∷ entryBlocks n (drop 4 words)
 
 -- The entries of a card.
 abbrev pub entriesUnder : List ℕ → List ℕ → List (List ℕ)
-entriesUnder card entries = entriesFrom (entryCount card) (drop (4 * firstEntry card) entries)
+entriesUnder card entries = entryBlocks (entryCount card) (drop (4 * firstEntry card) entries)
 
 -- The board k, from 0, of the edition in these words.
 abbrev pub boardHere : ℕ → List ℕ → List ℕ → Board

@@ -9,7 +9,7 @@ use Rattle.tables.specs.declared.dd.Row.the-variants.{Blank, Cell, Fault}
 use Rattle.tables.specs.Refusals.{refusalNumber, refusalCarries}
 use Rattle.tables.specs.Text.{ascii}
 use Rattle.tables.specs.Letters.{builtIn}
-use Rattle.tables.specs.Tables.{Reading, tableRead, tableOfDigits, rowOf, tableOfRows}
+use Rattle.tables.specs.Tables.{TableReading, tableRead, tableOfDigits, rowOf, tableOfRows}
 use Rattle.reader.specs.declared.line.Line.the-variants.{Bracket}
 use Rattle.reader.specs.Lines.{lineKind}
 use Rattle.reader.specs.Boards.{recordOut}
@@ -23,7 +23,7 @@ rowNumbers (Cell k v) = 0 ∷ k ∷ v ∷ []
 rowNumbers (Fault f) = refusalNumber f ∷ refusalCarries f ∷ []
 
 -- What a C function answers for a table that is read: refusal, edition, carried number.
-abbrev pub tableNumbers : Reading → List ℕ
+abbrev pub tableNumbers : TableReading → List ℕ
 tableNumbers t = decodedNumbers (tableRead t .answer)
 
 -- A word of every card of a text.
@@ -40,7 +40,7 @@ pub record Cases : Type 0 where
   pub comment-directive : entriesOf builtIn (ascii "[Event \"x\"] ;c") ≡ (1 ∷ 1 ∷ 5 ∷ 0 ∷ []) ∷ (2 ∷ 8 ∷ 1 ∷ 0 ∷ []) ∷ (3 ∷ 12 ∷ 2 ∷ 1 ∷ []) ∷ []
   -- `[Event "x"] {c` drops `{c`: there is the name and the value, and no commentary is open.
   pub brace-dropped : entriesOf builtIn (ascii "[Event \"x\"] {c") ≡ (1 ∷ 1 ∷ 5 ∷ 0 ∷ []) ∷ (2 ∷ 8 ∷ 1 ∷ 0 ∷ []) ∷ []
-  pub brace-opens-nothing : recordOut builtIn (ascii "[Event \"x\"] {c") .state .noting ≡ false
+  pub brace-opens-nothing : recordOut builtIn (ascii "[Event \"x\"] {c") .state .commentary ≡ false
   -- In a row: result 13 taken, 14 refused 14, 256 refused 13, +9 taken.
   pub result-13 : rowNumbers (rowOf builtIn 0 (ascii "N NT 13")) ≡ 0 ∷ 0 ∷ 13 ∷ []
   pub result-14 : rowNumbers (rowOf builtIn 0 (ascii "N NT 14")) ≡ 14 ∷ 0 ∷ []

@@ -25,7 +25,7 @@ use Rattle.tables.specs.Tables.{digitOf, rowOf, storedRow, missing, tableOfDigi
 use Rattle.reader.specs.Store.{zeros}
 use Rattle.reader.specs.Editions.{cardsOf, entriesOf}
 use Rattle.planning.specs.Slips.{totalsOf}
-use Rattle.planning.specs.Plans.{Boxes, boardsOf}
+use Rattle.planning.specs.Plans.{Boxes, plansOf}
 use Rattle.writer.specs.Pages.{writtenText}
 use Rattle.writer.specs.Given.{finishedText}
 use Rattle.golavimes.specs.Answers.{WroteOut, ReadOut, EditionOut, WritingOut, PlanOut, StateOut, BehindOut, BoardsOut, FinishOut}
@@ -99,7 +99,7 @@ ofEditions c old new boxes =
 
 -- The boards to solve.
 abbrev pub solveIn : Conventions → List ℕ → List ℕ → ℕ
-solveIn c old new = totalsOf (boardsOf c old new) .solve
+solveIn c old new = totalsOf (plansOf c old new) .solve
 
 -- 4 slips short: fewer slips lent than boards to solve, five numbers a slip.
 abbrev pub SlipsShort : Conventions → List ℕ → List ℕ → List ℕ → Type 0
@@ -128,24 +128,24 @@ PageFull text page = length page < length text
 -- ---- 8 and 9: twenty digits
 
 -- The characters of the trimmed value, and the digits before the first that is none.
-abbrev pub valueOf : List ℕ → List ℕ
-valueOf value = characters (trimmed value)
+abbrev pub valueCharacters : List ℕ → List ℕ
+valueCharacters value = characters (trimmed value)
 
 abbrev pub digitsBefore : List ℕ → List ℕ
 digitsBefore xs = front (λ x. not (ltb 13 (digitOf x))) xs
 
 -- 8 length: the trimmed value has not 20 characters.
 abbrev pub NotTwenty : List ℕ → Type 0
-NotTwenty value = length (valueOf value) ≡ 20 → ⊥
+NotTwenty value = length (valueCharacters value) ≡ 20 → ⊥
 
 -- 9 digit: a bad digit stands behind the good ones.
 abbrev pub BadDigit : List ℕ → Type 0
-BadDigit value = length (digitsBefore (valueOf value)) < length (valueOf value)
+BadDigit value = length (digitsBefore (valueCharacters value)) < length (valueCharacters value)
 
 abbrev pub ofDigits : List ℕ → List Refusal
 ofDigits value =
-    refusal 8 0 (length (valueOf value)) (NotTwenty value)
-    ∷ refusal 9 0 (length (digitsBefore (valueOf value))) (BadDigit value)
+    refusal 8 0 (length (valueCharacters value)) (NotTwenty value)
+    ∷ refusal 9 0 (length (digitsBefore (valueCharacters value))) (BadDigit value)
     ∷ []
 
 -- ---- 10 to 15: rows

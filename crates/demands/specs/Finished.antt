@@ -13,7 +13,7 @@ use Rattle.planning.specs.declared.state.BoardState.{BoardState}
 use Rattle.planning.specs.declared.state.BoardState.the-variants.{Blank, Own}
 use Rattle.planning.specs.Cards.{isWhole, handsOf, hasTable}
 use Rattle.planning.specs.States.{stateAt, stateNumber}
-use Rattle.planning.specs.Plans.{boardsOf}
+use Rattle.planning.specs.Plans.{plansOf}
 use Rattle.writer.specs.Pages.{writtenText}
 use Rattle.writer.specs.Given.{cellsOf, tablesOf, finishedText}
 use Rattle.demands.specs.Demand1.{solveIn}
@@ -51,5 +51,5 @@ FinishedBack =
 abbrev pub NoneWanted : Type 0
 NoneWanted =
     (c : Conventions) (old new answers : List ℕ)
-    → ((p : ℕ) → stateNumber (stateAt (boardsOf c old new) p) < 2)
+    → ((p : ℕ) → stateNumber (stateAt (plansOf c old new) p) < 2)
     → finishedText c old new answers ≡ writtenText c new

@@ -15,7 +15,7 @@ use Rattle.tables.specs.Text.{ascii}
 use Rattle.reader.specs.declared.board.TableCard.{TableCard}
 use Rattle.reader.specs.Words.{same}
 use Rattle.reader.specs.Plain.{TagPair, Remark, PlainBoard, plainOf}
-use Rattle.writer.specs.Remarks.{Line, tagLine, dataLine, directiveLine, blockLine, linesText, leadingLines, boardLines}
+use Rattle.writer.specs.Remarks.{WrittenLine, tagLine, dataLine, directiveLine, blockLine, linesText, leadingLines, boardLines}
 use Rattle.writer.specs.Pages.{ownPlay, builtInHeader, firstPart, nextPart}
 use Rattle.writer.specs.Given.{withTable}
 
@@ -42,62 +42,62 @@ anchorIn b k = lastName (take (k .before) (b .tags))
 -- ---- lines
 
 -- The line of a remark.
-abbrev pub lineOf : Kind → ℕ → List ℕ → Line
+abbrev pub lineOf : Kind → ℕ → List ℕ → WrittenLine
 lineOf directive i x = directiveLine i x
 lineOf block i x = blockLine i x
 
-abbrev pub isRemark : Kind → ℕ → Line → Bool
-isRemark directive i (directiveLine j x) = eqb i j
-isRemark block i (blockLine j x) = eqb i j
-isRemark directive i (tagLine m v) = false
-isRemark directive i (dataLine d) = false
-isRemark directive i (blockLine j x) = false
-isRemark block i (tagLine m v) = false
-isRemark block i (dataLine d) = false
-isRemark block i (directiveLine j x) = false
+abbrev pub isRemarkLine : Kind → ℕ → WrittenLine → Bool
+isRemarkLine directive i (directiveLine j x) = eqb i j
+isRemarkLine block i (blockLine j x) = eqb i j
+isRemarkLine directive i (tagLine m v) = false
+isRemarkLine directive i (dataLine d) = false
+isRemarkLine directive i (blockLine j x) = false
+isRemarkLine block i (tagLine m v) = false
+isRemarkLine block i (dataLine d) = false
+isRemarkLine block i (directiveLine j x) = false
 
 -- A tag of the name n.
-abbrev pub isTag : List ℕ → Line → Bool
+abbrev pub isTag : List ℕ → WrittenLine → Bool
 isTag n (tagLine m v) = same n m
 isTag n (dataLine d) = false
 isTag n (directiveLine i x) = false
 isTag n (blockLine i x) = false
 
-abbrev pub isData : Line → Bool
+abbrev pub isData : WrittenLine → Bool
 isData (tagLine m v) = false
 isData (dataLine d) = true
 isData (directiveLine i x) = false
 isData (blockLine i x) = false
 
-abbrev pub isTagOrData : Line → Bool
+abbrev pub isTagOrData : WrittenLine → Bool
 isTagOrData (tagLine m v) = true
 isTagOrData (dataLine d) = true
 isTagOrData (directiveLine i x) = false
 isTagOrData (blockLine i x) = false
 
 -- How many lines meet a test.
-abbrev pub times : (Line → Bool) → List Line → ℕ
+abbrev pub times : (WrittenLine → Bool) → List WrittenLine → ℕ
 times p [] = 0
 times p (l ∷ ls) = cond (p l) 1 0 + times p ls
 
 -- How many tags are written of the name of an anchor.
-abbrev pub timesAnchored : Option (List ℕ) → List Line → ℕ
+abbrev pub timesAnchored : Option (List ℕ) → List WrittenLine → ℕ
 timesAnchored none ls = 0
 timesAnchored (some n) ls = times (isTag n) ls
 
 -- The name of the last tag line, n where there is none.
-abbrev pub lastTagAfter : Option (List ℕ) → List Line → Option (List ℕ)
+abbrev pub lastTagAfter : Option (List ℕ) → List WrittenLine → Option (List ℕ)
 lastTagAfter n [] = n
 lastTagAfter n (tagLine m v ∷ ls) = lastTagAfter (some m) ls
 lastTagAfter n (dataLine d ∷ ls) = lastTagAfter n ls
 lastTagAfter n (directiveLine i x ∷ ls) = lastTagAfter n ls
 lastTagAfter n (blockLine i x ∷ ls) = lastTagAfter n ls
 
-abbrev pub lastTag : List Line → Option (List ℕ)
+abbrev pub lastTag : List WrittenLine → Option (List ℕ)
 lastTag ls = lastTagAfter none ls
 
 -- The lines up to the next tag line.
-abbrev pub untilTag : List Line → List Line
+abbrev pub untilTag : List WrittenLine → List WrittenLine
 untilTag [] = []
 untilTag (tagLine m v ∷ ls) = []
 untilTag (dataLine d ∷ ls) = dataLine d ∷ untilTag ls
@@ -110,14 +110,14 @@ untilTag (blockLine i x ∷ ls) = blockLine i x ∷ untilTag ls
 --   above: no tag before it on the board. It stands above every tag and every data line.
 --   under: the last tag line above it has its anchor's name, and it stands behind that tag's data lines; a block under the first such tag.
 --   behind: no tag of its anchor's name is written. It stands behind all tags and data lines.
-pub data Place (ls front back : List Line) (kind : Kind) : Option (List ℕ) → Type 0 where
+pub data Place (ls front back : List WrittenLine) (kind : Kind) : Option (List ℕ) → Type 0 where
   above : times isTagOrData front ≡ 0 → Place ls front back kind none
   under : {n : List ℕ} → lastTag front ≡ some n → times isData (untilTag back) ≡ 0 → (kind ≡ block → times (isTag n) front ≡ 1)
       → Place ls front back kind (some n)
   behind : {n : List ℕ} → times (isTag n) ls ≡ 0 → times isTagOrData back ≡ 0 → Place ls front back kind (some n)
 
 -- The line between front and back, of the number i and the bytes x, is that of a remark of the board, and stands where it should.
-pub record Stands (b : PlainBoard) (ls : List Line) (kind : Kind) (i : ℕ) (x : List ℕ) (front back : List Line) : Type 0 where
+pub record StandsRight (b : PlainBoard) (ls : List WrittenLine) (kind : Kind) (i : ℕ) (x : List ℕ) (front back : List WrittenLine) : Type 0 where
   pub remark : Remark
   pub met : getElem? (remarksOf kind b) i ≡ some remark
   pub unchanged : x ≡ remark .bytes
@@ -126,11 +126,11 @@ pub record Stands (b : PlainBoard) (ls : List Line) (kind : Kind) (i : ℕ) (x :
 -- ---- the order at a place
 
 -- No tag of its anchor's name is written, so that it stands at the end.
-abbrev pub isUnwritten : List Line → Option (List ℕ) → Bool
+abbrev pub isUnwritten : List WrittenLine → Option (List ℕ) → Bool
 isUnwritten ls none = false
 isUnwritten ls (some n) = eqb (times (isTag n) ls) 0
 
-abbrev pub isAtEnd : PlainBoard → List Line → Option Remark → Bool
+abbrev pub isAtEnd : PlainBoard → List WrittenLine → Option Remark → Bool
 isAtEnd b ls none = false
 isAtEnd b ls (some k) = isUnwritten ls (anchorIn b k)
 
@@ -139,7 +139,7 @@ abbrev pub rank : Kind → Bool → ℕ
 rank directive atEnd = cond atEnd 3 0
 rank block atEnd = cond atEnd 2 1
 
-abbrev pub rankIn : PlainBoard → List Line → Kind → ℕ → ℕ
+abbrev pub rankIn : PlainBoard → List WrittenLine → Kind → ℕ → ℕ
 rankIn b ls kind i = rank kind (isAtEnd b ls (getElem? (remarksOf kind b) i))
 
 -- By rank, and where ranks are equal in the order met.
@@ -149,20 +149,20 @@ pub data InOrder (r i s j : ℕ) : Type 0 where
 
 -- ---- the demand
 
-pub record NothingLost (b : PlainBoard) (ls : List Line) : Type 0 where
+pub record NothingLost (b : PlainBoard) (ls : List WrittenLine) : Type 0 where
   -- Every line of a remark is that of one of the board's, and stands beside its tag.
-  pub placed : (kind : Kind) (front back : List Line) (i : ℕ) (x : List ℕ) → ls ≡ front ++ lineOf kind i x ∷ back → Stands b ls kind i x front back
+  pub placed : (kind : Kind) (front back : List WrittenLine) (i : ℕ) (x : List ℕ) → ls ≡ front ++ lineOf kind i x ∷ back → StandsRight b ls kind i x front back
   -- Every block is written once.
-  pub block-once : (i : ℕ) (k : Remark) → getElem? (b .blocks) i ≡ some k → times (isRemark block i) ls ≡ 1
+  pub block-once : (i : ℕ) (k : Remark) → getElem? (b .blocks) i ≡ some k → times (isRemarkLine block i) ls ≡ 1
   -- Every directive is written once under each tag of its anchor's name, and once where there is no such tag.
-  pub directive-each : (front back : List Line) (n v : List ℕ) (i : ℕ) (k : Remark) → getElem? (b .directives) i ≡ some k
-      → anchorIn b k ≡ some n → ls ≡ front ++ tagLine n v ∷ back → times (isRemark directive i) (untilTag back) ≡ 1
+  pub directive-each : (front back : List WrittenLine) (n v : List ℕ) (i : ℕ) (k : Remark) → getElem? (b .directives) i ≡ some k
+      → anchorIn b k ≡ some n → ls ≡ front ++ tagLine n v ∷ back → times (isRemarkLine directive i) (untilTag back) ≡ 1
   pub directive-once : (i : ℕ) (k : Remark) → getElem? (b .directives) i ≡ some k → timesAnchored (anchorIn b k) ls ≡ 0
-      → times (isRemark directive i) ls ≡ 1
+      → times (isRemarkLine directive i) ls ≡ 1
   -- Only Note is the name of several tags.
   pub only-notes : (n : List ℕ) → same (ascii "Note") n ≡ false → times (isTag n) ls ≤ 1
   -- Two remarks with no tag line between them stand in order.
-  pub in-order : (p q : Kind) (front between back : List Line) (i j : ℕ) (x y : List ℕ)
+  pub in-order : (p q : Kind) (front between back : List WrittenLine) (i j : ℕ) (x y : List ℕ)
       → ls ≡ front ++ lineOf p i x ∷ (between ++ lineOf q j y ∷ back) → untilTag between ≡ between
       → InOrder (rankIn b ls p i) i (rankIn b ls q j) j
 
@@ -176,7 +176,7 @@ pub record NothingIsLost : Type 0 where
 -- ---- the page
 
 -- A board's lines with its own play, and how many of them are the directives before every tag, which stand first.
-abbrev pub ownLines : Conventions → PlainBoard → List Line
+abbrev pub ownLines : Conventions → PlainBoard → List WrittenLine
 ownLines c b = boardLines c b (ownPlay c (b .play))
 
 abbrev pub leadingCount : PlainBoard → ℕ

@@ -21,7 +21,7 @@ use Rattle.reader.specs.Words.{same}
 use Rattle.reader.specs.Records.{recordsOf}
 use Rattle.reader.specs.Plain.{TagPair, PlainCall, PlainAuction, PlainBoard, plainOf, plainBoards, plainList, withoutReturns, goodDirective, goodBlock}
 use Rattle.writer.specs.Tags.{WrittenTag, writtenTags}
-use Rattle.writer.specs.Remarks.{Anchored, directivesOf, blocksOf, those, isLeading, isUnder, wrote, isLost, Line, tagLine, dataLine, directiveLine, blockLine, linesText, leadingLines}
+use Rattle.writer.specs.Remarks.{Anchored, directivesOf, blocksOf, those, isLeading, isUnder, wrote, tagUnwritten, WrittenLine, tagLine, dataLine, directiveLine, blockLine, linesText, leadingLines}
 use Rattle.writer.specs.Pages.{ownPlay, bodyText, firstPart, writtenText}
 use Rattle.writer.specs.Given.{finishedBoards, finishedText}
 
@@ -73,7 +73,7 @@ abbrev pub goodData : List ℕ → Bool
 goodData [] = false
 goodData (b ∷ bs) = startsData b && (not (among 10 (b ∷ bs)) && isTrimmed (b ∷ bs))
 
-abbrev pub goodLine : Line → Bool
+abbrev pub goodLine : WrittenLine → Bool
 goodLine (tagLine n v) = goodName n && goodValue v
 goodLine (dataLine d) = goodData d
 goodLine (directiveLine i d) = goodDirective d && isTrimmed d
@@ -98,7 +98,7 @@ isSigned d = not (eqb (getD d 0 0) 123)
 -- A written line and the lines of its text, each with its LF (10). A tag is a plain tag of that name and value; data and a directive have
 -- those bytes; a directive that starts with `{` is commentary on one line, and a block is commentary whose text it is, from behind the `{`
 -- (123). None of these is blank.
-pub data ReadsAs : Line → List (List ℕ) → Type 0 where
+pub data ReadsAs : WrittenLine → List (List ℕ) → Type 0 where
   tag : {n v l : List ℕ} {t : TagPlaces} → lineKind l ≡ Tag (Plain t) → cut (t .name) l ≡ n → cut (t .value) l ≡ v → ReadsAs (tagLine n v) (l ∷ [])
   section : {d l : List ℕ} {s : Span} → lineKind l ≡ Data s → cut s l ≡ d → ReadsAs (dataLine d) (l ∷ [])
   directive : {i : ℕ} {d l : List ℕ} {s : Span} → isSigned d ≡ true → lineKind l ≡ Directive s → cut s l ≡ d → ReadsAs (directiveLine i d) (l ∷ [])
@@ -124,20 +124,20 @@ pageRecords c (b ∷ bs) = recordsAfter c (firstPart c b) bs
 -- ---- the tags of a record
 
 -- The tags of a board as they are written.
-abbrev pub pairOf : WrittenTag → TagPair
-pairOf w = record { name = w .name; value = w .value }
+abbrev pub tagPair : WrittenTag → TagPair
+tagPair w = record { name = w .name; value = w .value }
 
 abbrev pub tagsAsWritten : Conventions → PlainBoard → List TagPair
-tagsAsWritten c b = map pairOf (writtenTags c b (ownPlay c (b .play)))
+tagsAsWritten c b = map tagPair (writtenTags c b (ownPlay c (b .play)))
 
 -- ---- the directives and the blocks of a record
 
 -- The bytes of a remark and its anchor, which is the name of the last tag before it.
-abbrev pub Place : Type 0
-Place = List ℕ × Option (List ℕ)
+abbrev pub AnchoredBytes : Type 0
+AnchoredBytes = List ℕ × Option (List ℕ)
 
-abbrev pub placeOf : Anchored → Place
-placeOf k = (k .bytes, k .anchor)
+abbrev pub anchoredBytes : Anchored → AnchoredBytes
+anchoredBytes k = (k .bytes, k .anchor)
 
 -- What a written directive and a written block read back as.
 pub record Texts : Type 0 where
@@ -160,16 +160,16 @@ abbrev pub asBlocks : Texts
 asBlocks = record { of-directive = λ d. cond (isSigned d) [] (blockText (commentText d)); of-block = blockText }
 
 -- Under the anchor a.
-abbrev pub under : Option (List ℕ) → List (List ℕ) → List Place
+abbrev pub under : Option (List ℕ) → List (List ℕ) → List AnchoredBytes
 under a [] = []
 under a (x ∷ xs) = (x, a) ∷ under a xs
 
-abbrev pub allUnder : (List ℕ → List (List ℕ)) → Option (List ℕ) → List Anchored → List Place
+abbrev pub allUnder : (List ℕ → List (List ℕ)) → Option (List ℕ) → List Anchored → List AnchoredBytes
 allUnder f a [] = []
 allUnder f a (k ∷ ks) = under a (f (k .bytes)) ++ allUnder f a ks
 
 -- Under each written tag the directives of its name, and under the first of a name the blocks; earlier are the tags written before.
-abbrev pub underTags : Texts → List Anchored → List Anchored → List WrittenTag → List WrittenTag → List Place
+abbrev pub underTags : Texts → List Anchored → List Anchored → List WrittenTag → List WrittenTag → List AnchoredBytes
 underTags t ds ks earlier [] = []
 underTags t ds ks earlier (w ∷ ws) =
     allUnder (t .of-directive) (some (w .name)) (those (isUnder (w .name)) ds)
@@ -177,29 +177,29 @@ underTags t ds ks earlier (w ∷ ws) =
     ++ underTags t ds ks (earlier ++ w ∷ []) ws)
 
 -- The name of the last tag; a where there is none.
-abbrev pub lastName : Option (List ℕ) → List WrittenTag → Option (List ℕ)
-lastName a [] = a
-lastName a (w ∷ ws) = lastName (some (w .name)) ws
+abbrev pub lastNameFrom : Option (List ℕ) → List WrittenTag → Option (List ℕ)
+lastNameFrom a [] = a
+lastNameFrom a (w ∷ ws) = lastNameFrom (some (w .name)) ws
 
 -- The directives ds and the blocks ks of a board once they are written with the tags ws and read back: before any tag where they stood
 -- so; under the same name where a tag of that name is written; under the last written tag where none has it.
-abbrev pub readBack : Texts → List Anchored → List Anchored → List WrittenTag → List Place
+abbrev pub readBack : Texts → List Anchored → List Anchored → List WrittenTag → List AnchoredBytes
 readBack t ds ks ws =
     allUnder (t .of-directive) none (those isLeading ds)
     ++ (allUnder (t .of-block) none (those isLeading ks)
     ++ (underTags t ds ks [] ws
-    ++ (allUnder (t .of-block) (lastName none ws) (those (isLost ws) ks)
-    ++ allUnder (t .of-directive) (lastName none ws) (those (isLost ws) ds))))
+    ++ (allUnder (t .of-block) (lastNameFrom none ws) (those (tagUnwritten ws) ks)
+    ++ allUnder (t .of-directive) (lastNameFrom none ws) (those (tagUnwritten ws) ds))))
 
-abbrev pub remarksBack : Texts → Conventions → PlainBoard → List Place
+abbrev pub remarksBack : Texts → Conventions → PlainBoard → List AnchoredBytes
 remarksBack t c b = readBack t (directivesOf b) (blocksOf b) (writtenTags c b (ownPlay c (b .play)))
 
 -- The two directives of the built-in header, where the first board has none before its tags.
-abbrev pub builtInBack : Texts → List Line → List Place
+abbrev pub builtInBack : Texts → List WrittenLine → List AnchoredBytes
 builtInBack t [] = under none (t .of-directive (ascii "% PBN 2.1")) ++ under none (t .of-directive (ascii "% EXPORT"))
 builtInBack t (l ∷ ls) = []
 
-abbrev pub pageBack : Texts → Conventions → List PlainBoard → List (List Place)
+abbrev pub pageBack : Texts → Conventions → List PlainBoard → List (List AnchoredBytes)
 pageBack t c [] = []
 pageBack t c (b ∷ bs) = (builtInBack t (leadingLines b) ++ remarksBack t c b) ∷ map (remarksBack t c) bs
 
@@ -225,9 +225,9 @@ FinishedTags =
 pub record RemarksRead (c d : Conventions) (text : List ℕ) (bs : List PlainBoard) : Type 0 where
   -- Of each record the directives of its board that start with `;` or `%`: the same bytes; before any tag where they stood so, under the
   -- same name where a tag of that name is written, else under the last written tag.
-  pub directives : map (λ r. map placeOf (directivesOf (plainOf d r))) (recordsOf text) ≡ pageBack asDirectives c bs
+  pub directives : map (λ r. map anchoredBytes (directivesOf (plainOf d r))) (recordsOf text) ≡ pageBack asDirectives c bs
   -- The blocks of its board, and its directives in braces, likewise.
-  pub blocks : map (λ r. map placeOf (blocksOf (plainOf d r))) (recordsOf text) ≡ pageBack asBlocks c bs
+  pub blocks : map (λ r. map anchoredBytes (blocksOf (plainOf d r))) (recordsOf text) ≡ pageBack asBlocks c bs
 
 -- THEOREM (proofs/RemarksBack.antt). What an edition is written as has the remarks of the edition.
 abbrev pub EditionRemarks : Type 0

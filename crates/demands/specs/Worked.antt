@@ -22,8 +22,8 @@ use Rattle.demands.specs.Finished.{Answered}
 
 -- The front: the deal a (N has the spades, E the hearts, S the diamonds, W the clubs) with a table. The back: the deal d, turned from S, with a
 -- table. The old stretch: a again, without a table. The new stretch: the deal b, turned from E.
-abbrev pub front : List ℕ
-front = ascii "[Deal \"N:AKQJT98765432... .AKQJT98765432.. ..AKQJT98765432. ...AKQJT98765432\"]\n[DoubleDummyTricks \"00000000000000000000\"]\n\n"
+abbrev pub workedFront : List ℕ
+workedFront = ascii "[Deal \"N:AKQJT98765432... .AKQJT98765432.. ..AKQJT98765432. ...AKQJT98765432\"]\n[DoubleDummyTricks \"00000000000000000000\"]\n\n"
 
 abbrev pub oldStretch : List ℕ
 oldStretch = ascii "[Event \"x\"]\n[Deal \"N:AKQJT98765432... .AKQJT98765432.. ..AKQJT98765432. ...AKQJT98765432\"]\n\n"
@@ -31,14 +31,14 @@ oldStretch = ascii "[Event \"x\"]\n[Deal \"N:AKQJT98765432... .AKQJT98765432.. .
 abbrev pub newStretch : List ℕ
 newStretch = ascii "[Deal \"E:AKQJT98765432... .AKQJT98765432.. ..AKQJT98765432. ...AKQJT98765432\"]\n\n"
 
-abbrev pub back : List ℕ
-back = ascii "[Deal \"S:AKQJT98765432... .AKQJT98765432.. ..AKQJT98765432. ...AKQJT98765432\"]\n[DoubleDummyTricks \"0123456789abcd012345\"]\n"
+abbrev pub workedBack : List ℕ
+workedBack = ascii "[Deal \"S:AKQJT98765432... .AKQJT98765432.. ..AKQJT98765432. ...AKQJT98765432\"]\n[DoubleDummyTricks \"0123456789abcd012345\"]\n"
 
 abbrev pub old : List ℕ
-old = front ++ (oldStretch ++ back)
+old = workedFront ++ (oldStretch ++ workedBack)
 
 abbrev pub new : List ℕ
-new = front ++ (newStretch ++ back)
+new = workedFront ++ (newStretch ++ workedBack)
 
 -- All spades, hearts, diamonds and clubs are 4503049871556608, 549688705024, 67100672 and 8191.
 abbrev pub dealA : Hands
@@ -76,11 +76,11 @@ answer′ = 0 ∷ 0 ∷ 0 ∷ 3 ∷ 0 ∷ 2 ∷ 0 ∷ 0 ∷ 0 ∷ 1 ∷ []
 
 -- THEOREM (proofs/Worked.antt).
 pub record WorkedPair : Type 0 where
-  pub alike : AlikeBut front oldStretch newStretch back
+  pub alike : AlikeBut workedFront oldStretch newStretch workedBack
   pub planned : PlanOut builtIn old new boxes slips boxes′ slips′ answer′ 0
   pub solved : AllSolved (cardsOf builtIn old)
-  pub solved-in-front : Some (λ x. Tabled dealA x × InFront front x) (cardsOf builtIn old)
-  pub solved-in-back : Some (λ x. Tabled dealD x × InBack front oldStretch x) (cardsOf builtIn old)
+  pub solved-in-front : Some (λ x. Tabled dealA x × InFront workedFront x) (cardsOf builtIn old)
+  pub solved-in-back : Some (λ x. Tabled dealD x × InBack workedFront oldStretch x) (cardsOf builtIn old)
   pub listed : ListedIn dealB (getD answer′ 9 0) slips′
 
 -- ---- the solver's answers for the one slip: seven tricks in every cell

@@ -6,7 +6,7 @@ use lib.ListN.{length, getD}
 use Rattle.tables.specs.declared.dd.TableRead.{TableRead}
 use Rattle.tables.specs.declared.page.Written.{Written}
 use Rattle.tables.specs.Page.{Wrote}
-use Rattle.tables.specs.Tables.{Reading, tableRead}
+use Rattle.tables.specs.Tables.{TableReading, tableRead}
 use Rattle.tables.specs.declared.letters.Conventions.{Conventions}
 use Rattle.reader.specs.declared.edition.Reading.{Reading as EditionReading}
 use Rattle.reader.specs.Store.{lent}
@@ -14,9 +14,9 @@ use Rattle.reader.specs.Editions.{IsRead, isTaken, cardsOf, entriesOf}
 use Rattle.planning.specs.declared.state.BoardState.{BoardState}
 use Rattle.planning.specs.declared.behind.Behind.{Behind}
 use Rattle.planning.specs.declared.editions.Editions.{Editions}
-use Rattle.planning.specs.declared.plan.Planned.{Planned}
+use Rattle.planning.specs.declared.plan.Planning.{Planning}
 use Rattle.planning.specs.Slips.{slipsOf}
-use Rattle.planning.specs.Plans.{Boxes, editionsOf, areBoth, isListed, boardsOf, stateBy, behindBy, boardsAfter, BoxesAfter, BothRead, IsPlanned, StateTold, BehindTold, BoardsTold}
+use Rattle.planning.specs.Plans.{Boxes, editionsOf, areBoth, isPlanned, plansOf, stateBy, behindBy, boardsAfter, BoxesAfter, BothRead, IsPlanned, StateTold, BehindTold, BoardsTold}
 use Rattle.golavimes.specs.Answers.{writtenNumbers, decodedNumbers, readingNumbers, writingNumbers, finishingNumbers, planNumbers, stateNumbers, recordNumbers, boardsNumbers, WroteOut, ReadOut, EditionOut, WritingOut, PlanOut, StateOut, BehindOut, BoardsOut, FinishOut}
 use Rattle.writer.specs.declared.write.Writing.{Writing}
 use Rattle.writer.specs.Writings.{writingOf, IsWritten}
@@ -26,7 +26,7 @@ use Rattle.writer.specs.Finishings.{IsFinished}
 pub wrote-out : {bs page page′ : List ℕ} {w : Written} {numbers : List ℕ} → Wrote bs page page′ w → numbers ≡ writtenNumbers w → WroteOut bs page page′ numbers (getD numbers 0 0)
 wrote-out a e = record { told = e ∙ ap writtenNumbers (a .told); page-after = a .page-after; returned = refl }
 
-pub read-out : (reading : Reading) (read : TableRead) (table′ answer′ : List ℕ) (r : ℕ) → read ≡ tableRead reading
+pub read-out : (reading : TableReading) (read : TableRead) (table′ answer′ : List ℕ) (r : ℕ) → read ≡ tableRead reading
     → table′ ≡ read .table → answer′ ≡ decodedNumbers (read .answer) → r ≡ getD (decodedNumbers (read .answer)) 0 0 → ReadOut reading table′ answer′ r
 read-out reading read table′ answer′ r e et ea er =
     record {
@@ -47,13 +47,13 @@ edition-out {c} {text} {cards} {entries} a e =
 
 -- ---- planning
 
-pub plan-out : {c : Conventions} {old new : List ℕ} {boxes : Boxes} {slips : List ℕ} {boxes′ : Boxes} {slips′ numbers : List ℕ} {r : Planned}
+pub plan-out : {c : Conventions} {old new : List ℕ} {boxes : Boxes} {slips : List ℕ} {boxes′ : Boxes} {slips′ numbers : List ℕ} {r : Planning}
     → IsPlanned c old new boxes slips boxes′ slips′ r → numbers ≡ planNumbers r → PlanOut c old new boxes slips boxes′ slips′ numbers (getD numbers 0 0)
 plan-out {c} {old} {new} {boxes} {slips} a e =
     record {
       told = e ∙ ap planNumbers (a .answer);
       boxes-after = rw (← a .answer) (a .boxes-after);
-      slips-after = a .slips-after ∙ ap (λ (x : Planned). lent (isListed x) (length slips) (slipsOf (boardsOf c old new))) (a .answer);
+      slips-after = a .slips-after ∙ ap (λ (x : Planning). lent (isPlanned x) (length slips) (slipsOf (plansOf c old new))) (a .answer);
       returned = refl;
     }
 
@@ -65,7 +65,7 @@ pub state-out : {c : Conventions} {old new : List ℕ} {boxes boxes′ : Boxes} 
     → StateTold c old new boxes boxes′ p r s → numbers ≡ stateNumbers r s → StateOut c old new boxes boxes′ p numbers (getD numbers 0 0)
 state-out {c} {old} {new} {boxes} {boxes′} {numbers} {p} {r} {s} a e =
     record {
-      told = e ∙ (ap (stateNumbers r) (a .state) ∙ ap (λ (x : Editions). stateNumbers x (stateBy x (boardsOf c old new) p)) (a .editions-read .answer));
+      told = e ∙ (ap (stateNumbers r) (a .state) ∙ ap (λ (x : Editions). stateNumbers x (stateBy x (plansOf c old new) p)) (a .editions-read .answer));
       boxes-after = boxes-told (a .editions-read);
       returned = refl;
     }

@@ -12,7 +12,7 @@ use Rattle.tables.specs.declared.page.Written.the-variants.{Bytes}
 use Rattle.tables.specs.declared.page.Written.the-variants as written
 use Rattle.tables.specs.Refusals.{refusalNumber, refusalCarries}
 use Rattle.tables.specs.Page.{answerOf, pageOf}
-use Rattle.tables.specs.Tables.{Reading as TableReading, tableRead}
+use Rattle.tables.specs.Tables.{TableReading, tableRead}
 use Rattle.tables.specs.declared.letters.Conventions.{Conventions}
 use Rattle.reader.specs.declared.edition.Reading.{Reading}
 use Rattle.reader.specs.declared.edition.Reading.the-variants.{Taken}
@@ -27,12 +27,12 @@ use Rattle.planning.specs.declared.editions.Editions.the-variants.{Both}
 use Rattle.planning.specs.declared.editions.Editions.the-variants as editions
 use Rattle.planning.specs.declared.plan.PlanRefusal.{PlanRefusal}
 use Rattle.planning.specs.declared.plan.PlanRefusal.the-variants.{Edition}
-use Rattle.planning.specs.declared.plan.Planned.{Planned}
-use Rattle.planning.specs.declared.plan.Planned.the-variants.{Listed}
-use Rattle.planning.specs.declared.plan.Planned.the-variants as planned
+use Rattle.planning.specs.declared.plan.Planning.{Planning}
+use Rattle.planning.specs.declared.plan.Planning.the-variants.{Planned}
+use Rattle.planning.specs.declared.plan.Planning.the-variants as planning
 use Rattle.planning.specs.States.{stateNumber, fromOf}
 use Rattle.planning.specs.Slips.{slipsOf}
-use Rattle.planning.specs.Plans.{planNumber, planEdition, planCarries, Boxes, editionsOf, areBoth, plannedOf, isListed, boardsOf, BoxesAfter, stateBy, behindBy, boardsAfter}
+use Rattle.planning.specs.Plans.{planNumber, planEdition, planCarries, Boxes, editionsOf, areBoth, planningOf, isPlanned, plansOf, BoxesAfter, stateBy, behindBy, boardsAfter}
 use Rattle.writer.specs.declared.write.Writing.{Writing}
 use Rattle.writer.specs.declared.write.Writing.the-variants as writing
 use Rattle.writer.specs.Writings.{writeNumber, writeCarries, writingOf, IsWritten}
@@ -78,9 +78,9 @@ abbrev pub headThen : Head → List ℕ → List ℕ
 headThen h values = h .refusal ∷ h .edition ∷ h .carried ∷ values
 
 -- A plan's answer: the totals.
-abbrev pub planNumbers : Planned → List ℕ
-planNumbers (Listed t) = 0 ∷ 0 ∷ 0 ∷ t .boards ∷ t .blank ∷ t .own ∷ t .old ∷ t .near ∷ t .twin ∷ t .solve ∷ []
-planNumbers (planned.Refused f) = headThen (refusedHead f) (0 ∷ 0 ∷ 0 ∷ 0 ∷ 0 ∷ 0 ∷ 0 ∷ [])
+abbrev pub planNumbers : Planning → List ℕ
+planNumbers (Planned t) = 0 ∷ 0 ∷ 0 ∷ t .boards ∷ t .blank ∷ t .own ∷ t .old ∷ t .near ∷ t .twin ∷ t .solve ∷ []
+planNumbers (planning.Refused f) = headThen (refusedHead f) (0 ∷ 0 ∷ 0 ∷ 0 ∷ 0 ∷ 0 ∷ 0 ∷ [])
 
 -- A state's answer: its number (0 blank to 5 solve) and its source board.
 abbrev pub stateNumbers : Editions → BoardState → List ℕ
@@ -96,12 +96,12 @@ abbrev pub recordNumbers : Editions → Behind → List ℕ
 recordNumbers r b = headThen (editionsHead r) (partNumbers b)
 
 -- The boards of the new edition.
-abbrev pub boardsIn : Editions → ℕ
-boardsIn (Both m n) = n
-boardsIn (editions.Refused f) = 0
+abbrev pub newBoards : Editions → ℕ
+newBoards (Both m n) = n
+newBoards (editions.Refused f) = 0
 
 abbrev pub boardsNumbers : Editions → List ℕ
-boardsNumbers r = headThen (editionsHead r) (boardsIn r ∷ [])
+boardsNumbers r = headThen (editionsHead r) (newBoards r ∷ [])
 
 -- bs is written on a lent page, whatever the page and the answer held.
 pub record WroteOut (bs page page′ answer′ : List ℕ) (r : ℕ) : Type 0 where
@@ -130,14 +130,14 @@ pub record WritingOut (c : Conventions) (text cards entries page cards′ entrie
 
 -- Two editions are planned, whatever was lent and whatever it held.
 pub record PlanOut (c : Conventions) (old new : List ℕ) (boxes : Boxes) (slips : List ℕ) (boxes′ : Boxes) (slips′ answer′ : List ℕ) (r : ℕ) : Type 0 where
-  pub told : answer′ ≡ planNumbers (plannedOf c old new boxes (length slips))
-  pub boxes-after : BoxesAfter c (isListed (plannedOf c old new boxes (length slips))) old new boxes boxes′
-  pub slips-after : slips′ ≡ lent (isListed (plannedOf c old new boxes (length slips))) (length slips) (slipsOf (boardsOf c old new))
+  pub told : answer′ ≡ planNumbers (planningOf c old new boxes (length slips))
+  pub boxes-after : BoxesAfter c (isPlanned (planningOf c old new boxes (length slips))) old new boxes boxes′
+  pub slips-after : slips′ ≡ lent (isPlanned (planningOf c old new boxes (length slips))) (length slips) (slipsOf (plansOf c old new))
   pub returned : r ≡ getD answer′ 0 0
 
 -- The state at a position.
 pub record StateOut (c : Conventions) (old new : List ℕ) (boxes boxes′ : Boxes) (p : ℕ) (answer′ : List ℕ) (r : ℕ) : Type 0 where
-  pub told : answer′ ≡ stateNumbers (editionsOf c old new boxes) (stateBy (editionsOf c old new boxes) (boardsOf c old new) p)
+  pub told : answer′ ≡ stateNumbers (editionsOf c old new boxes) (stateBy (editionsOf c old new boxes) (plansOf c old new) p)
   pub boxes-after : BoxesAfter c (areBoth (editionsOf c old new boxes)) old new boxes boxes′
   pub returned : r ≡ getD answer′ 0 0
 

@@ -8,7 +8,7 @@ ghost use Rattle.tables.specs.Tables.{digitsText, headerText, rowsText, tableOf
 use planning::behind::Behind;
 use planning::editions::Editions;
 use planning::plan::PlanRefusal;
-use planning::plan::Planned;
+use planning::plan::Planning;
 use planning::state::BoardState;
 use reader::edition::Reading;
 use tables::dd::Decoded;
@@ -212,11 +212,11 @@ fn editions_head(r: Editions) -> Head
     }
 }
 
-fn plan_numbers(p: Planned) -> [u64; 10]
+fn plan_numbers(p: Planning) -> [u64; 10]
     ensures { λ r. ⌜ r ≡ planNumbers p ⌝ }
 {
     match p {
-        Planned::Listed(t) => [
+        Planning::Planned(t) => [
             0,
             0,
             0,
@@ -228,7 +228,7 @@ fn plan_numbers(p: Planned) -> [u64; 10]
             t.twin,
             t.solve,
         ],
-        Planned::Refused(f) => {
+        Planning::Refused(f) => {
             let h = refused_head(f);
             [h.refusal, h.edition, h.carried, 0, 0, 0, 0, 0, 0, 0]
         }

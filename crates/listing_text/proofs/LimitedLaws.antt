@@ -16,12 +16,12 @@ use Rattle.planning.specs.declared.editions.EditionsRefusal.the-variants.{Old}
 use Rattle.planning.specs.declared.editions.Editions.{Editions}
 use Rattle.planning.specs.declared.editions.Editions.the-variants as editions
 use Rattle.planning.specs.Plans.{Boxes, bothAfter, editionsOf, areBoth, BothRead}
-use Rattle.planning.specs.Steps.{Kept}
+use Rattle.planning.specs.Steps.{BoxesKept}
 use Rattle.planning.proofs.BoxLaws.{four}
 use Rattle.listing_text.specs.Limited.{limitedOf, limitedBoth, BothLimited}
 
 module _ {c : Conventions} {limit : ℕ} {old new : List ℕ} where
-  pub old-long : {boxes boxes′ : Boxes} → limit < length old → Kept false boxes boxes′
+  pub old-long : {boxes boxes′ : Boxes} → limit < length old → BoxesKept false boxes boxes′
       → BothLimited c limit old new boxes boxes′ (editions.Refused (Old (Overlong (length old))))
   unfolding limitedBoth limitedOf
   old-long h k = record {
@@ -31,7 +31,7 @@ module _ {c : Conventions} {limit : ℕ} {old new : List ℕ} where
 
   -- The old edition is read, and all words are set to 0.
   pub new-long : {oc oe oc₁ oe₁ nc ne : List ℕ} {boxes′ : Boxes} {r s : Reading} → length old ≤ limit → limit < length new
-      → IsRead c old oc oe r oc₁ oe₁ → length oc₁ ≡ length oc → length oe₁ ≡ length oe → Kept false (four oc₁ oe₁ nc ne) boxes′ → r ≡ s
+      → IsRead c old oc oe r oc₁ oe₁ → length oc₁ ≡ length oc → length oe₁ ≡ length oe → BoxesKept false (four oc₁ oe₁ nc ne) boxes′ → r ≡ s
       → BothLimited c limit old new (four oc oe nc ne) boxes′ (bothAfter s (reading.Refused (Overlong (length new))))
   unfolding limitedBoth limitedOf
   new-long {s = s} h l i lc le k e = record {

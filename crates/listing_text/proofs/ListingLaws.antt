@@ -10,7 +10,7 @@ use lib.Seq.{length-sets}
 use borrow.Author.Tests.{ltb-false, lt-ltb, le-ltb}
 use Rattle.tables.specs.declared.letters.Conventions.{Conventions}
 use Rattle.tables.specs.declared.page.Written.{Written}
-use Rattle.tables.specs.Page.{Put, Wrote, Finished}
+use Rattle.tables.specs.Page.{Put, Wrote, PageEnded}
 use Rattle.tables.proofs.Laws.{by-cases, clash}
 use Rattle.tables.proofs.PageLaws.{ToPut, to-put, putting, put-all, finished}
 use Rattle.reader.specs.declared.edition.ReadRefusal.{ReadRefusal}
@@ -30,16 +30,16 @@ use Rattle.planning.specs.declared.editions.Editions.{Editions}
 use Rattle.planning.specs.declared.editions.Editions.the-variants.{Both}
 use Rattle.planning.specs.declared.editions.Editions.the-variants as editions
 use Rattle.planning.specs.declared.plan.Totals.{Totals}
-use Rattle.planning.specs.declared.plan.Planned.{Planned}
-use Rattle.planning.specs.declared.plan.Planned.the-variants.{Listed}
-use Rattle.planning.specs.declared.plan.Planned.the-variants as planned
+use Rattle.planning.specs.declared.plan.Planning.{Planning}
+use Rattle.planning.specs.declared.plan.Planning.the-variants.{Planned}
+use Rattle.planning.specs.declared.plan.Planning.the-variants as planning
 use Rattle.planning.specs.Cards.{cardsIn, cardHere}
-use Rattle.planning.specs.States.{Judged, judged, stateOf}
+use Rattle.planning.specs.States.{BoardPlan, boardPlans, stateOf}
 use Rattle.planning.specs.Slips.{slipsOf, countOf, totalsOf}
-use Rattle.planning.specs.Plans.{Boxes, bothAfter, editionsOf, areBoth, boardsOf, listedBy, plannedBy, isListed, BoxesAfter, BothRead}
-use Rattle.planning.specs.Steps.{Kept, PlanFinished}
+use Rattle.planning.specs.Plans.{Boxes, bothAfter, editionsOf, areBoth, plansOf, slipsAnswer, plannedBy, isPlanned, BoxesAfter, BothRead}
+use Rattle.planning.specs.Steps.{BoxesKept, PlanEnded}
 use Rattle.listing_text.specs.Limited.{limitedOf, limitedBoth, BothLimited}
-use Rattle.listing_text.specs.Listing.{boardLine, boardLines, totalLine, refusedLine, listText, Countable, listedOf, wellOn, PageKept, BoardsListed, ListedAs, IsListing}
+use Rattle.listing_text.specs.Listing.{boardLine, listingLines, totalLine, refusedLine, listText, Countable, listingPlan, wellOn, PageKept, BoardsOnPage, ListingFor, IsListing}
 use Rattle.planning.proofs.BothLaws.{CardsThere, both-are-taken, taken-short}
 use Rattle.planning.proofs.BoardLaws.{boardsLeft, left-first, left-step, left-none, boards-count}
 use Rattle.planning.proofs.PlanLaws.{count-few}
@@ -99,14 +99,14 @@ module _ {c : Conventions} {limit : ℕ} {old new : List ℕ} {boxes boxes′ : 
 pub record Lines (os : List (List ℕ)) (n : ℕ) (box page₀ page : List ℕ) (at k : ℕ) : Type 0 where
   pub inside : k ≤ n
   pub low : at ≤ 60 * k
-  pub left : ToPut page₀ 0 (boardLines (judged os (cardsIn n box))) page at (boardLines (boardsLeft os (cardsIn n box) k n box))
+  pub left : ToPut page₀ 0 (listingLines (boardPlans os (cardsIn n box))) page at (listingLines (boardsLeft os (cardsIn n box) k n box))
 
 pub lines-first : (os : List (List ℕ)) (n : ℕ) (box page : List ℕ) → Lines os n box page page 0 0
 lines-first os n box page =
     record {
       inside = omega arith;
       low = omega arith;
-      left = subst (λ (js : List Judged). ToPut page 0 (boardLines (judged os (cardsIn n box))) page 0 (boardLines js)) (left-first os n box) (to-put page 0 (boardLines (judged os (cardsIn n box))));
+      left = subst (λ (js : List BoardPlan). ToPut page 0 (listingLines (boardPlans os (cardsIn n box))) page 0 (listingLines js)) (left-first os n box) (to-put page 0 (listingLines (boardPlans os (cardsIn n box))));
     }
 
 module _ {os : List (List ℕ)} {n : ℕ} {box page₀ page : List ℕ} {at k : ℕ} (i : Lines os n box page₀ page at k) where
@@ -114,10 +114,10 @@ module _ {os : List (List ℕ)} {n : ℕ} {box page₀ page : List ℕ} {at k : 
       → Put page at (boardLine p s) page′ at′ → at′ ≤ at + 60 → Lines os n box page₀ page′ at′ (k + 1)
   lines-next {p} {s} {page′} {at′} h ep es w hl =
       let ns = cardsIn n box in
-      let all = boardLines (judged os ns) in
-      let rest = boardLines (boardsLeft os ns (k + 1) n box) in
+      let all = listingLines (boardPlans os ns) in
+      let rest = listingLines (boardsLeft os ns (k + 1) n box) in
       let here = boardLine (k + 1) (stateOf os ns (cardsIn k box) (cardHere k box)) in
-      let l : ToPut page₀ 0 all page at (here ++ rest) = subst (λ (js : List Judged). ToPut page₀ 0 all page at (boardLines js)) (left-step os ns k n box h) (i .left) in
+      let l : ToPut page₀ 0 all page at (here ++ rest) = subst (λ (js : List BoardPlan). ToPut page₀ 0 all page at (listingLines js)) (left-step os ns k n box h) (i .left) in
       let w′ : Put page at here page′ at′ = rw (ep, es) at w in
       record {
         inside = omega arith;
@@ -125,17 +125,17 @@ module _ {os : List (List ℕ)} {n : ℕ} {box page₀ page : List ℕ} {at k : 
         left = putting here rest l w′;
       }
 
-  pub lines-end : n ≤ k → Put page₀ 0 (boardLines (judged os (cardsIn n box))) page at × (at ≤ 60 * n)
+  pub lines-end : n ≤ k → Put page₀ 0 (listingLines (boardPlans os (cardsIn n box))) page at × (at ≤ 60 * n)
   lines-end h =
       let ns = cardsIn n box in
-      let all = boardLines (judged os ns) in (
-        put-all (subst (λ (js : List Judged). ToPut page₀ 0 all page at (boardLines js)) (left-none os ns k n box h) (i .left)),
+      let all = listingLines (boardPlans os ns) in (
+        put-all (subst (λ (js : List BoardPlan). ToPut page₀ 0 all page at (listingLines js)) (left-none os ns k n box h) (i .left)),
         omega (arith, i .low, i .inside),
       )
 
 -- ---- totals fit 32 bits
 
-totals-low : (js : List Judged) → length js ≤ 16777215 → Countable (totalsOf js)
+totals-low : (js : List BoardPlan) → length js ≤ 16777215 → Countable (totalsOf js)
 unfolding totalsOf
 totals-low js h = record {
   boards-low = omega arith;
@@ -147,77 +147,77 @@ totals-low js h = record {
   solve-low = omega (arith, count-few 5 js);
 }
 
-abbrev totals-in : Planned → Totals → Totals
-totals-in (Listed t) d = t
-totals-in (planned.Refused f) d = d
+abbrev totals-in : Planning → Totals → Totals
+totals-in (Planned t) d = t
+totals-in (planning.Refused f) d = d
 
 -- The totals listed are those of the boards.
-listed-totals : (l : ℕ) {t u : Totals} → Listed u ≡ listedBy l t → u ≡ t
+listed-totals : (l : ℕ) {t u : Totals} → Planned u ≡ slipsAnswer l t → u ≡ t
 listed-totals l {t} {u} h =
     by-cases (ltb l (t .solve))
-    (λ e. clash (sym (ap isListed (rw e at h))))
-    (λ e. ap (λ (p : Planned). totals-in p t) (rw e at h))
+    (λ e. clash (sym (ap isPlanned (rw e at h))))
+    (λ e. ap (λ (p : Planning). totals-in p t) (rw e at h))
 
-pub listed-low : (os : List (List ℕ)) (n : ℕ) (box : List ℕ) {boxes : Boxes} {slips : List ℕ} {boxes′ : Boxes} {slips′ : List ℕ} {t u : Totals} {q : Planned} → t ≡ totalsOf (judged os (cardsIn n box)) → n ≤ 16777215
-    → PlanFinished boxes slips t q boxes′ slips′ → q ≡ Listed u → Countable u
+pub listed-low : (os : List (List ℕ)) (n : ℕ) (box : List ℕ) {boxes : Boxes} {slips : List ℕ} {boxes′ : Boxes} {slips′ : List ℕ} {t u : Totals} {q : Planning} → t ≡ totalsOf (boardPlans os (cardsIn n box)) → n ≤ 16777215
+    → PlanEnded boxes slips t q boxes′ slips′ → q ≡ Planned u → Countable u
 listed-low os n box {slips = slips} {t = t} {u = u} et h p e =
-    let js = judged os (cardsIn n box) in
+    let js = boardPlans os (cardsIn n box) in
     let eu : u ≡ totalsOf js = listed-totals (length slips / 5) (sym e ∙ p .answer) ∙ et in
     subst⁻¹ Countable eu (totals-low js (rw (boards-count os n box) h))
 
 -- ---- the end
 
 -- What the answer of the plan is called does not matter.
-listed-as : {js : List Judged} {boxes : Boxes} {slips page : List ℕ} {boxes′ : Boxes} {slips′ page′ : List ℕ} {r : Written} (q : Planned) → q ≡ listedBy (length slips / 5) (totalsOf js)
-    → Wrote (listText q js) page page′ r → Kept (wellOn q js (length page)) boxes boxes′ → slips′ ≡ cond (wellOn q js (length page)) (putAll 5 slips 0 (slipsOf js)) (zeros slips)
-    → BoardsListed js boxes slips page boxes′ slips′ page′ r
+listed-as : {js : List BoardPlan} {boxes : Boxes} {slips page : List ℕ} {boxes′ : Boxes} {slips′ page′ : List ℕ} {r : Written} (q : Planning) → q ≡ slipsAnswer (length slips / 5) (totalsOf js)
+    → Wrote (listText q js) page page′ r → BoxesKept (wellOn q js (length page)) boxes boxes′ → slips′ ≡ cond (wellOn q js (length page)) (putAll 5 slips 0 (slipsOf js)) (zeros slips)
+    → BoardsOnPage js boxes slips page boxes′ slips′ page′ r
 listed-as {js} {boxes} {slips} {page} {boxes′} {slips′} {page′} {r} q e w k s = record {
-  wrote = subst (λ (p : Planned). Wrote (listText p js) page page′ r) e w;
-  boxes-after = subst (λ (p : Planned). Kept (wellOn p js (length page)) boxes boxes′) e k;
-  slips-after = subst (λ (p : Planned). slips′ ≡ cond (wellOn p js (length page)) (putAll 5 slips 0 (slipsOf js)) (zeros slips)) e s;
+  wrote = subst (λ (p : Planning). Wrote (listText p js) page page′ r) e w;
+  boxes-after = subst (λ (p : Planning). BoxesKept (wellOn p js (length page)) boxes boxes′) e k;
+  slips-after = subst (λ (p : Planning). slips′ ≡ cond (wellOn p js (length page)) (putAll 5 slips 0 (slipsOf js)) (zeros slips)) e s;
 }
 
-module _ (js : List Judged) (slips : List ℕ) {boxes : Boxes} {ps : List ℕ} {boxes′ : Boxes} {slips′ : List ℕ} {t : Totals} {q : Planned}
-    (f : (t ≡ totalsOf js) × (ps ≡ putAll 5 slips 0 (slipsOf js))) (el : length ps ≡ length slips) (p : PlanFinished boxes ps t q boxes′ slips′) where
-  answer-is : q ≡ listedBy (length slips / 5) (totalsOf js)
-  answer-is = p .answer ∙ ap (λ (k : ℕ). listedBy (k / 5) t) el ∙ ap (listedBy (length slips / 5)) (f .0)
+module _ (js : List BoardPlan) (slips : List ℕ) {boxes : Boxes} {ps : List ℕ} {boxes′ : Boxes} {slips′ : List ℕ} {t : Totals} {q : Planning}
+    (f : (t ≡ totalsOf js) × (ps ≡ putAll 5 slips 0 (slipsOf js))) (el : length ps ≡ length slips) (p : PlanEnded boxes ps t q boxes′ slips′) where
+  answer-is : q ≡ slipsAnswer (length slips / 5) (totalsOf js)
+  answer-is = p .answer ∙ ap (λ (k : ℕ). slipsAnswer (k / 5) t) el ∙ ap (slipsAnswer (length slips / 5)) (f .0)
 
   -- The plan is refused.
-  pub boards-refused : {g : PlanRefusal} {page page′ : List ℕ} {r : Written} → q ≡ planned.Refused g → Wrote (refusedLine g) page page′ r
-      → BoardsListed js boxes slips page boxes′ slips′ page′ r
+  pub boards-refused : {g : PlanRefusal} {page page′ : List ℕ} {r : Written} → q ≡ planning.Refused g → Wrote (refusedLine g) page page′ r
+      → BoardsOnPage js boxes slips page boxes′ slips′ page′ r
   unfolding wellOn
   boards-refused {g} e w =
       listed-as
-      (planned.Refused g)
+      (planning.Refused g)
       (sym e ∙ answer-is)
       w
-      (subst (λ (x : Planned). Kept (isListed x) boxes boxes′) e (p .boxes-after))
-      (subst (λ (x : Planned). slips′ ≡ cond (isListed x) ps (zeros ps)) e (p .slips-after) ∙ rw el)
+      (subst (λ (x : Planning). BoxesKept (isPlanned x) boxes boxes′) e (p .boxes-after))
+      (subst (λ (x : Planning). slips′ ≡ cond (isPlanned x) ps (zeros ps)) e (p .slips-after) ∙ rw el)
 
   -- It is listed, and the lent words are kept.
-  listed-boxes : {u : Totals} → q ≡ Listed u → Kept true boxes boxes′ × (slips′ ≡ ps)
+  listed-boxes : {u : Totals} → q ≡ Planned u → BoxesKept true boxes boxes′ × (slips′ ≡ ps)
   listed-boxes e = (
-    subst (λ (x : Planned). Kept (isListed x) boxes boxes′) e (p .boxes-after),
-    subst (λ (x : Planned). slips′ ≡ cond (isListed x) ps (zeros ps)) e (p .slips-after),
+    subst (λ (x : Planning). BoxesKept (isPlanned x) boxes boxes′) e (p .boxes-after),
+    subst (λ (x : Planning). slips′ ≡ cond (isPlanned x) ps (zeros ps)) e (p .slips-after),
   )
 
-  pub boards-listed : (a b : ℕ) {u : Totals} {boxes″ : Boxes} {slips″ page page₁ page′ : List ℕ} {n : ℕ} {r : Written} → js ≡ judged (cardsIn a (boxes .old-cards)) (cardsIn b (boxes .new-cards)) → q ≡ Listed u
-      → Put page 0 (boardLines (judged (cardsIn a (boxes′ .old-cards)) (cardsIn b (boxes′ .new-cards))) ++ totalLine u) page₁ n
+  pub boards-listed : (a b : ℕ) {u : Totals} {boxes″ : Boxes} {slips″ page page₁ page′ : List ℕ} {n : ℕ} {r : Written} → js ≡ boardPlans (cardsIn a (boxes .old-cards)) (cardsIn b (boxes .new-cards)) → q ≡ Planned u
+      → Put page 0 (listingLines (boardPlans (cardsIn a (boxes′ .old-cards)) (cardsIn b (boxes′ .new-cards))) ++ totalLine u) page₁ n
       → PageKept n boxes′ slips′ page₁ boxes″ slips″ page′ r
-      → BoardsListed js boxes slips page boxes″ slips″ page′ r
+      → BoardsOnPage js boxes slips page boxes″ slips″ page′ r
   unfolding wellOn
   boards-listed a b {u} {boxes″} {slips″} {page} {page₁} {page′} {n} ej e w z =
       let k = listed-boxes e in
-      let same : judged (cardsIn a (boxes′ .old-cards)) (cardsIn b (boxes′ .new-cards)) ≡ js = rw (k .0 .old-cards, k .0 .new-cards) (sym ej) in
-      let text = boardLines js ++ totalLine u in
+      let same : boardPlans (cardsIn a (boxes′ .old-cards)) (cardsIn b (boxes′ .new-cards)) ≡ js = rw (k .0 .old-cards, k .0 .new-cards) (sym ej) in
+      let text = listingLines js ++ totalLine u in
       let w′ : Put page 0 text page₁ n = rw same at w in
       let en : n ≡ length text = omega (arith, w′ .next) in
       let ep : length page₁ ≡ length page = rw (w′ .after, length-sets) in
       let fit : leb n (length page₁) ≡ leb (length text) (length page) = rw (en, ep) in
-      let z′ : Kept (leb (length text) (length page)) boxes′ boxes″ = subst (λ (x : Bool). Kept x boxes′ boxes″) fit (z .boxes-after) in
+      let z′ : BoxesKept (leb (length text) (length page)) boxes′ boxes″ = subst (λ (x : Bool). BoxesKept x boxes′ boxes″) fit (z .boxes-after) in
       let well = leb (length text) (length page) in
       listed-as
-      (Listed u)
+      (Planned u)
       (sym e ∙ answer-is)
       (finished w′ (z .end))
       record {
@@ -234,10 +234,10 @@ module _ (js : List Judged) (slips : List ℕ) {boxes : Boxes} {ps : List ℕ} {
 
 -- ---- the whole
 
-well-listed : (p : Planned) (js : List Judged) (n : ℕ) → wellOn p js n ≡ true → isListed p ≡ true
+well-listed : (p : Planning) (js : List BoardPlan) (n : ℕ) → wellOn p js n ≡ true → isPlanned p ≡ true
 unfolding wellOn
-well-listed (Listed t) js n h = refl
-well-listed (planned.Refused f) js n h = clash h
+well-listed (Planned t) js n h = refl
+well-listed (planning.Refused f) js n h = clash h
 
 -- Blocks put into zeros, or zeros.
 slips-well : (b : Bool) (L : ℕ) {xs : List (List ℕ)} {w : List ℕ} → Blocks 5 xs → (b ≡ true → 5 * length xs ≤ L) → w ≡ cond b (putAll 5 (replicate L 0) 0 xs) (replicate L 0) → w ≡ lent b L xs
@@ -247,7 +247,7 @@ slips-well false L k h e = e
 module _ {c : Conventions} {limit : ℕ} {old new : List ℕ} {boxes boxes′ : Boxes} {slips zs page : List ℕ} {r : Editions} (b : BothLimited c limit old new boxes boxes′ r) (z : zs ≡ zeros slips) where
   pub list-refused : {f : EditionsRefusal} {page′ : List ℕ} {w : Written} → r ≡ editions.Refused f → Wrote (refusedLine (Edition f)) page page′ w
       → IsListing c limit old new boxes slips page boxes′ zs page′ w
-  unfolding listedOf wellOn
+  unfolding listingPlan wellOn
   list-refused {f} e p =
       let a : limitedBoth c limit old new boxes ≡ editions.Refused f = sym (b .answer) ∙ e in
       let well : areBoth r ≡ false = ap areBoth e in
@@ -258,29 +258,29 @@ module _ {c : Conventions} {limit : ℕ} {old new : List ℕ} {boxes boxes′ : 
       }
 
   pub list-both : {m n : ℕ} {boxes″ : Boxes} {slips″ page′ : List ℕ} {w : Written} → r ≡ Both m n → SameRoom boxes boxes′
-      → BoardsListed (judged (cardsIn m (boxes′ .old-cards)) (cardsIn n (boxes′ .new-cards))) boxes′ zs page boxes″ slips″ page′ w
+      → BoardsOnPage (boardPlans (cardsIn m (boxes′ .old-cards)) (cardsIn n (boxes′ .new-cards))) boxes′ zs page boxes″ slips″ page′ w
       → IsListing c limit old new boxes slips page boxes″ slips″ page′ w
-  unfolding listedOf
+  unfolding listingPlan
   list-both {m} {n} {boxes″} {slips″} {page′} {w} e room g =
       let ls = length slips in
-      let js = boardsOf c old new in
+      let js = plansOf c old new in
       let t = totalsOf js in
       let a : limitedBoth c limit old new boxes ≡ Both m n = sym (b .answer) ∙ e in
-      let same : judged (cardsIn m (boxes′ .old-cards)) (cardsIn n (boxes′ .new-cards)) ≡ js = boards-are (limited-both b e) e in
+      let same : boardPlans (cardsIn m (boxes′ .old-cards)) (cardsIn n (boxes′ .new-cards)) ≡ js = boards-are (limited-both b e) e in
       let lz : length zs ≡ ls = ap length z ∙ length-replicate ls 0 in
-      let g′ : BoardsListed js boxes′ zs page boxes″ slips″ page′ w = subst (λ (x : List Judged). BoardsListed x boxes′ zs page boxes″ slips″ page′ w) same g in
-      let q = listedBy (ls / 5) t in
+      let g′ : BoardsOnPage js boxes′ zs page boxes″ slips″ page′ w = subst (λ (x : List BoardPlan). BoardsOnPage x boxes′ zs page boxes″ slips″ page′ w) same g in
+      let q = slipsAnswer (ls / 5) t in
       let well = wellOn q js (length page) in
       let full : BoxesAfter c true old new boxes boxes′ = subst (λ (x : Editions). BoxesAfter c (areBoth x) old new boxes boxes′) e (b .boxes-after) in
-      let ks : Kept well boxes′ boxes″ = subst (λ (k : ℕ). Kept (wellOn (listedBy (k / 5) t) js (length page)) boxes′ boxes″) lz (g′ .boxes-after) in
+      let ks : BoxesKept well boxes′ boxes″ = subst (λ (k : ℕ). BoxesKept (wellOn (slipsAnswer (k / 5) t) js (length page)) boxes′ boxes″) lz (g′ .boxes-after) in
       let es : t .solve ≡ length (slipsOf js) = solve-sum js ∙ sym (slips-count js) in
-      let sl : slips″ ≡ cond well (putAll 5 zs 0 (slipsOf js)) (zeros zs) = subst (λ (k : ℕ). slips″ ≡ cond (wellOn (listedBy (k / 5) t) js (length page)) (putAll 5 zs 0 (slipsOf js)) (zeros zs)) lz (g′ .slips-after) in
+      let sl : slips″ ≡ cond well (putAll 5 zs 0 (slipsOf js)) (zeros zs) = subst (λ (k : ℕ). slips″ ≡ cond (wellOn (slipsAnswer (k / 5) t) js (length page)) (putAll 5 zs 0 (slipsOf js)) (zeros zs)) lz (g′ .slips-after) in
       let sl′ : slips″ ≡ cond well (putAll 5 (replicate ls 0) 0 (slipsOf js)) (replicate ls 0) = sl ∙ rw (lz, z) in
       let h : well ≡ true → 5 * length (slipsOf js) ≤ ls = λ x. omega (arith, listed-fits ls t (well-listed q js (length page) x), es) in
-      let whole : ListedAs c q old new boxes slips page boxes″ slips″ page′ w =
+      let whole : ListingFor c q old new boxes slips page boxes″ slips″ page′ w =
       record {
-        wrote = subst (λ (k : ℕ). Wrote (listText (listedBy (k / 5) t) js) page page′ w) lz (g′ .wrote);
+        wrote = subst (λ (k : ℕ). Wrote (listText (slipsAnswer (k / 5) t) js) page page′ w) lz (g′ .wrote);
         boxes-after = boxes-kept well full room ks;
         slips-after = slips-well well ls (slips-five js) h sl′;
       } in
-      subst⁻¹ (λ (x : Editions). ListedAs c (plannedBy x (ls / 5) t) old new boxes slips page boxes″ slips″ page′ w) a whole
+      subst⁻¹ (λ (x : Editions). ListingFor c (plannedBy x (ls / 5) t) old new boxes slips page boxes″ slips″ page′ w) a whole

@@ -29,16 +29,16 @@ use Rattle.planning.specs.declared.editions.Editions.{Editions}
 use Rattle.planning.specs.declared.editions.Editions.the-variants.{Both}
 use Rattle.planning.specs.declared.editions.Editions.the-variants as editions
 use Rattle.planning.specs.declared.plan.Totals.{Totals}
-use Rattle.planning.specs.declared.plan.Planned.{Planned}
-use Rattle.planning.specs.declared.plan.Planned.the-variants.{Listed}
-use Rattle.planning.specs.declared.plan.Planned.the-variants as planned
-use Rattle.planning.specs.States.{Judged, judged, fromOf}
+use Rattle.planning.specs.declared.plan.Planning.{Planning}
+use Rattle.planning.specs.declared.plan.Planning.the-variants.{Planned}
+use Rattle.planning.specs.declared.plan.Planning.the-variants as planning
+use Rattle.planning.specs.States.{BoardPlan, boardPlans, fromOf}
 use Rattle.planning.specs.Slips.{totalsOf}
-use Rattle.planning.specs.Plans.{planNumber, planEdition, Boxes, oldReading, bothAfter, areBoth, boardsOf, plannedBy, isListed, editionsOf, plannedOf}
+use Rattle.planning.specs.Plans.{planNumber, planEdition, Boxes, oldReading, bothAfter, areBoth, plansOf, plannedBy, isPlanned, editionsOf, planningOf}
 use Rattle.listing_text.specs.Limited.{limitedOf, limitedBoth}
-use Rattle.listing_text.specs.Listing.{pair, stateText, boardLine, boardLines, totalLine, refusedLine, listText, listedOf, slipsShort, PageEnough, PageNeverFull, SlipsEnough}
+use Rattle.listing_text.specs.Listing.{pair, stateText, boardLine, listingLines, totalLine, refusedLine, listText, listingPlan, slipsShort, PageEnough, PageNeverFull, SlipsEnough}
 use Rattle.planning.proofs.BoxLaws.{taken-fits}
-use Rattle.planning.proofs.BoardLaws.{judged-count}
+use Rattle.planning.proofs.BoardLaws.{plans-count}
 use Rattle.planning.proofs.PlanLaws.{count-few}
 use Rattle.planning.proofs.AnswerLaws.{solve-sum}
 use Rattle.listing_text.proofs.ListingLaws.{limited-taken}
@@ -119,16 +119,16 @@ refused-few f =
     le-trans h₄ (omega arith)
 
 -- THEOREM. The lines of boards have at most 60 bytes each.
-pub LinesFew : (js : List Judged) → length (boardLines js) ≤ 60 * length js
+pub LinesFew : (js : List BoardPlan) → length (listingLines js) ≤ 60 * length js
 LinesFew [] = omega arith
-LinesFew (j ∷ js) = omega (arith, few (boardLine (j .position) (j .state)) (boardLines js) 60 (60 * length js) (board-few (j .position) (j .state)) (LinesFew js))
+LinesFew (j ∷ js) = omega (arith, few (boardLine (j .position) (j .state)) (listingLines js) 60 (60 * length js) (board-few (j .position) (j .state)) (LinesFew js))
 
 -- THEOREM. The text of at most n boards, or of a refusal, has at most 60 n + 200 bytes.
-pub TextFew : (p : Planned) (js : List Judged) (n : ℕ) → (isListed p ≡ true → length js ≤ n) → length (listText p js) ≤ 60 * n + 200
-TextFew (Listed t) js n h =
+pub TextFew : (p : Planning) (js : List BoardPlan) (n : ℕ) → (isPlanned p ≡ true → length js ≤ n) → length (listText p js) ≤ 60 * n + 200
+TextFew (Planned t) js n h =
     let k = h refl in
-    omega (arith, k, few (boardLines js) (totalLine t) (60 * length js) 200 (LinesFew js) (total-few t))
-TextFew (planned.Refused f) js n h = omega (arith, refused-few f)
+    omega (arith, k, few (listingLines js) (totalLine t) (60 * length js) 200 (LinesFew js) (total-few t))
+TextFew (planning.Refused f) js n h = omega (arith, refused-few f)
 
 -- ---- what a taken edition is
 
@@ -142,41 +142,41 @@ taken-few c text lc le h = go (readingOf c text lc le) refl h
 limited-few : (c : Conventions) (limit : ℕ) (text : List ℕ) (lc le : ℕ) → isTaken (limitedOf c limit text lc le) ≡ true → 64 * length (cardsOf c text) ≤ lc
 limited-few c limit text lc le h = taken-few c text lc le (sym (ap isTaken (limited-taken c limit text lc le h)) ∙ h)
 
-planned-both : (e : Editions) (l : ℕ) (t : Totals) → isListed (plannedBy e l t) ≡ true → areBoth e ≡ true
+planned-both : (e : Editions) (l : ℕ) (t : Totals) → isPlanned (plannedBy e l t) ≡ true → areBoth e ≡ true
 planned-both (Both m n) l t h = refl
 planned-both (editions.Refused f) l t h = clash h
 
-boards-are-cards : (c : Conventions) (old new : List ℕ) → length (boardsOf c old new) ≡ length (cardsOf c new)
-unfolding judged
-boards-are-cards c old new = judged-count (cardsOf c old) (cardsOf c new) 1 [] (cardsOf c new)
+boards-are-cards : (c : Conventions) (old new : List ℕ) → length (plansOf c old new) ≡ length (cardsOf c new)
+unfolding boardPlans
+boards-are-cards c old new = plans-count (cardsOf c old) (cardsOf c new) 1 [] (cardsOf c new)
 
 -- ---- what the listing program lends
 
-boards-few : (c : Conventions) (limit : ℕ) (old new : List ℕ) (boxes : Boxes) (ls : ℕ) → length (boxes .new-cards) ≡ 8192 → isListed (listedOf c limit old new boxes ls) ≡ true
-    → length (boardsOf c old new) ≤ 128
-unfolding listedOf limitedBoth
+boards-few : (c : Conventions) (limit : ℕ) (old new : List ℕ) (boxes : Boxes) (ls : ℕ) → length (boxes .new-cards) ≡ 8192 → isPlanned (listingPlan c limit old new boxes ls) ≡ true
+    → length (plansOf c old new) ≤ 128
+unfolding listingPlan limitedBoth
 boards-few c limit old new boxes ls room h =
-    let b = planned-both (limitedBoth c limit old new boxes) (ls / 5) (totalsOf (boardsOf c old new)) h in
+    let b = planned-both (limitedBoth c limit old new boxes) (ls / 5) (totalsOf (plansOf c old new)) h in
     let t = both-are-taken (limitedOf c limit old (length (boxes .old-cards)) (length (boxes .old-entries))) (limitedOf c limit new (length (boxes .new-cards)) (length (boxes .new-entries))) b in
     omega (arith, boards-are-cards c old new, limited-few c limit new (length (boxes .new-cards)) (length (boxes .new-entries)) (t .1))
 
 pub page-enough : PageEnough
-page-enough c limit old new boxes ls room = omega (arith, TextFew (listedOf c limit old new boxes ls) (boardsOf c old new) 128 (boards-few c limit old new boxes ls room))
+page-enough c limit old new boxes ls room = omega (arith, TextFew (listingPlan c limit old new boxes ls) (plansOf c old new) 128 (boards-few c limit old new boxes ls room))
 
 pub page-never-full : PageNeverFull
 unfolding answerOf
-page-never-full c limit old new boxes ls room = rw (le-leb (length (listText (listedOf c limit old new boxes ls) (boardsOf c old new))) 8192 (page-enough c limit old new boxes ls room))
+page-never-full c limit old new boxes ls room = rw (le-leb (length (listText (listingPlan c limit old new boxes ls) (plansOf c old new))) 8192 (page-enough c limit old new boxes ls room))
 
 pub slips-enough : SlipsEnough
-unfolding listedOf limitedBoth
+unfolding listingPlan limitedBoth
 slips-enough c limit old new boxes room =
     go
     (limitedOf c limit old (length (boxes .old-cards)) (length (boxes .old-entries)))
     (limitedOf c limit new (length (boxes .new-cards)) (length (boxes .new-entries)))
     (λ h. omega (arith, limited-few c limit new (length (boxes .new-cards)) (length (boxes .new-entries)) h))
   where
-    js : List Judged
-    js = boardsOf c old new
+    js : List BoardPlan
+    js = plansOf c old new
 
     go : (r s : Reading) → (isTaken s ≡ true → 64 * length (cardsOf c new) ≤ 8192) → slipsShort (plannedBy (bothAfter r s) (640 / 5) (totalsOf js)) ≡ false
     go (Taken b e) (Taken d g) h =
@@ -190,21 +190,21 @@ slips-enough c limit old new boxes room =
 
 module _ (c : Conventions) (limit : ℕ) (old new : List ℕ) (boxes : Boxes) (ls : ℕ) where
   -- THEOREM. Where neither edition is longer than the limit, the answer is the plan's.
-  pub WithinLimit : length old ≤ limit → length new ≤ limit → listedOf c limit old new boxes ls ≡ plannedOf c old new boxes ls
-  unfolding listedOf limitedBoth limitedOf plannedOf editionsOf
+  pub WithinLimit : length old ≤ limit → length new ≤ limit → listingPlan c limit old new boxes ls ≡ planningOf c old new boxes ls
+  unfolding listingPlan limitedBoth limitedOf planningOf editionsOf
   WithinLimit h g = rw (le-ltb limit (length old) h, le-ltb limit (length new) g)
 
   -- THEOREM. An old edition longer than the limit is refused with its length, whatever the new one is.
-  pub OldOverlong : limit < length old → listedOf c limit old new boxes ls ≡ planned.Refused (Edition (OldRefused (Overlong (length old))))
-  unfolding listedOf limitedBoth limitedOf
+  pub OldOverlong : limit < length old → listingPlan c limit old new boxes ls ≡ planning.Refused (Edition (OldRefused (Overlong (length old))))
+  unfolding listingPlan limitedBoth limitedOf
   OldOverlong h = rw (lt-ltb limit (length old) h)
 
   -- THEOREM. Any other refusal of the old edition is told too, whatever the new one is.
-  pub OldFirst : {f : ReadRefusal} → length old ≤ limit → oldReading c old boxes ≡ reading.Refused f → listedOf c limit old new boxes ls ≡ planned.Refused (Edition (OldRefused f))
-  unfolding listedOf limitedBoth limitedOf
+  pub OldFirst : {f : ReadRefusal} → length old ≤ limit → oldReading c old boxes ≡ reading.Refused f → listingPlan c limit old new boxes ls ≡ planning.Refused (Edition (OldRefused f))
+  unfolding listingPlan limitedBoth limitedOf
   OldFirst h e = rw (le-ltb limit (length old) h, e)
 
   -- THEOREM. Where the old edition is taken, a new one longer than the limit is refused with its length.
-  pub NewOverlong : {b e : ℕ} → length old ≤ limit → oldReading c old boxes ≡ Taken b e → limit < length new → listedOf c limit old new boxes ls ≡ planned.Refused (Edition (NewRefused (Overlong (length new))))
-  unfolding listedOf limitedBoth limitedOf
+  pub NewOverlong : {b e : ℕ} → length old ≤ limit → oldReading c old boxes ≡ Taken b e → limit < length new → listingPlan c limit old new boxes ls ≡ planning.Refused (Edition (NewRefused (Overlong (length new))))
+  unfolding listingPlan limitedBoth limitedOf
   NewOverlong h e g = rw (le-ltb limit (length old) h, e, lt-ltb limit (length new) g)

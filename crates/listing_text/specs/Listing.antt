@@ -7,7 +7,7 @@ use lib.Dec.{eqb, leb}
 use lib.ListN.{length}
 use Rattle.tables.specs.Text.{ascii}
 use Rattle.tables.specs.Numbers.{decimal}
-use Rattle.tables.specs.Page.{answerOf, Wrote, Finished}
+use Rattle.tables.specs.Page.{answerOf, Wrote, PageEnded}
 use Rattle.tables.specs.declared.letters.Conventions.{Conventions}
 use Rattle.tables.specs.declared.page.Written.{Written}
 use Rattle.tables.specs.declared.page.Written.the-variants.{Bytes}
@@ -17,12 +17,12 @@ use Rattle.planning.specs.declared.state.BoardState.the-variants.{Blank, Own, O
 use Rattle.planning.specs.declared.plan.PlanRefusal.{PlanRefusal}
 use Rattle.planning.specs.declared.plan.PlanRefusal.the-variants as refusal
 use Rattle.planning.specs.declared.plan.Totals.{Totals}
-use Rattle.planning.specs.declared.plan.Planned.{Planned}
-use Rattle.planning.specs.declared.plan.Planned.the-variants.{Listed, Refused}
-use Rattle.planning.specs.States.{Judged, fromOf}
+use Rattle.planning.specs.declared.plan.Planning.{Planning}
+use Rattle.planning.specs.declared.plan.Planning.the-variants.{Planned, Refused}
+use Rattle.planning.specs.States.{BoardPlan, fromOf}
 use Rattle.planning.specs.Slips.{slipsOf, totalsOf}
-use Rattle.planning.specs.Plans.{planNumber, planEdition, Boxes, boardsOf, listedBy, plannedBy, isListed, BoxesAfter}
-use Rattle.planning.specs.Steps.{Kept}
+use Rattle.planning.specs.Plans.{planNumber, planEdition, Boxes, plansOf, slipsAnswer, plannedBy, isPlanned, BoxesAfter}
+use Rattle.planning.specs.Steps.{BoxesKept}
 use Rattle.listing_text.specs.Limited.{limitedBoth}
 
 -- A name and a number.
@@ -42,9 +42,9 @@ stateText Solve = ascii " state=solve"
 unfoldable pub boardLine : ℕ → BoardState → List ℕ
 boardLine p s = pair (ascii "board=") p ++ stateText s ++ pair (ascii " from=") (fromOf s) ++ (10 ∷ [])
 
-abbrev pub boardLines : List Judged → List ℕ
-boardLines [] = []
-boardLines (j ∷ js) = boardLine (j .position) (j .state) ++ boardLines js
+abbrev pub listingLines : List BoardPlan → List ℕ
+listingLines [] = []
+listingLines (j ∷ js) = boardLine (j .position) (j .state) ++ listingLines js
 
 -- The totals, and an LF (10).
 unfoldable pub totalLine : Totals → List ℕ
@@ -57,8 +57,8 @@ unfoldable pub refusedLine : PlanRefusal → List ℕ
 refusedLine f = pair (ascii "refused=") (planNumber f) ++ ascii " edition=" ++ cond (eqb (planEdition f) 1) (ascii "old") (ascii "new") ++ (10 ∷ [])
 
 -- The text of a plan's answer, js the boards of the new edition.
-abbrev pub listText : Planned → List Judged → List ℕ
-listText (Listed t) js = boardLines js ++ totalLine t
+abbrev pub listText : Planning → List BoardPlan → List ℕ
+listText (Planned t) js = listingLines js ++ totalLine t
 listText (Refused f) js = refusedLine f
 
 -- Totals that a listing can write: each has 32 bits.
@@ -74,43 +74,43 @@ pub record Countable (t : Totals) : Type 0 where
 -- ---- the plan with a limit
 
 -- The plan's answer with the limit.
-unfoldable pub listedOf : Conventions → ℕ → List ℕ → List ℕ → Boxes → ℕ → Planned
-listedOf c limit old new boxes ls = plannedBy (limitedBoth c limit old new boxes) (ls / 5) (totalsOf (boardsOf c old new))
+unfoldable pub listingPlan : Conventions → ℕ → List ℕ → List ℕ → Boxes → ℕ → Planning
+listingPlan c limit old new boxes ls = plannedBy (limitedBoth c limit old new boxes) (ls / 5) (totalsOf (plansOf c old new))
 
 -- ---- contracts
 
 -- All went well: the plan is listed, and its text fits a page of n bytes.
-unfoldable pub wellOn : Planned → List Judged → ℕ → Bool
-wellOn p js n = isListed p && leb (length (listText p js)) n
+unfoldable pub wellOn : Planning → List BoardPlan → ℕ → Bool
+wellOn p js n = isPlanned p && leb (length (listText p js)) n
 
 -- The end of a page on which n bytes were put, and the other lent words: as they were, or zeros where the bytes do not fit.
 pub record PageKept (n : ℕ) (boxes : Boxes) (slips page : List ℕ) (boxes′ : Boxes) (slips′ page′ : List ℕ) (r : Written) : Type 0 where
-  pub end : Finished n page page′ r
-  pub boxes-after : Kept (leb n (length page)) boxes boxes′
+  pub end : PageEnded n page page′ r
+  pub boxes-after : BoxesKept (leb n (length page)) boxes boxes′
   pub slips-after : slips′ ≡ cond (leb n (length page)) slips (zeros slips)
 
 -- The boards js, whose cards are lent, are listed: the page and its answer, and all lent words: as they were, or zeros after a refusal.
-pub record BoardsListed (js : List Judged) (boxes : Boxes) (slips page : List ℕ) (boxes′ : Boxes) (slips′ page′ : List ℕ) (r : Written) : Type 0 where
-  pub wrote : Wrote (listText (listedBy (length slips / 5) (totalsOf js)) js) page page′ r
-  pub boxes-after : Kept (wellOn (listedBy (length slips / 5) (totalsOf js)) js (length page)) boxes boxes′
-  pub slips-after : slips′ ≡ cond (wellOn (listedBy (length slips / 5) (totalsOf js)) js (length page)) (putAll 5 slips 0 (slipsOf js)) (zeros slips)
+pub record BoardsOnPage (js : List BoardPlan) (boxes : Boxes) (slips page : List ℕ) (boxes′ : Boxes) (slips′ page′ : List ℕ) (r : Written) : Type 0 where
+  pub wrote : Wrote (listText (slipsAnswer (length slips / 5) (totalsOf js)) js) page page′ r
+  pub boxes-after : BoxesKept (wellOn (slipsAnswer (length slips / 5) (totalsOf js)) js (length page)) boxes boxes′
+  pub slips-after : slips′ ≡ cond (wellOn (slipsAnswer (length slips / 5) (totalsOf js)) js (length page)) (putAll 5 slips 0 (slipsOf js)) (zeros slips)
 
 -- A listing on a page, p the plan's answer: the text, or refusal 7 with the bytes that it has; and every lent word, zero after any refusal.
-pub record ListedAs (c : Conventions) (p : Planned) (old new : List ℕ) (boxes : Boxes) (slips page : List ℕ) (boxes′ : Boxes) (slips′ page′ : List ℕ) (r : Written) : Type 0 where
-  pub wrote : Wrote (listText p (boardsOf c old new)) page page′ r
-  pub boxes-after : BoxesAfter c (wellOn p (boardsOf c old new) (length page)) old new boxes boxes′
-  pub slips-after : slips′ ≡ lent (wellOn p (boardsOf c old new) (length page)) (length slips) (slipsOf (boardsOf c old new))
+pub record ListingFor (c : Conventions) (p : Planning) (old new : List ℕ) (boxes : Boxes) (slips page : List ℕ) (boxes′ : Boxes) (slips′ page′ : List ℕ) (r : Written) : Type 0 where
+  pub wrote : Wrote (listText p (plansOf c old new)) page page′ r
+  pub boxes-after : BoxesAfter c (wellOn p (plansOf c old new) (length page)) old new boxes boxes′
+  pub slips-after : slips′ ≡ lent (wellOn p (plansOf c old new) (length page)) (length slips) (slipsOf (plansOf c old new))
 
 -- The contract of list.
 abbrev pub IsListing : Conventions → ℕ → List ℕ → List ℕ → Boxes → List ℕ → List ℕ → Boxes → List ℕ → List ℕ → Written → Type 0
 IsListing c limit old new boxes slips page boxes′ slips′ page′ r =
-    ListedAs c (listedOf c limit old new boxes (length slips)) old new boxes slips page boxes′ slips′ page′ r
+    ListingFor c (listingPlan c limit old new boxes (length slips)) old new boxes slips page boxes′ slips′ page′ r
 
 -- ---- the listing program lends 128 cards an edition (8,192 words), 128 slips (640 numbers) and a page of 8,192 bytes
 
 -- Refused because fewer slips are lent than there are boards to solve.
-abbrev pub slipsShort : Planned → Bool
-slipsShort (Listed t) = false
+abbrev pub slipsShort : Planning → Bool
+slipsShort (Planned t) = false
 slipsShort (Refused (refusal.Edition f)) = false
 slipsShort (Refused (refusal.SlipsShort n)) = true
 
@@ -118,15 +118,15 @@ slipsShort (Refused (refusal.SlipsShort n)) = true
 abbrev pub PageEnough : Type 0
 PageEnough =
     (c : Conventions) (limit : ℕ) (old new : List ℕ) (boxes : Boxes) (ls : ℕ) → length (boxes .new-cards) ≡ 8192
-    → length (listText (listedOf c limit old new boxes ls) (boardsOf c old new)) ≤ 8192
+    → length (listText (listingPlan c limit old new boxes ls) (plansOf c old new)) ≤ 8192
 
 -- THEOREM (proofs/ListingTheorems.antt). So a page of 8,192 bytes is never too short: refusal 7 is never told.
 abbrev pub PageNeverFull : Type 0
 PageNeverFull =
     (c : Conventions) (limit : ℕ) (old new : List ℕ) (boxes : Boxes) (ls : ℕ) → length (boxes .new-cards) ≡ 8192
-    → answerOf (listText (listedOf c limit old new boxes ls) (boardsOf c old new)) 8192
-    ≡ Bytes (length (listText (listedOf c limit old new boxes ls) (boardsOf c old new)))
+    → answerOf (listText (listingPlan c limit old new boxes ls) (plansOf c old new)) 8192
+    ≡ Bytes (length (listText (listingPlan c limit old new boxes ls) (plansOf c old new)))
 
 -- THEOREM (proofs/ListingTheorems.antt). With 128 cards an edition and 128 slips, refusal 4 is never met.
 abbrev pub SlipsEnough : Type 0
-SlipsEnough = (c : Conventions) (limit : ℕ) (old new : List ℕ) (boxes : Boxes) → length (boxes .new-cards) ≡ 8192 → slipsShort (listedOf c limit old new boxes 640) ≡ false
+SlipsEnough = (c : Conventions) (limit : ℕ) (old new : List ℕ) (boxes : Boxes) → length (boxes .new-cards) ≡ 8192 → slipsShort (listingPlan c limit old new boxes 640) ≡ false

@@ -6,8 +6,8 @@ ghost use lib.ListN.{length};
 ghost use Rattle.tables.specs.Letters.{builtIn};
 ghost use Rattle.tables.specs.Page.{Put, Wrote};
 ghost use Rattle.planning.specs.Cards.{cardsIn};
-ghost use Rattle.planning.specs.States.{judged};
-ghost use Rattle.listing_text.specs.Listing.{boardLines, totalLine, refusedLine, Countable, PageKept, BoardsListed, IsListing};
+ghost use Rattle.planning.specs.States.{boardPlans};
+ghost use Rattle.listing_text.specs.Listing.{listingLines, totalLine, refusedLine, Countable, PageKept, BoardsOnPage, IsListing};
 use crate::limited::read_both_limited;
 use crate::lines::put_board;
 use crate::lines::put_refused;
@@ -15,10 +15,10 @@ use crate::lines::put_total;
 use planning::editions::Editions;
 use planning::numbers::zero_numbers;
 use planning::plan::PlanRefusal;
-use planning::plan::Planned;
+use planning::plan::Planning;
 use planning::plan::Totals;
 use planning::plan::finish_plan;
-use planning::plan::list_boards;
+use planning::plan::put_slips;
 use planning::plan::zero_boxes;
 use planning::state::state_of;
 use tables::letters::Conventions;
@@ -35,7 +35,7 @@ fn put_lines(
     news: usize,
 ) -> usize
     requires { ⌜ (64 * olds ≤ length (now «old_cards»)) × (64 * news ≤ length (now «new_cards»)) × (olds ≤ 16777215) × (news ≤ 16777215) ⌝ }
-    ensures { λ r. ⌜ Put (now (page .entry)) 0 (boardLines (judged (cardsIn olds (now («old_cards» .entry))) (cardsIn news (now («new_cards» .entry))))) (now (page .exit)) r × (r ≤ 60 * news) ⌝ }
+    ensures { λ r. ⌜ Put (now (page .entry)) 0 (listingLines (boardPlans (cardsIn olds (now («old_cards» .entry))) (cardsIn news (now («new_cards» .entry))))) (now (page .exit)) r × (r ≤ 60 * news) ⌝ }
 {
     let mut at = 0;
     let mut k = 0;
@@ -48,7 +48,7 @@ fn put_lines(
 }
 
 // Puts the line of every board, and that of the totals.
-fn put_listed(
+fn put_listing(
     page: &mut [u8],
     old_cards: &[u32],
     olds: usize,
@@ -57,7 +57,7 @@ fn put_listed(
     t: Totals,
 ) -> usize
     requires { ⌜ (64 * olds ≤ length (now «old_cards»)) × (64 * news ≤ length (now «new_cards»)) × (olds ≤ 16777215) × (news ≤ 16777215) × Countable t ⌝ }
-    ensures { λ r. ⌜ Put (now (page .entry)) 0 (boardLines (judged (cardsIn olds (now («old_cards» .entry))) (cardsIn news (now («new_cards» .entry)))) ++ totalLine t) (now (page .exit)) r ⌝ }
+    ensures { λ r. ⌜ Put (now (page .entry)) 0 (listingLines (boardPlans (cardsIn olds (now («old_cards» .entry))) (cardsIn news (now («new_cards» .entry)))) ++ totalLine t) (now (page .exit)) r ⌝ }
 {
     let at = put_lines(page, old_cards, olds, new_cards, news);
     put_total(page, at, t)
@@ -107,17 +107,17 @@ fn list_taken(
     page: &mut [u8],
 ) -> Written
     requires { ⌜ (64 * olds ≤ length (now «old_cards»)) × (64 * news ≤ length (now «new_cards»)) × (olds ≤ 16777215) × (news ≤ 16777215) ⌝ }
-    ensures { λ r. ⌜ BoardsListed (judged (cardsIn olds (now («old_cards» .entry))) (cardsIn news (now («new_cards» .entry))))
+    ensures { λ r. ⌜ BoardsOnPage (boardPlans (cardsIn olds (now («old_cards» .entry))) (cardsIn news (now («new_cards» .entry))))
         (record { old-cards = now («old_cards» .entry); old-entries = now («old_entries» .entry); new-cards = now («new_cards» .entry); new-entries = now («new_entries» .entry) })
         (now (slips .entry)) (now (page .entry))
         (record { old-cards = now («old_cards» .exit); old-entries = now («old_entries» .exit); new-cards = now («new_cards» .exit); new-entries = now («new_entries» .exit) })
         (now (slips .exit)) (now (page .exit)) r ⌝ }
 {
-    let t = list_boards(old_cards, olds, new_cards, news, slips);
+    let t = put_slips(old_cards, olds, new_cards, news, slips);
     match finish_plan(old_cards, old_entries, new_cards, new_entries, slips, t) {
-        Planned::Refused(f) => write_refused(page, f),
-        Planned::Listed(t) => {
-            let n = put_listed(page, old_cards, olds, new_cards, news, t);
+        Planning::Refused(f) => write_refused(page, f),
+        Planning::Planned(t) => {
+            let n = put_listing(page, old_cards, olds, new_cards, news, t);
             finish_listing(
                 old_cards,
                 old_entries,

@@ -22,14 +22,14 @@ use Rattle.planning.specs.declared.editions.Editions.{Editions}
 use Rattle.planning.specs.declared.editions.Editions.the-variants.{Both}
 use Rattle.planning.specs.declared.editions.Editions.the-variants as editions
 use Rattle.planning.specs.declared.plan.Totals.{Totals}
-use Rattle.planning.specs.declared.plan.Planned.{Planned}
-use Rattle.planning.specs.declared.plan.Planned.the-variants.{Listed}
-use Rattle.planning.specs.declared.plan.Planned.the-variants as planned
+use Rattle.planning.specs.declared.plan.Planning.{Planning}
+use Rattle.planning.specs.declared.plan.Planning.the-variants.{Planned}
+use Rattle.planning.specs.declared.plan.Planning.the-variants as planning
 use Rattle.planning.specs.Cards.{cardsIn}
-use Rattle.planning.specs.States.{Judged, judged, stateAt}
+use Rattle.planning.specs.States.{BoardPlan, boardPlans, stateAt}
 use Rattle.planning.specs.Slips.{slipsOf, countOf, totalsOf, behindAt, partOf, numbersFrom}
-use Rattle.planning.specs.Plans.{Boxes, editionsOf, areBoth, boardsOf, listedBy, plannedOf, isListed, BoxesAfter, BothRead, IsPlanned, behindBy, StateTold, BehindTold, PartTold, BoardsTold}
-use Rattle.planning.specs.Steps.{Kept, PlanFinished}
+use Rattle.planning.specs.Plans.{Boxes, editionsOf, areBoth, plansOf, slipsAnswer, planningOf, isPlanned, BoxesAfter, BothRead, IsPlanned, behindBy, StateTold, BehindTold, PartTold, BoardsTold}
+use Rattle.planning.specs.Steps.{BoxesKept, PlanEnded}
 use Rattle.planning.proofs.BothLaws.{CardsThere, both-cards}
 use Rattle.planning.proofs.SlipLaws.{slips-count, slips-five}
 
@@ -48,7 +48,7 @@ pub record SameRoom (boxes boxes′ : Boxes) : Type 0 where
   pub new-entries : length (boxes′ .new-entries) ≡ length (boxes .new-entries)
 
 -- Boxes that were filled, and then kept or set to 0.
-pub boxes-kept : (well : Bool) {c : Conventions} {old new : List ℕ} {boxes boxes′ boxes″ : Boxes} → BoxesAfter c true old new boxes boxes′ → SameRoom boxes boxes′ → Kept well boxes′ boxes″
+pub boxes-kept : (well : Bool) {c : Conventions} {old new : List ℕ} {boxes boxes′ boxes″ : Boxes} → BoxesAfter c true old new boxes boxes′ → SameRoom boxes boxes′ → BoxesKept well boxes′ boxes″
     → BoxesAfter c well old new boxes boxes″
 boxes-kept well {boxes = boxes} f s k =
     record {
@@ -59,14 +59,14 @@ boxes-kept well {boxes = boxes} f s k =
     }
 
 -- Where the answer is no refusal, the slips fit.
-pub listed-fits : (ls : ℕ) (t : Totals) → isListed (listedBy (ls / 5) t) ≡ true → 5 * t .solve ≤ ls
+pub listed-fits : (ls : ℕ) (t : Totals) → isPlanned (slipsAnswer (ls / 5) t) ≡ true → 5 * t .solve ≤ ls
 listed-fits ls t e = go (ltb (ls / 5) (t .solve)) refl e
   where
-    go : (f : Bool) → ltb (ls / 5) (t .solve) ≡ f → isListed (cond f (planned.Refused (SlipsShort (t .solve))) (Listed t)) ≡ true → 5 * t .solve ≤ ls
+    go : (f : Bool) → ltb (ls / 5) (t .solve) ≡ f → isPlanned (cond f (planning.Refused (SlipsShort (t .solve))) (Planned t)) ≡ true → 5 * t .solve ≤ ls
     go true ef h = clash h
     go false ef h = omega (arith, ltb-false (ls / 5) (t .solve) ef)
 
-pub solve-sum : (js : List Judged) → totalsOf js .solve ≡ countOf 5 js
+pub solve-sum : (js : List BoardPlan) → totalsOf js .solve ≡ countOf 5 js
 unfolding totalsOf
 solve-sum js = refl
 
@@ -81,31 +81,31 @@ module _ {c : Conventions} {old new : List ℕ} {boxes boxes′ : Boxes} {r : Ed
   pub there : {m n : ℕ} → r ≡ Both m n → CardsThere c old (boxes′ .old-cards) m × CardsThere c new (boxes′ .new-cards) n
   there e = both-cards (as-told e) (CardsWhole c old) (CardsWhole c new)
 
-  pub boards-are : {m n : ℕ} → r ≡ Both m n → judged (cardsIn m (boxes′ .old-cards)) (cardsIn n (boxes′ .new-cards)) ≡ boardsOf c old new
+  pub boards-are : {m n : ℕ} → r ≡ Both m n → boardPlans (cardsIn m (boxes′ .old-cards)) (cardsIn n (boxes′ .new-cards)) ≡ plansOf c old new
   boards-are e = rw (there e .0 .cards, there e .1 .cards)
 
-  pub state-told : {m n p : ℕ} {s : BoardState} → r ≡ Both m n → s ≡ stateAt (judged (cardsIn m (boxes′ .old-cards)) (cardsIn n (boxes′ .new-cards))) p → StateTold c old new boxes boxes′ p (Both m n) s
-  state-told {p = p} e f = record { editions-read = as-told e; state = f ∙ ap (λ (js : List Judged). stateAt js p) (boards-are e) }
+  pub state-told : {m n p : ℕ} {s : BoardState} → r ≡ Both m n → s ≡ stateAt (boardPlans (cardsIn m (boxes′ .old-cards)) (cardsIn n (boxes′ .new-cards))) p → StateTold c old new boxes boxes′ p (Both m n) s
+  state-told {p = p} e f = record { editions-read = as-told e; state = f ∙ ap (λ (js : List BoardPlan). stateAt js p) (boards-are e) }
 
   pub state-none : {p : ℕ} {f : EditionsRefusal} → r ≡ editions.Refused f → StateTold c old new boxes boxes′ p r Blank
   state-none e = record { editions-read = b; state = rw e }
 
-  pub behind-told : {m n p : ℕ} {s : Behind} → r ≡ Both m n → s ≡ behindAt (cardsIn m (boxes′ .old-cards)) (cardsIn n (boxes′ .new-cards)) (judged (cardsIn m (boxes′ .old-cards)) (cardsIn n (boxes′ .new-cards))) p → BehindTold c old new boxes boxes′ p (Both m n) s
+  pub behind-told : {m n p : ℕ} {s : Behind} → r ≡ Both m n → s ≡ behindAt (cardsIn m (boxes′ .old-cards)) (cardsIn n (boxes′ .new-cards)) (boardPlans (cardsIn m (boxes′ .old-cards)) (cardsIn n (boxes′ .new-cards))) p → BehindTold c old new boxes boxes′ p (Both m n) s
   behind-told e f = record { editions-read = as-told e; behind = f ∙ rw (there e .0 .cards, there e .1 .cards) }
 
   pub behind-none : {p : ℕ} {f : EditionsRefusal} → r ≡ editions.Refused f → BehindTold c old new boxes boxes′ p r Nothing
   behind-none e = record { editions-read = b; behind = rw e }
 
   pub boards-told : {m n : ℕ} {zs numbers numbers′ : List ℕ} → r ≡ Both m n → zs ≡ zeros numbers
-      → numbers′ ≡ putAll 5 zs 0 (numbersFrom (cardsIn m (boxes′ .old-cards)) (cardsIn n (boxes′ .new-cards)) (judged (cardsIn m (boxes′ .old-cards)) (cardsIn n (boxes′ .new-cards)))) → BoardsTold c old new boxes numbers boxes′ numbers′ (Both m n)
+      → numbers′ ≡ putAll 5 zs 0 (numbersFrom (cardsIn m (boxes′ .old-cards)) (cardsIn n (boxes′ .new-cards)) (boardPlans (cardsIn m (boxes′ .old-cards)) (cardsIn n (boxes′ .new-cards)))) → BoardsTold c old new boxes numbers boxes′ numbers′ (Both m n)
   boards-told e z f = record { editions-read = as-told e; numbers-after = f ∙ rw (z, there e .0 .cards, there e .1 .cards) }
 
   pub boards-none : {numbers numbers′ : List ℕ} {f : EditionsRefusal} → r ≡ editions.Refused f → numbers′ ≡ zeros numbers → BoardsTold c old new boxes numbers boxes′ numbers′ r
   boards-none e z = record { editions-read = b; numbers-after = rw e z }
 
   pub plan-refused : {f : EditionsRefusal} {slips slips′ : List ℕ} → r ≡ editions.Refused f → slips′ ≡ zeros slips
-      → IsPlanned c old new boxes slips boxes′ slips′ (planned.Refused (Edition f))
-  unfolding plannedOf
+      → IsPlanned c old new boxes slips boxes′ slips′ (planning.Refused (Edition f))
+  unfolding planningOf
   plan-refused {f} {slips} e z =
       let well : areBoth r ≡ false = ap areBoth e in
       let a : editionsOf c old new boxes ≡ editions.Refused f = sym (b .answer) ∙ e in
@@ -115,28 +115,28 @@ module _ {c : Conventions} {old new : List ℕ} {boxes boxes′ : Boxes} {r : Ed
         slips-after = z;
       }
 
-  pub plan-listed : {m n : ℕ} {slips zs ps : List ℕ} {t : Totals} {q : Planned} {boxes″ : Boxes} {slips″ : List ℕ} → r ≡ Both m n → SameRoom boxes boxes′
+  pub plan-listed : {m n : ℕ} {slips zs ps : List ℕ} {t : Totals} {q : Planning} {boxes″ : Boxes} {slips″ : List ℕ} → r ≡ Both m n → SameRoom boxes boxes′
       → zs ≡ zeros slips → length ps ≡ length zs
-      → (t ≡ totalsOf (judged (cardsIn m (boxes′ .old-cards)) (cardsIn n (boxes′ .new-cards)))) × (ps ≡ putAll 5 zs 0 (slipsOf (judged (cardsIn m (boxes′ .old-cards)) (cardsIn n (boxes′ .new-cards)))))
-      → PlanFinished boxes′ ps t q boxes″ slips″
+      → (t ≡ totalsOf (boardPlans (cardsIn m (boxes′ .old-cards)) (cardsIn n (boxes′ .new-cards)))) × (ps ≡ putAll 5 zs 0 (slipsOf (boardPlans (cardsIn m (boxes′ .old-cards)) (cardsIn n (boxes′ .new-cards)))))
+      → PlanEnded boxes′ ps t q boxes″ slips″
       → IsPlanned c old new boxes slips boxes″ slips″ q
-  unfolding plannedOf
+  unfolding planningOf
   plan-listed {m} {n} {slips} {zs} {ps} {t} {q} {boxes″} {slips″} e room z lp f g =
       let ls = length slips in
-      let js = boardsOf c old new in
-      let same : judged (cardsIn m (boxes′ .old-cards)) (cardsIn n (boxes′ .new-cards)) ≡ js = boards-are e in
+      let js = plansOf c old new in
+      let same : boardPlans (cardsIn m (boxes′ .old-cards)) (cardsIn n (boxes′ .new-cards)) ≡ js = boards-are e in
       let well : areBoth r ≡ true = ap areBoth e in
       let a : editionsOf c old new boxes ≡ Both m n = sym (b .answer) ∙ e in
       let et : t ≡ totalsOf js = f .0 ∙ ap totalsOf same in
       let el : length ps ≡ ls = lp ∙ ap length z ∙ length-replicate ls 0 in
-      let eq : q ≡ listedBy (ls / 5) t = g .answer ∙ ap (λ (k : ℕ). listedBy (k / 5) t) el in
+      let eq : q ≡ slipsAnswer (ls / 5) t = g .answer ∙ ap (λ (k : ℕ). slipsAnswer (k / 5) t) el in
       let es : t .solve ≡ length (slipsOf js) = ap (λ (x : Totals). x .solve) et ∙ solve-sum js ∙ sym (slips-count js) in
-      let ep : ps ≡ putAll 5 (replicate ls 0) 0 (slipsOf js) = f .1 ∙ ap (λ (x : List ℕ). putAll 5 x 0 (slipsOf (judged (cardsIn m (boxes′ .old-cards)) (cardsIn n (boxes′ .new-cards))))) z ∙ ap (λ (x : List Judged). putAll 5 (replicate ls 0) 0 (slipsOf x)) same in
+      let ep : ps ≡ putAll 5 (replicate ls 0) 0 (slipsOf js) = f .1 ∙ ap (λ (x : List ℕ). putAll 5 x 0 (slipsOf (boardPlans (cardsIn m (boxes′ .old-cards)) (cardsIn n (boxes′ .new-cards))))) z ∙ ap (λ (x : List BoardPlan). putAll 5 (replicate ls 0) 0 (slipsOf x)) same in
       let full : BoxesAfter c true old new boxes boxes′ = rw well at (b .boxes-after) in
       record {
-        answer = eq ∙ ap (listedBy (ls / 5)) et ∙ rw a;
-        boxes-after = boxes-kept (isListed q) full room (g .boxes-after);
-        slips-after = ended 5 ls (isListed q) (slips-five js) (λ h. omega (arith, listed-fits ls t (sym (ap isListed eq) ∙ h), es)) el ep (g .slips-after);
+        answer = eq ∙ ap (slipsAnswer (ls / 5)) et ∙ rw a;
+        boxes-after = boxes-kept (isPlanned q) full room (g .boxes-after);
+        slips-after = ended 5 ls (isPlanned q) (slips-five js) (λ h. omega (arith, listed-fits ls t (sym (ap isPlanned eq) ∙ h), es)) el ep (g .slips-after);
       }
 
 -- The record behind a board, as a part of a text.

@@ -14,7 +14,7 @@ use Rattle.reader.specs.declared.edition.Reading.the-variants.{Taken}
 use Rattle.reader.specs.declared.edition.Reading.the-variants as reading
 use Rattle.tables.proofs.Laws.{by-cases, clash}
 use Rattle.reader.specs.Store.{flat, padded, zeros}
-use Rattle.reader.specs.Editions.{Whole, readingOf, cardsOf, IsRead, isTaken}
+use Rattle.reader.specs.Editions.{FullCards, readingOf, cardsOf, IsRead, isTaken}
 use Rattle.planning.specs.declared.editions.EditionsRefusal.the-variants.{Old, New}
 use Rattle.planning.specs.declared.editions.Editions.{Editions}
 use Rattle.planning.specs.declared.editions.Editions.the-variants.{Both}
@@ -109,7 +109,7 @@ pub record CardsThere (c : Conventions) (text box : List ℕ) (n : ℕ) : Type 0
   pub room : 64 * n ≤ length box
   pub cards : cardsIn n box ≡ cardsOf c text
 
-cards-there : (c : Conventions) (text : List ℕ) (lc le n e : ℕ) (box : List ℕ) → Whole (cardsOf c text) → readingOf c text lc le ≡ Taken n e → box ≡ padded lc (flat (cardsOf c text))
+cards-there : (c : Conventions) (text : List ℕ) (lc le n e : ℕ) (box : List ℕ) → FullCards (cardsOf c text) → readingOf c text lc le ≡ Taken n e → box ≡ padded lc (flat (cardsOf c text))
     → CardsThere c text box n
 cards-there c text lc le n e box w t h =
     let f = taken-fits c text lc le n e t in
@@ -122,7 +122,7 @@ cards-there c text lc le n e box w t h =
 
 -- Whole (cardsOf c text), which holds of every text, is taken as given.
 pub both-cards : {c : Conventions} {old new : List ℕ} {boxes boxes′ : Boxes} {m n : ℕ} → BothRead c old new boxes boxes′ (Both m n)
-    → Whole (cardsOf c old) → Whole (cardsOf c new) → CardsThere c old (boxes′ .old-cards) m × CardsThere c new (boxes′ .new-cards) n
+    → FullCards (cardsOf c old) → FullCards (cardsOf c new) → CardsThere c old (boxes′ .old-cards) m × CardsThere c new (boxes′ .new-cards) n
 unfolding editionsOf
 both-cards {c} {old} {new} {boxes} {boxes′} {m} {n} b wo wn =
     let t = taken-both (oldReading c old boxes) (newReading c new boxes) m n (b .answer) in (

@@ -12,7 +12,7 @@ use Rattle.tables.proofs.Laws.{by-cases, clash}
 use Rattle.reader.specs.declared.edition.Reading.{Reading}
 use Rattle.reader.specs.declared.edition.Reading.the-variants.{Taken, Refused}
 use Rattle.reader.specs.Store.{flat, padded}
-use Rattle.reader.specs.Editions.{Whole, none, one, isTaken, verdict, readingOf, cardsOf, entriesOf}
+use Rattle.reader.specs.Editions.{FullCards, none, one, isTaken, countsAnswer, readingOf, cardsOf, entriesOf}
 use Rattle.planning.specs.Cards.{cardsIn, cardHere}
 use Rattle.planning.specs.Slips.{cardFrom}
 use Rattle.planning.specs.Plans.{Boxes}
@@ -77,12 +77,12 @@ cards-split (suc n) (suc k) box h =
 -- ---- cards that were stored
 
 -- Cards read back from the words that hold them.
-pub cards-front : {xs : List (List ℕ)} (rest : List ℕ) → Whole xs → cardsIn (length xs) (flat xs ++ rest) ≡ xs
+pub cards-front : {xs : List (List ℕ)} (rest : List ℕ) → FullCards xs → cardsIn (length xs) (flat xs ++ rest) ≡ xs
 cards-front rest none = refl
 cards-front rest (one {x} {xs} e w) =
     rw (append-assoc x (flat xs) rest, take-at x (flat xs ++ rest) 64 e, drop-at x (flat xs ++ rest) 64 e, cards-front rest w)
 
-pub cards-back : (xs : List (List ℕ)) (l : ℕ) → Whole xs → 64 * length xs ≤ l → cardsIn (length xs) (padded l (flat xs)) ≡ xs
+pub cards-back : (xs : List (List ℕ)) (l : ℕ) → FullCards xs → 64 * length xs ≤ l → cardsIn (length xs) (padded l (flat xs)) ≡ xs
 cards-back xs l w h = cards-front (replicate (l - length (flat xs)) 0) w
 
 -- ---- a taken edition fits
@@ -102,7 +102,7 @@ pub record TakenFits (boards entries lc le b e : ℕ) : Type 0 where
   pub cards-fit : 64 * boards ≤ lc
   pub entries-fit : 4 * entries ≤ le
 
-verdict-fits : (lc le boards entries b e : ℕ) → verdict lc le boards entries ≡ Taken b e → TakenFits boards entries lc le b e
+verdict-fits : (lc le boards entries b e : ℕ) → countsAnswer lc le boards entries ≡ Taken b e → TakenFits boards entries lc le b e
 verdict-fits lc le n m b e h =
     by-cases (ltb (lc / 64) n)
     (λ f. clash (ap isTaken (rw f at h)))

@@ -11,18 +11,18 @@ use Rattle.reader.specs.Plain.{plainOf}
 use Rattle.reader.specs.Records.{recordsOf}
 use Rattle.reader.proofs.PlainDeal.{PlainDealKept}
 use Rattle.reader.proofs.CardKept.{CardKept}
-use Rattle.planning.specs.Cards.{dealOf, handsOf, isWhole, hasTable}
+use Rattle.planning.specs.Cards.{cardDeal, handsOf, isWhole, hasTable}
 use Rattle.planning.specs.Demands.{Among}
 use Rattle.planning.proofs.FoundLaws.{among-cases}
 
 -- ---- one record
 
-deal-words : (c : Conventions) (a n : ℕ) (r : List ℕ) → dealOf (cardOf c a n r) ≡ plainOf c r .deal .words
-unfolding dealOf
+deal-words : (c : Conventions) (a n : ℕ) (r : List ℕ) → cardDeal (cardOf c a n r) ≡ plainOf c r .deal .words
+unfolding cardDeal
 deal-words c a n r = CardKept c a n r .words-10
 
 -- THEOREM. A board's deal and table do not move with its record.
-pub SameDeal : (c : Conventions) (a n a′ n′ : ℕ) (r : List ℕ) → dealOf (cardOf c a n r) ≡ dealOf (cardOf c a′ n′ r)
+pub SameDeal : (c : Conventions) (a n a′ n′ : ℕ) (r : List ℕ) → cardDeal (cardOf c a n r) ≡ cardDeal (cardOf c a′ n′ r)
 SameDeal c a n a′ n′ r = deal-words c a n r ∙ sym (deal-words c a′ n′ r)
 
 pub SameWhole : (c : Conventions) (a n a′ n′ : ℕ) (r : List ℕ) → isWhole (cardOf c a n r) ≡ isWhole (cardOf c a′ n′ r)
@@ -37,7 +37,7 @@ SameTable c a n a′ n′ r = rw (CardKept c a n r .word-38, CardKept c a′ n�
 
 -- The words of a card's deal are those of its hands.
 abbrev pub OfHands : List ℕ → Type 0
-OfHands x = handWords (handsOf x) ≡ dealOf x
+OfHands x = handWords (handsOf x) ≡ cardDeal x
 
 abbrev pub Handed : List (List ℕ) → Type 0
 Handed xs = (x : List ℕ) → Among x xs → OfHands x
@@ -54,5 +54,5 @@ unfolding cardsOf
 CardsHanded c text = cards-handed c 0 0 (recordsOf text)
 
 -- Then the same hands are the same words.
-pub hands-words : (x y : List ℕ) → OfHands x → OfHands y → handsOf x ≡ handsOf y → dealOf x ≡ dealOf y
+pub hands-words : (x y : List ℕ) → OfHands x → OfHands y → handsOf x ≡ handsOf y → cardDeal x ≡ cardDeal y
 hands-words x y g h e = sym g ∙ ap handWords e ∙ h

@@ -12,23 +12,23 @@ use Rattle.planning.specs.declared.state.BoardState.{BoardState}
 use Rattle.planning.specs.declared.slips.Slip.{Slip}
 use Rattle.planning.specs.declared.slips.NextSlip.{NextSlip}
 use Rattle.planning.specs.Cards.{cardsIn, cardHere}
-use Rattle.planning.specs.States.{Judged, judged, isSolve, stateNumber, stateOf}
+use Rattle.planning.specs.States.{BoardPlan, boardPlans, isSolve, stateNumber, stateOf}
 use Rattle.planning.specs.Slips.{slipOf, slipsOf, slipStruct, fiveOf, slipNumbers}
-use Rattle.planning.specs.Steps.{boardHere}
+use Rattle.planning.specs.Steps.{planHere}
 use Rattle.planning.specs.Fills.{noSlip, slipFrom, nextOf, filledFrom}
 use Rattle.planning.proofs.BoardLaws.{left-first, left-step, left-drop, boards-count}
 
 -- ---- the next slip
 
 left-at : (os : List (List ℕ)) (n i : ℕ) (box : List ℕ) → i < n
-    → drop i (judged os (cardsIn n box)) ≡ boardHere os (cardsIn n box) i box ∷ drop (i + 1) (judged os (cardsIn n box))
+    → drop i (boardPlans os (cardsIn n box)) ≡ planHere os (cardsIn n box) i box ∷ drop (i + 1) (boardPlans os (cardsIn n box))
 left-at os n i box h =
     let ns = cardsIn n box in
     ap (drop i) (left-first os n box) ∙ left-drop os ns i n box (omega arith) ∙ left-step os ns i n box h
-    ∙ ap (λ (js : List Judged). boardHere os ns i box ∷ js) (sym (ap (drop (i + 1)) (left-first os n box) ∙ left-drop os ns (i + 1) n box (omega arith)))
+    ∙ ap (λ (js : List BoardPlan). planHere os ns i box ∷ js) (sym (ap (drop (i + 1)) (left-first os n box) ∙ left-drop os ns (i + 1) n box (omega arith)))
 
-left-past : (os : List (List ℕ)) (n i : ℕ) (box : List ℕ) → n ≤ i → drop i (judged os (cardsIn n box)) ≡ []
-left-past os n i box h = drop-of-length-le (judged os (cardsIn n box)) {i = i} (rw (boards-count os n box) h)
+left-past : (os : List (List ℕ)) (n i : ℕ) (box : List ℕ) → n ≤ i → drop i (boardPlans os (cardsIn n box)) ≡ []
+left-past os n i box h = drop-of-length-le (boardPlans os (cardsIn n box)) {i = i} (rw (boards-count os n box) h)
 
 -- Sought from index k on, no board to solve was found before index i.
 pub record Sought (olds : ℕ) (old : List ℕ) (news : ℕ) (new : List ℕ) (k i : ℕ) : Type 0 where
@@ -86,11 +86,11 @@ filled-is next ys = filled-behind next [] ys 0
 -- ---- the structs are the slips of the boards, and zeros behind them
 
 -- The slips of boards as structs; the boards behind the first that is to be solved.
-abbrev structsOf : List Judged → List Slip
+abbrev structsOf : List BoardPlan → List Slip
 structsOf [] = []
 structsOf (j ∷ js) = cond (isSolve (j .state)) (slipStruct (j .position) (j .card) ∷ structsOf js) (structsOf js)
 
-abbrev behindFirst : List Judged → List Judged
+abbrev behindFirst : List BoardPlan → List BoardPlan
 behindFirst [] = []
 behindFirst (j ∷ js) = cond (isSolve (j .state)) js (behindFirst js)
 
@@ -99,7 +99,7 @@ abbrev filled : ℕ → List Slip → List Slip
 filled zero xs = []
 filled (suc n) xs = getD xs 0 noSlip ∷ filled n (drop 1 xs)
 
-next-drop : (all js : List Judged) (k : ℕ) → drop k all ≡ js → drop (slipFrom k js .next) all ≡ behindFirst js
+next-drop : (all js : List BoardPlan) (k : ℕ) → drop k all ≡ js → drop (slipFrom k js .next) all ≡ behindFirst js
 next-drop all [] k e = e
 next-drop all (j ∷ js) k e =
     let behind : drop (k + 1) all ≡ js = sym (drop-drop 1 k all) ∙ ap (drop 1) e in
@@ -110,7 +110,7 @@ next-drop all (j ∷ js) k e =
     go true f g = f
     go false f g = g
 
-slip-head : (js : List Judged) (k : ℕ) → slipFrom k js .slip ≡ getD (structsOf js) 0 noSlip
+slip-head : (js : List BoardPlan) (k : ℕ) → slipFrom k js .slip ≡ getD (structsOf js) 0 noSlip
 slip-head [] k = refl
 slip-head (j ∷ js) k = go (isSolve (j .state)) (slip-head js (k + 1))
   where
@@ -119,7 +119,7 @@ slip-head (j ∷ js) k = go (isSolve (j .state)) (slip-head js (k + 1))
     go true f = refl
     go false f = f
 
-slip-tail : (js : List Judged) → structsOf (behindFirst js) ≡ drop 1 (structsOf js)
+slip-tail : (js : List BoardPlan) → structsOf (behindFirst js) ≡ drop 1 (structsOf js)
 slip-tail [] = refl
 slip-tail (j ∷ js) = go (isSolve (j .state)) (slip-tail js)
   where
@@ -128,12 +128,12 @@ slip-tail (j ∷ js) = go (isSolve (j .state)) (slip-tail js)
     go true f = refl
     go false f = f
 
-filled-slips : (all : List Judged) (n k : ℕ) (js : List Judged) → drop k all ≡ js → filledFrom (λ i. slipFrom i (drop i all)) k n ≡ filled n (structsOf js)
+filled-slips : (all : List BoardPlan) (n k : ℕ) (js : List BoardPlan) → drop k all ≡ js → filledFrom (λ i. slipFrom i (drop i all)) k n ≡ filled n (structsOf js)
 filled-slips all zero k js e = refl
 filled-slips all (suc n) k js e =
     let m : ℕ = slipFrom k (drop k all) .next in
-    let head : slipFrom k (drop k all) .slip ≡ getD (structsOf js) 0 noSlip = ap (λ (l : List Judged). slipFrom k l .slip) e ∙ slip-head js k in
-    let rest : drop m all ≡ behindFirst js = ap (λ (l : List Judged). drop (slipFrom k l .next) all) e ∙ next-drop all js k e in
+    let head : slipFrom k (drop k all) .slip ≡ getD (structsOf js) 0 noSlip = ap (λ (l : List BoardPlan). slipFrom k l .slip) e ∙ slip-head js k in
+    let rest : drop m all ≡ behindFirst js = ap (λ (l : List BoardPlan). drop (slipFrom k l .next) all) e ∙ next-drop all js k e in
     ap (λ (x : Slip). x ∷ filledFrom (λ i. slipFrom i (drop i all)) m n) head
     ∙ ap (λ (l : List Slip). getD (structsOf js) 0 noSlip ∷ l) (filled-slips all n m (behindFirst js) rest ∙ ap (filled n) (slip-tail js))
 
@@ -150,7 +150,7 @@ fives (suc n) (x ∷ xs) h =
     let e : 5 * suc n - suc (suc (suc (suc (suc (length f))))) ≡ 5 * n - length f = omega arith in
     rw (e, fives n xs (omega arith))
 
-structs-numbers : (js : List Judged) → map fiveOf (structsOf js) ≡ slipsOf js
+structs-numbers : (js : List BoardPlan) → map fiveOf (structsOf js) ≡ slipsOf js
 unfolding slipOf slipStruct
 structs-numbers [] = refl
 structs-numbers (j ∷ js) = go (isSolve (j .state)) (structs-numbers js)
@@ -166,7 +166,7 @@ numbers-length [] = refl
 numbers-length (s ∷ ss) = omega (arith, numbers-length ss)
 
 -- As many structs as there are slips, or more: the slips' numbers, and zeros behind them.
-pub slips-filled : (js : List Judged) (n : ℕ) → length (slipsOf js) ≤ n → slipNumbers (filledFrom (λ i. slipFrom i (drop i js)) 0 n) ≡ padded (5 * n) (flat (slipsOf js))
+pub slips-filled : (js : List BoardPlan) (n : ℕ) → length (slipsOf js) ≤ n → slipNumbers (filledFrom (λ i. slipFrom i (drop i js)) 0 n) ≡ padded (5 * n) (flat (slipsOf js))
 unfolding slipNumbers
 slips-filled js n h =
     let e : length (structsOf js) ≡ length (slipsOf js) = sym (length-map (structsOf js) fiveOf) ∙ ap length (structs-numbers js) in

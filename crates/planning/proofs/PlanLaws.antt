@@ -11,14 +11,14 @@ use Rattle.reader.proofs.StoreLaws.{Blocks, none, one}
 use Rattle.planning.specs.declared.state.BoardState.{BoardState}
 use Rattle.planning.specs.declared.plan.Totals.{Totals}
 use Rattle.planning.specs.Cards.{cardsIn, cardHere}
-use Rattle.planning.specs.States.{Judged, judged, isSolve, stateNumber, stateOf}
+use Rattle.planning.specs.States.{BoardPlan, boardPlans, isSolve, stateNumber, stateOf}
 use Rattle.planning.specs.Slips.{slipOf, slipsOf, countOf, totalsOf, boardNumbers, numbersFrom}
-use Rattle.planning.specs.Steps.{boardHere, tally, counted, noTotals, Within}
+use Rattle.planning.specs.Steps.{planHere, tally, counted, noTotals, Within}
 use Rattle.planning.proofs.BoardLaws.{boardsLeft, left-first, left-step, left-none, boards-count}
 
 -- ---- counts
 
-pub count-few : (k : ℕ) (js : List Judged) → countOf k js ≤ length js
+pub count-few : (k : ℕ) (js : List BoardPlan) → countOf k js ≤ length js
 count-few k [] = omega arith
 count-few k (j ∷ js) = go (eqb (stateNumber (j .state)) k) (count-few k js)
   where
@@ -41,7 +41,7 @@ slip-in false slips n x xs = refl
 
 -- ---- totals and slips, board after board: the boards left, with what was counted and stored, give what all give
 
-pub record Left (all : List Judged) (slips₀ : List ℕ) (rest : List Judged) (t : Totals) (slips : List ℕ) : Type 0 where
+pub record Left (all : List BoardPlan) (slips₀ : List ℕ) (rest : List BoardPlan) (t : Totals) (slips : List ℕ) : Type 0 where
   pub boards-in : t .boards + length rest ≡ length all
   pub blank-in : t .blank + countOf 0 rest ≡ countOf 0 all
   pub own-in : t .own + countOf 1 rest ≡ countOf 1 all
@@ -51,7 +51,7 @@ pub record Left (all : List Judged) (slips₀ : List ℕ) (rest : List Judged) (
   pub solve-in : t .solve + countOf 5 rest ≡ countOf 5 all
   pub slips-in : putAll 5 slips (t .solve) (slipsOf rest) ≡ putAll 5 slips₀ 0 (slipsOf all)
 
-left-all : (all : List Judged) (slips : List ℕ) → Left all slips all noTotals slips
+left-all : (all : List BoardPlan) (slips : List ℕ) → Left all slips all noTotals slips
 left-all all slips =
     record {
       boards-in = omega arith;
@@ -64,7 +64,7 @@ left-all all slips =
       slips-in = refl;
     }
 
-left-less : {all : List Judged} {slips₀ : List ℕ} {j : Judged} {rest : List Judged} {t : Totals} {slips : List ℕ} → Left all slips₀ (j ∷ rest) t slips
+left-less : {all : List BoardPlan} {slips₀ : List ℕ} {j : BoardPlan} {rest : List BoardPlan} {t : Totals} {slips : List ℕ} → Left all slips₀ (j ∷ rest) t slips
     → Left all slips₀ rest (counted t (j .state)) (cond (isSolve (j .state)) (put 5 slips (t .solve) (slipOf (j .position) (j .card))) slips)
 unfolding counted
 left-less {all} {slips₀} {j} {rest} {t} {slips} l =
@@ -85,7 +85,7 @@ totals-are : (t : Totals) {a b c d e f g : ℕ} → t .boards ≡ a → t .blank
     → t ≡ record { boards = a; blank = b; own = c; old = d; near = e; twin = f; solve = g }
 totals-are t ea eb ec ed ee ef eg = rw (← ea, ← eb, ← ec, ← ed, ← ee, ← ef, ← eg)
 
-left-nothing : {all : List Judged} {slips₀ : List ℕ} {t : Totals} {slips : List ℕ} → Left all slips₀ [] t slips → (t ≡ totalsOf all) × (slips ≡ putAll 5 slips₀ 0 (slipsOf all))
+left-nothing : {all : List BoardPlan} {slips₀ : List ℕ} {t : Totals} {slips : List ℕ} → Left all slips₀ [] t slips → (t ≡ totalsOf all) × (slips ≡ putAll 5 slips₀ 0 (slipsOf all))
 unfolding totalsOf
 left-nothing {all} {slips₀} {t} {slips} l = (
   totals-are t (omega (arith, l .boards-in)) (omega (arith, l .blank-in)) (omega (arith, l .own-in)) (omega (arith, l .old-in)) (omega (arith, l .near-in)) (omega (arith, l .twin-in)) (omega (arith, l .solve-in)),
@@ -97,14 +97,14 @@ left-nothing {all} {slips₀} {t} {slips} l = (
 pub record Turn (os : List (List ℕ)) (n : ℕ) (box slips₀ : List ℕ) (t : Totals) (k : ℕ) (slips : List ℕ) : Type 0 where
   pub inside : k ≤ n
   pub slips-length : length slips ≡ length slips₀
-  pub left : Left (judged os (cardsIn n box)) slips₀ (boardsLeft os (cardsIn n box) k n box) t slips
+  pub left : Left (boardPlans os (cardsIn n box)) slips₀ (boardsLeft os (cardsIn n box) k n box) t slips
 
 pub turn-first : (os : List (List ℕ)) (n : ℕ) (box slips : List ℕ) → Turn os n box slips noTotals 0 slips
 turn-first os n box slips =
     record {
       inside = omega arith;
       slips-length = refl;
-      left = subst⁻¹ (λ (js : List Judged). Left js slips (boardsLeft os (cardsIn n box) 0 n box) noTotals slips) (left-first os n box) (left-all (boardsLeft os (cardsIn n box) 0 n box) slips);
+      left = subst⁻¹ (λ (js : List BoardPlan). Left js slips (boardsLeft os (cardsIn n box) 0 n box) noTotals slips) (left-first os n box) (left-all (boardsLeft os (cardsIn n box) 0 n box) slips);
     }
 
 module _ {os : List (List ℕ)} {n : ℕ} {box slips₀ : List ℕ} {t : Totals} {k : ℕ} {slips : List ℕ} (i : Turn os n box slips₀ t k slips) where
@@ -112,12 +112,12 @@ module _ {os : List (List ℕ)} {n : ℕ} {box slips₀ : List ℕ} {t : Totals}
       → slips′ ≡ cond (isSolve s) (put 5 slips (t .solve) (slipOf (k + 1) (cardHere k box))) slips → t′ ≡ counted t s → length slips′ ≡ length slips
       → Turn os n box slips₀ t′ (k + 1) slips′
   turn-next {s} {t′} {slips′} h es ep et el =
-      let j = boardHere os (cardsIn n box) k box in
-      let l : Left (judged os (cardsIn n box)) slips₀ (j ∷ boardsLeft os (cardsIn n box) (k + 1) n box) t slips = rw (left-step os (cardsIn n box) k n box h) at (i .left) in
+      let j = planHere os (cardsIn n box) k box in
+      let l : Left (boardPlans os (cardsIn n box)) slips₀ (j ∷ boardsLeft os (cardsIn n box) (k + 1) n box) t slips = rw (left-step os (cardsIn n box) k n box h) at (i .left) in
       let m = left-less l in
       let et′ : t′ ≡ counted t (j .state) = et ∙ ap (counted t) es in
       let ep′ : slips′ ≡ cond (isSolve (j .state)) (put 5 slips (t .solve) (slipOf (k + 1) (cardHere k box))) slips = ep ∙ ap (λ (x : BoardState). cond (isSolve x) (put 5 slips (t .solve) (slipOf (k + 1) (cardHere k box))) slips) es in
-      let all = judged os (cardsIn n box) in
+      let all = boardPlans os (cardsIn n box) in
       let rest = boardsLeft os (cardsIn n box) (k + 1) n box in
       record {
         inside = omega arith;
@@ -125,13 +125,13 @@ module _ {os : List (List ℕ)} {n : ℕ} {box slips₀ : List ℕ} {t : Totals}
         left = subst⁻¹ (λ (x : Totals). Left all slips₀ rest x slips′) et′ (subst⁻¹ (λ (y : List ℕ). Left all slips₀ rest (counted t (j .state)) y) ep′ m);
       }
 
-  pub turn-end : n ≤ k → (t ≡ totalsOf (judged os (cardsIn n box))) × (slips ≡ putAll 5 slips₀ 0 (slipsOf (judged os (cardsIn n box))))
+  pub turn-end : n ≤ k → (t ≡ totalsOf (boardPlans os (cardsIn n box))) × (slips ≡ putAll 5 slips₀ 0 (slipsOf (boardPlans os (cardsIn n box))))
   turn-end h = left-nothing (rw (left-none os (cardsIn n box) k n box h) at (i .left))
 
   -- No count is above the boards.
   pub turn-within : {m : ℕ} → n ≤ m → Within m t
   turn-within {m} h =
-      let all = judged os (cardsIn n box) in
+      let all = boardPlans os (cardsIn n box) in
       let e : length all ≡ n = boards-count os n box in
       let l = i .left in
       record {
@@ -149,28 +149,28 @@ module _ {os : List (List ℕ)} {n : ℕ} {box slips₀ : List ℕ} {t : Totals}
 pub record Rows (os : List (List ℕ)) (n : ℕ) (box numbers₀ : List ℕ) (k : ℕ) (numbers : List ℕ) : Type 0 where
   pub inside : k ≤ n
   pub numbers-length : length numbers ≡ length numbers₀
-  pub rest : putAll 5 numbers k (numbersFrom os (cardsIn n box) (boardsLeft os (cardsIn n box) k n box)) ≡ putAll 5 numbers₀ 0 (numbersFrom os (cardsIn n box) (judged os (cardsIn n box)))
+  pub rest : putAll 5 numbers k (numbersFrom os (cardsIn n box) (boardsLeft os (cardsIn n box) k n box)) ≡ putAll 5 numbers₀ 0 (numbersFrom os (cardsIn n box) (boardPlans os (cardsIn n box)))
 
 pub rows-first : (os : List (List ℕ)) (n : ℕ) (box numbers : List ℕ) → Rows os n box numbers 0 numbers
 rows-first os n box numbers =
     record {
       inside = omega arith;
       numbers-length = refl;
-      rest = ap (λ (js : List Judged). putAll 5 numbers 0 (numbersFrom os (cardsIn n box) js)) (sym (left-first os n box));
+      rest = ap (λ (js : List BoardPlan). putAll 5 numbers 0 (numbersFrom os (cardsIn n box) js)) (sym (left-first os n box));
     }
 
 module _ {os : List (List ℕ)} {n : ℕ} {box numbers₀ : List ℕ} {k : ℕ} {numbers : List ℕ} (i : Rows os n box numbers₀ k numbers) where
-  pub rows-next : {numbers′ five : List ℕ} → k < n → five ≡ boardNumbers os (cardsIn n box) (boardHere os (cardsIn n box) k box)
+  pub rows-next : {numbers′ five : List ℕ} → k < n → five ≡ boardNumbers os (cardsIn n box) (planHere os (cardsIn n box) k box)
       → numbers′ ≡ put 5 numbers k five → length numbers′ ≡ length numbers → Rows os n box numbers₀ (k + 1) numbers′
   rows-next {numbers′} {five} h ef ep el =
       let ns = cardsIn n box in
       let rest = numbersFrom os ns (boardsLeft os ns (k + 1) n box) in
-      let e : numbers′ ≡ put 5 numbers k (boardNumbers os ns (boardHere os ns k box)) = ep ∙ ap (put 5 numbers k) ef in
+      let e : numbers′ ≡ put 5 numbers k (boardNumbers os ns (planHere os ns k box)) = ep ∙ ap (put 5 numbers k) ef in
       record {
         inside = omega arith;
         numbers-length = el ∙ i .numbers-length;
         rest = ap (λ (l : List ℕ). putAll 5 l (k + 1) rest) e ∙ (rw (left-step os ns k n box h) at (i .rest));
       }
 
-  pub rows-end : n ≤ k → numbers ≡ putAll 5 numbers₀ 0 (numbersFrom os (cardsIn n box) (judged os (cardsIn n box)))
+  pub rows-end : n ≤ k → numbers ≡ putAll 5 numbers₀ 0 (numbersFrom os (cardsIn n box) (boardPlans os (cardsIn n box)))
   rows-end h = rw (left-none os (cardsIn n box) k n box h) at (i .rest)

@@ -12,7 +12,7 @@ use Rattle.tables.proofs.Laws.{step, stop, by-cases, both}
 use Rattle.reader.specs.Words.{same}
 use Rattle.reader.specs.Deals.{wholeHands, handsOfWords}
 use Rattle.reader.proofs.WordLaws.{same-is, and-false}
-use Rattle.planning.specs.Cards.{dealOf, isWhole, hasTable, hasDeal, fits, cardsIn, cardHere}
+use Rattle.planning.specs.Cards.{cardDeal, isWhole, hasTable, hasDeal, fits, cardsIn, cardHere}
 use Rattle.planning.specs.States.{firstFrom}
 use Rattle.planning.proofs.BoxLaws.{card-step}
 
@@ -24,12 +24,12 @@ word-here k w box h = getD-take 64 (drop (64 * k) box) w 0 h ∙ getD-drop (64 *
 pub here-length : (k : ℕ) (box : List ℕ) → 64 * k + 64 ≤ length box → length (cardHere k box) ≡ 64
 here-length k box h = length-take-le 64 (drop (64 * k) box) (rw length-drop (omega arith))
 
-pub deal-length : (k : ℕ) (box : List ℕ) → 64 * k + 64 ≤ length box → length (dealOf (cardHere k box)) ≡ 8
-unfolding dealOf
+pub deal-length : (k : ℕ) (box : List ℕ) → 64 * k + 64 ≤ length box → length (cardDeal (cardHere k box)) ≡ 8
+unfolding cardDeal
 deal-length k box h = length-take-le 8 (drop 10 (cardHere k box)) (rw (length-drop, here-length k box h) (omega arith))
 
-pub deal-word : (k i : ℕ) (box : List ℕ) → i < 8 → getD (dealOf (cardHere k box)) i 0 ≡ getD box (64 * k + 10 + i) 0
-unfolding dealOf
+pub deal-word : (k i : ℕ) (box : List ℕ) → i < 8 → getD (cardDeal (cardHere k box)) i 0 ≡ getD box (64 * k + 10 + i) 0
+unfolding cardDeal
 deal-word k i box h =
     let e : 64 * k + (10 + i) ≡ 64 * k + 10 + i = omega arith in
     getD-take 8 (drop 10 (cardHere k box)) i 0 h ∙ getD-drop 10 (cardHere k box) i 0 ∙ word-here k (10 + i) box (omega arith) ∙ rw e
@@ -52,14 +52,14 @@ eight l e =
 
 -- Words 10 to 17 of the card at index k.
 pub deal-words : (k : ℕ) (box : List ℕ) → 64 * k + 64 ≤ length box
-    → dealOf (cardHere k box)
+    → cardDeal (cardHere k box)
     ≡ getD box (64 * k + 10) 0 ∷ getD box (64 * k + 11) 0 ∷ getD box (64 * k + 12) 0 ∷ getD box (64 * k + 13) 0
     ∷ getD box (64 * k + 14) 0 ∷ getD box (64 * k + 15) 0 ∷ getD box (64 * k + 16) 0 ∷ getD box (64 * k + 17) 0 ∷ []
 deal-words k box h =
-    let w : (i : ℕ) → i < 8 → getD (dealOf (cardHere k box)) i 0 ≡ getD box (64 * k + (10 + i)) 0 = λ i lt.
+    let w : (i : ℕ) → i < 8 → getD (cardDeal (cardHere k box)) i 0 ≡ getD box (64 * k + (10 + i)) 0 = λ i lt.
     let e : 64 * k + 10 + i ≡ 64 * k + (10 + i) = omega arith in
     deal-word k i box lt ∙ rw e in
-    eight (dealOf (cardHere k box)) (deal-length k box h)
+    eight (cardDeal (cardHere k box)) (deal-length k box h)
     ∙ rw (w 0 (omega arith), w 1 (omega arith), w 2 (omega arith), w 3 (omega arith), w 4 (omega arith), w 5 (omega arith), w 6 (omega arith), w 7 (omega arith))
 
 -- ---- a card that fits
@@ -85,12 +85,12 @@ sought false e h = refl
 
 -- A card whose deal has the words of a whole one is whole.
 pub fits-same : (tabled : Bool) (d card : List ℕ) → wholeHands (handsOfWords d) ≡ true → getD card 9 0 ≡ 1 → (tabled && eqb (getD card 38 0) 0) ≡ false
-    → fits tabled d card ≡ same d (dealOf card)
+    → fits tabled d card ≡ same d (cardDeal card)
 unfolding fits hasDeal isWhole hasTable
 fits-same tabled d card w h t =
-    by-cases (same d (dealOf card))
+    by-cases (same d (cardDeal card))
     (λ e.
-    let i : wholeHands (handsOfWords (dealOf card)) ≡ true = rw (same-is d (dealOf card) e) at w in
+    let i : wholeHands (handsOfWords (cardDeal card)) ≡ true = rw (same-is d (cardDeal card) e) at w in
     rw (sought tabled _ t, e, eq-eqb _ _ h, i))
     (λ e. rw (sought tabled _ t, e, and-false, and-true))
 

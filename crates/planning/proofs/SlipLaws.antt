@@ -11,7 +11,7 @@ use Rattle.reader.specs.Store.{flat}
 use Rattle.reader.proofs.StoreLaws.{Blocks, none, one}
 use Rattle.planning.specs.declared.state.BoardState.{BoardState}
 use Rattle.planning.specs.declared.state.BoardState.the-variants.{Blank, Own, Old, Near, Twin, Solve}
-use Rattle.planning.specs.States.{Judged, stateOf, isSolve, judgedFrom}
+use Rattle.planning.specs.States.{BoardPlan, stateOf, isSolve, boardPlansFrom}
 use Rattle.planning.specs.Slips.{slipOf, slipsOf, countOf, cardFrom}
 use Rattle.planning.specs.Demands.{slipHere}
 
@@ -32,7 +32,7 @@ slip-five : (p : ℕ) (card : List ℕ) → length (slipOf p card) ≡ 5
 unfolding slipOf
 slip-five p card = refl
 
-pub slips-five : (js : List Judged) → Blocks 5 (slipsOf js)
+pub slips-five : (js : List BoardPlan) → Blocks 5 (slipsOf js)
 slips-five [] = none
 slips-five (j ∷ js) = go (isSolve (j .state)) (slips-five js)
   where
@@ -41,7 +41,7 @@ slips-five (j ∷ js) = go (isSolve (j .state)) (slips-five js)
     go false f = f
 
 -- As many slips as boards to solve.
-pub slips-count : (js : List Judged) → length (slipsOf js) ≡ countOf 5 js
+pub slips-count : (js : List BoardPlan) → length (slipsOf js) ≡ countOf 5 js
 slips-count [] = refl
 slips-count (j ∷ js) = go (isSolve (j .state)) (slips-count js)
   where
@@ -77,10 +77,10 @@ next-board {olds} {news} {p} {earlier} {x} {xs} s =
     }
 
 abbrev slipsFrom : List (List ℕ) → List (List ℕ) → ℕ → List (List ℕ) → List (List ℕ) → List (List ℕ)
-slipsFrom olds news p earlier xs = slipsOf (judgedFrom olds news p earlier xs)
+slipsFrom olds news p earlier xs = slipsOf (boardPlansFrom olds news p earlier xs)
 
-pub slip-board : (olds news : List (List ℕ)) (p : ℕ) (earlier xs : List (List ℕ)) (k : ℕ) → k < length (slipsOf (judgedFrom olds news p earlier xs))
-    → SlipOfBoard olds news p earlier xs (getD (slipsOf (judgedFrom olds news p earlier xs)) k [])
+pub slip-board : (olds news : List (List ℕ)) (p : ℕ) (earlier xs : List (List ℕ)) (k : ℕ) → k < length (slipsOf (boardPlansFrom olds news p earlier xs))
+    → SlipOfBoard olds news p earlier xs (getD (slipsOf (boardPlansFrom olds news p earlier xs)) k [])
 slip-board olds news p earlier [] k h = absurd (omega arith)
 slip-board olds news p earlier (x ∷ xs) k h =
     by-cases (isSolve (stateOf olds news earlier x))
@@ -111,7 +111,7 @@ later-slip true s f = record { index = suc (f .index); below = omega (arith, f .
 later-slip false s f = f
 
 pub board-slip : (olds news : List (List ℕ)) (p : ℕ) (earlier xs : List (List ℕ)) (i : ℕ) → i < length xs → stateOf olds news (earlier ++ take i xs) (cardFrom xs i) ≡ Solve
-    → BoardSlip (slipsOf (judgedFrom olds news p earlier xs)) (slipOf (p + i) (cardFrom xs i))
+    → BoardSlip (slipsOf (boardPlansFrom olds news p earlier xs)) (slipOf (p + i) (cardFrom xs i))
 board-slip olds news p earlier [] i h e = absurd (omega arith)
 board-slip olds news p earlier (x ∷ xs) zero h e =
     let f : stateOf olds news earlier x ≡ Solve = rw append-nil at e in
@@ -133,8 +133,8 @@ slip-position p card = refl
 pub place-is : {olds news : List (List ℕ)} {p : ℕ} {earlier xs : List (List ℕ)} {slip : List ℕ} (s : SlipOfBoard olds news p earlier xs slip) → getD slip 0 0 ≡ p + s .index
 place-is {p = p} {xs = xs} s = ap (λ (l : List ℕ). getD l 0 0) (s .is) ∙ slip-position (p + s .index) (cardFrom xs (s .index))
 
-pub in-order : (olds news : List (List ℕ)) (p : ℕ) (earlier xs : List (List ℕ)) (j k : ℕ) → j < k → k < length (slipsOf (judgedFrom olds news p earlier xs))
-    → getD (getD (slipsOf (judgedFrom olds news p earlier xs)) j []) 0 0 < getD (getD (slipsOf (judgedFrom olds news p earlier xs)) k []) 0 0
+pub in-order : (olds news : List (List ℕ)) (p : ℕ) (earlier xs : List (List ℕ)) (j k : ℕ) → j < k → k < length (slipsOf (boardPlansFrom olds news p earlier xs))
+    → getD (getD (slipsOf (boardPlansFrom olds news p earlier xs)) j []) 0 0 < getD (getD (slipsOf (boardPlansFrom olds news p earlier xs)) k []) 0 0
 in-order olds news p earlier [] j k l h = absurd (omega arith)
 in-order olds news p earlier (x ∷ xs) j k l h =
     by-cases (isSolve (stateOf olds news earlier x))

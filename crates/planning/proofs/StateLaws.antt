@@ -11,11 +11,11 @@ use Rattle.tables.proofs.Laws.{by-cases, both}
 use Rattle.reader.specs.Deals.{wholeHands, handsOfWords}
 use Rattle.planning.specs.declared.state.BoardState.{BoardState}
 use Rattle.planning.specs.declared.state.BoardState.the-variants.{Blank, Own, Old, Near, Twin, Solve}
-use Rattle.planning.specs.Cards.{dealOf, handsOf, isWhole, hasTable, fits}
+use Rattle.planning.specs.Cards.{cardDeal, handsOf, isWhole, hasTable, fits}
 use Rattle.planning.specs.States.{firstFrom, firstWith, orElse, stateOf}
 
 -- The deal of a whole card has 13 cards in each hand.
-pub deal-whole : (d card : List ℕ) → isWhole card ≡ true → d ≡ dealOf card → wholeHands (handsOfWords d) ≡ true
+pub deal-whole : (d card : List ℕ) → isWhole card ≡ true → d ≡ cardDeal card → wholeHands (handsOfWords d) ≡ true
 unfolding isWhole
 deal-whole d card w e = rw e (both (eqb (getD card 9 0) 1) (wholeHands (handsOf card)) w .1)
 
@@ -28,7 +28,7 @@ module _ (olds news earlier : List (List ℕ)) (card : List ℕ) where
   unfolding stateOf
   state-own w t = rw (w, t)
 
-  module _ {d : List ℕ} (w : isWhole card ≡ true) (t : hasTable card ≡ false) (e : d ≡ dealOf card) where
+  module _ {d : List ℕ} (w : isWhole card ≡ true) (t : hasTable card ≡ false) (e : d ≡ cardDeal card) where
     pub state-old : (a : ℕ) → a ≡ firstWith true d olds → (a ≡ 0 → ⊥) → Old a ≡ stateOf olds news earlier card
     unfolding stateOf
     state-old a ea n = rw (w, t, ← e, ← ea, ne-eqb a 0 n)
@@ -78,7 +78,7 @@ unfolding stateOf
 state-reach olds news earlier card h =
     let m = length olds in
     let n = length news in
-    let d = dealOf card in
+    let d = cardDeal card in
     let a = firstWith true d olds in
     let b = firstWith true d news in
     let e = firstWith false d earlier in

@@ -15,16 +15,16 @@ use Rattle.planning.specs.declared.editions.Editions.the-variants as edi
 use Rattle.planning.specs.declared.plan.Totals.{Totals}
 use Rattle.planning.specs.declared.plan.PlanRefusal.{PlanRefusal}
 use Rattle.planning.specs.declared.plan.PlanRefusal.the-variants.{Edition}
-use Rattle.planning.specs.declared.plan.Planned.{Planned}
-use Rattle.planning.specs.declared.plan.Planned.the-variants.{Listed}
-use Rattle.planning.specs.declared.plan.Planned.the-variants as planned
+use Rattle.planning.specs.declared.plan.Planning.{Planning}
+use Rattle.planning.specs.declared.plan.Planning.the-variants.{Planned}
+use Rattle.planning.specs.declared.plan.Planning.the-variants as planning
 use Rattle.planning.specs.declared.slips.Slip.{Slip}
 use Rattle.planning.specs.declared.slips.Counted.{Counted}
 use Rattle.planning.specs.Cards.{cardsIn}
-use Rattle.planning.specs.States.{Judged, judged}
+use Rattle.planning.specs.States.{BoardPlan, boardPlans}
 use Rattle.planning.specs.Slips.{slipsOf, slipNumbers, totalsOf}
-use Rattle.planning.specs.Plans.{Boxes, editionsOf, areBoth, boardsOf, listedBy, plannedBy, plannedOf, isListed, BoxesAfter, BothRead, IsPlanned}
-use Rattle.planning.specs.Steps.{Kept, Settled}
+use Rattle.planning.specs.Plans.{Boxes, editionsOf, areBoth, plansOf, slipsAnswer, plannedBy, planningOf, isPlanned, BoxesAfter, BothRead, IsPlanned}
+use Rattle.planning.specs.Steps.{BoxesKept, Settled}
 use Rattle.planning.specs.Fills.{nextOf, filledFrom, IsCounted}
 use Rattle.planning.specs.Demands.{SamePlan}
 use Rattle.planning.proofs.SlipLaws.{slips-count}
@@ -33,13 +33,13 @@ use Rattle.planning.proofs.FillLaws.{numbers-length, slips-filled}
 
 -- ---- before the structs are filled in
 
-no-boards : (old new : List ℕ) → judged (cardsIn 0 old) (cardsIn 0 new) ≡ []
-unfolding judged
+no-boards : (old new : List ℕ) → boardPlans (cardsIn 0 old) (cardsIn 0 new) ≡ []
+unfolding boardPlans
 no-boards old new = refl
 
 module _ {c : Conventions} {old new : List ℕ} {boxes boxes′ : Boxes} {r : Editions} (b : BothRead c old new boxes boxes′ r) (room : ℕ) where
-  pub counted-refused : {f : EditionsRefusal} → r ≡ editions.Refused f → IsCounted c old new boxes room boxes′ (record { answer = planned.Refused (Edition f); olds = 0; news = 0 })
-  unfolding plannedOf
+  pub counted-refused : {f : EditionsRefusal} → r ≡ editions.Refused f → IsCounted c old new boxes room boxes′ (record { answer = planning.Refused (Edition f); olds = 0; news = 0 })
+  unfolding planningOf
   counted-refused {f} e =
       let well : areBoth r ≡ false = ap areBoth e in
       let a : editionsOf c old new boxes ≡ editions.Refused f = sym (b .answer) ∙ e in
@@ -51,30 +51,30 @@ module _ {c : Conventions} {old new : List ℕ} {boxes boxes′ : Boxes} {r : Ed
         boards = no-boards (boxes′ .old-cards) (boxes′ .new-cards);
       }
 
-  module _ {m n : ℕ} {t : Totals} {q : Planned} {boxes″ : Boxes} (e : r ≡ Both m n) (same : SameRoom boxes boxes′)
-      (et : t ≡ totalsOf (judged (cardsIn m (boxes′ .old-cards)) (cardsIn n (boxes′ .new-cards)))) (s : Settled boxes′ room t q boxes″) where
-    answered : q ≡ plannedOf c old new boxes (5 * room)
-    unfolding plannedOf
+  module _ {m n : ℕ} {t : Totals} {q : Planning} {boxes″ : Boxes} (e : r ≡ Both m n) (same : SameRoom boxes boxes′)
+      (et : t ≡ totalsOf (boardPlans (cardsIn m (boxes′ .old-cards)) (cardsIn n (boxes′ .new-cards)))) (s : Settled boxes′ room t q boxes″) where
+    answered : q ≡ planningOf c old new boxes (5 * room)
+    unfolding planningOf
     answered =
         let a : editionsOf c old new boxes ≡ Both m n = sym (b .answer) ∙ e in
         let k : 5 * room / 5 ≡ room = omega arith in
-        let et′ : t ≡ totalsOf (boardsOf c old new) = et ∙ ap totalsOf (boards-are b e) in
-        s .answer ∙ ap (listedBy room) et′ ∙ rw (a, k)
+        let et′ : t ≡ totalsOf (plansOf c old new) = et ∙ ap totalsOf (boards-are b e) in
+        s .answer ∙ ap (slipsAnswer room) et′ ∙ rw (a, k)
 
-    boxed : BoxesAfter c (isListed q) old new boxes boxes″
+    boxed : BoxesAfter c (isPlanned q) old new boxes boxes″
     boxed =
         let well : areBoth r ≡ true = ap areBoth e in
-        boxes-kept (isListed q) (rw well at (b .boxes-after)) same (s .boxes-after)
+        boxes-kept (isPlanned q) (rw well at (b .boxes-after)) same (s .boxes-after)
 
-    pub counted-short : {f : PlanRefusal} → q ≡ planned.Refused f → IsCounted c old new boxes room boxes″ (record { answer = planned.Refused f; olds = 0; news = 0 })
+    pub counted-short : {f : PlanRefusal} → q ≡ planning.Refused f → IsCounted c old new boxes room boxes″ (record { answer = planning.Refused f; olds = 0; news = 0 })
     counted-short {f} h =
-        let l : isListed q ≡ false = ap isListed h in
+        let l : isPlanned q ≡ false = ap isPlanned h in
         record { answer = sym h ∙ answered; boxes-after = rw l at boxed; old-room = omega arith; new-room = omega arith; boards = no-boards (boxes″ .old-cards) (boxes″ .new-cards) }
 
-    pub counted-listed : {t′ : Totals} → q ≡ Listed t′ → IsCounted c old new boxes room boxes″ (record { answer = q; olds = m; news = n })
+    pub counted-listed : {t′ : Totals} → q ≡ Planned t′ → IsCounted c old new boxes room boxes″ (record { answer = q; olds = m; news = n })
     counted-listed {t′} h =
-        let l : isListed q ≡ true = ap isListed h in
-        let k : Kept true boxes′ boxes″ = rw l at (s .boxes-after) in
+        let l : isPlanned q ≡ true = ap isPlanned h in
+        let k : BoxesKept true boxes′ boxes″ = rw l at (s .boxes-after) in
         record {
           answer = answered;
           boxes-after = boxed;
@@ -86,33 +86,33 @@ module _ {c : Conventions} {old new : List ℕ} {boxes boxes′ : Boxes} {r : Ed
 -- ---- the contract, of the structs' numbers
 
 -- Where the answer is no refusal, the slips fit.
-listed-room : (x : Editions) (ls : ℕ) (t : Totals) → isListed (plannedBy x (ls / 5) t) ≡ true → 5 * t .solve ≤ ls
+listed-room : (x : Editions) (ls : ℕ) (t : Totals) → isPlanned (plannedBy x (ls / 5) t) ≡ true → 5 * t .solve ≤ ls
 listed-room (Both m n) ls t h = listed-fits ls t h
 listed-room (editions.Refused f) ls t h = clash h
 
 module _ (slips : List Slip) {c : Conventions} {old new : List ℕ} {boxes boxes′ : Boxes} {slips′ : List Slip} {r : Counted} (h : IsCounted c old new boxes (length slips) boxes′ r)
     (f : slips′ ≡ filledFrom (nextOf (r .olds) (boxes′ .old-cards) (r .news) (boxes′ .new-cards)) 0 (length slips)) where
   -- Of the boards that are listed.
-  numbers-are : (js : List Judged) → judged (cardsIn (r .olds) (boxes′ .old-cards)) (cardsIn (r .news) (boxes′ .new-cards)) ≡ js → length (slipsOf js) ≤ length slips
+  numbers-are : (js : List BoardPlan) → boardPlans (cardsIn (r .olds) (boxes′ .old-cards)) (cardsIn (r .news) (boxes′ .new-cards)) ≡ js → length (slipsOf js) ≤ length slips
       → slipNumbers slips′ ≡ padded (5 * length slips) (flat (slipsOf js))
   unfolding nextOf
   numbers-are js e k =
-      let all = judged (cardsIn (r .olds) (boxes′ .old-cards)) (cardsIn (r .news) (boxes′ .new-cards)) in
-      ap slipNumbers f ∙ slips-filled all (length slips) (rw e k) ∙ ap (λ (x : List Judged). padded (5 * length slips) (flat (slipsOf x))) e
+      let all = boardPlans (cardsIn (r .olds) (boxes′ .old-cards)) (cardsIn (r .news) (boxes′ .new-cards)) in
+      ap slipNumbers f ∙ slips-filled all (length slips) (rw e k) ∙ ap (λ (x : List BoardPlan). padded (5 * length slips) (flat (slipsOf x))) e
 
-  fitting : isListed (r .answer) ≡ true → length (slipsOf (boardsOf c old new)) ≤ length slips
-  unfolding plannedOf
+  fitting : isPlanned (r .answer) ≡ true → length (slipsOf (plansOf c old new)) ≤ length slips
+  unfolding planningOf
   fitting l =
-      let js = boardsOf c old new in
-      let a : isListed (plannedBy (editionsOf c old new boxes) (5 * length slips / 5) (totalsOf js)) ≡ true = sym (ap isListed (h .answer)) ∙ l in
+      let js = plansOf c old new in
+      let a : isPlanned (plannedBy (editionsOf c old new boxes) (5 * length slips / 5) (totalsOf js)) ≡ true = sym (ap isPlanned (h .answer)) ∙ l in
       omega (arith, listed-room (editionsOf c old new boxes) (5 * length slips) (totalsOf js) a, solve-sum js, slips-count js)
 
-  after : slipNumbers slips′ ≡ lent (isListed (r .answer)) (5 * length slips) (slipsOf (boardsOf c old new))
+  after : slipNumbers slips′ ≡ lent (isPlanned (r .answer)) (5 * length slips) (slipsOf (plansOf c old new))
   after =
-      by-cases (isListed (r .answer))
-      (λ l. let e : judged (cardsIn (r .olds) (boxes′ .old-cards)) (cardsIn (r .news) (boxes′ .new-cards)) ≡ boardsOf c old new = rw l at (h .boards) in
-      rw l (numbers-are (boardsOf c old new) e (fitting l)))
-      (λ l. let e : judged (cardsIn (r .olds) (boxes′ .old-cards)) (cardsIn (r .news) (boxes′ .new-cards)) ≡ [] = rw l at (h .boards) in
+      by-cases (isPlanned (r .answer))
+      (λ l. let e : boardPlans (cardsIn (r .olds) (boxes′ .old-cards)) (cardsIn (r .news) (boxes′ .new-cards)) ≡ plansOf c old new = rw l at (h .boards) in
+      rw l (numbers-are (plansOf c old new) e (fitting l)))
+      (λ l. let e : boardPlans (cardsIn (r .olds) (boxes′ .old-cards)) (cardsIn (r .news) (boxes′ .new-cards)) ≡ [] = rw l at (h .boards) in
       let z : 5 * length slips - 0 ≡ 5 * length slips = omega arith in
       rw l (numbers-are [] e (omega arith) ∙ ap (λ (k : ℕ). replicate k 0) z))
 
@@ -134,8 +134,8 @@ boxes-same {boxes₁ = b} p q = λ i.
 
 pub the-same-plan : SamePlan
 the-same-plan c old new boxes numbers slips boxes₁ boxes₂ numbers′ slips′ r₁ r₂ e p q =
-    let js = slipsOf (boardsOf c old new) in
+    let js = slipsOf (plansOf c old new) in
     let n : length numbers ≡ length (slipNumbers slips) = e ∙ sym (numbers-length slips) in
-    let same : r₁ ≡ r₂ = p .answer ∙ ap (plannedOf c old new boxes) n ∙ sym (q .answer) in
-    let b : BoxesAfter c (isListed r₂) old new boxes boxes₁ = subst (λ (r : Planned). BoxesAfter c (isListed r) old new boxes boxes₁) same (p .boxes-after) in
-    (same, boxes-same b (q .boxes-after), p .slips-after ∙ ap (λ (r : Planned). lent (isListed r) (length numbers) js) same ∙ ap (λ (k : ℕ). lent (isListed r₂) k js) n ∙ sym (q .slips-after))
+    let same : r₁ ≡ r₂ = p .answer ∙ ap (planningOf c old new boxes) n ∙ sym (q .answer) in
+    let b : BoxesAfter c (isPlanned r₂) old new boxes boxes₁ = subst (λ (r : Planning). BoxesAfter c (isPlanned r) old new boxes boxes₁) same (p .boxes-after) in
+    (same, boxes-same b (q .boxes-after), p .slips-after ∙ ap (λ (r : Planning). lent (isPlanned r) (length numbers) js) same ∙ ap (λ (k : ℕ). lent (isPlanned r₂) k js) n ∙ sym (q .slips-after))

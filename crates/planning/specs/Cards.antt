@@ -9,12 +9,12 @@ use Rattle.reader.specs.Words.{same}
 use Rattle.reader.specs.Deals.{wholeHands, handsOfWords}
 
 -- Words 10 to 17: the hands N, E, S, W, the low word of each first.
-unfoldable pub dealOf : List ℕ → List ℕ
-dealOf card = take 8 (drop 10 card)
+unfoldable pub cardDeal : List ℕ → List ℕ
+cardDeal card = take 8 (drop 10 card)
 
 -- The four hands, each a number of 64 bits.
 abbrev pub handsOf : List ℕ → Hands
-handsOf card = handsOfWords (dealOf card)
+handsOf card = handsOfWords (cardDeal card)
 
 -- A deal is whole if word 9 is 1 and each hand has 13 cards. Only such a board has a deal.
 unfoldable pub isWhole : List ℕ → Bool
@@ -26,7 +26,7 @@ hasTable card = not (eqb (getD card 38 0) 0)
 
 -- The board has the deal d. Deals are the same if the four hands are: the eight words are compared in order.
 unfoldable pub hasDeal : List ℕ → List ℕ → Bool
-hasDeal d card = isWhole card && same d (dealOf card)
+hasDeal d card = isWhole card && same d (cardDeal card)
 
 -- It has the deal d and, where one is sought, a table.
 unfoldable pub fits : Bool → List ℕ → List ℕ → Bool

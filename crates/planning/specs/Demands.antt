@@ -15,13 +15,13 @@ use Rattle.planning.specs.declared.state.BoardState.{BoardState}
 use Rattle.planning.specs.declared.state.BoardState.the-variants.{Blank, Own, Old, Near, Twin, Solve}
 use Rattle.planning.specs.declared.editions.Editions.the-variants.{Both}
 use Rattle.planning.specs.declared.plan.Totals.{Totals}
-use Rattle.planning.specs.declared.plan.Planned.{Planned}
-use Rattle.planning.specs.declared.plan.Planned.the-variants.{Listed}
+use Rattle.planning.specs.declared.plan.Planning.{Planning}
+use Rattle.planning.specs.declared.plan.Planning.the-variants.{Planned}
 use Rattle.planning.specs.declared.slips.Slip.{Slip}
 use Rattle.planning.specs.Cards.{handsOf, isWhole, hasTable, fits}
-use Rattle.planning.specs.States.{Judged, firstWith, stateNumber, fromOf, stateAt}
+use Rattle.planning.specs.States.{BoardPlan, firstWith, stateNumber, fromOf, stateAt}
 use Rattle.planning.specs.Slips.{slipOf, slipsOf, slipNumbers, totalsOf, cardAt, behindAt, partOf, behindNumbers}
-use Rattle.planning.specs.Plans.{Boxes, oldReading, newReading, boardsOf, IsPlanned, PartTold, BoardsTold}
+use Rattle.planning.specs.Plans.{Boxes, oldReading, newReading, plansOf, IsPlanned, PartTold, BoardsTold}
 
 -- ---- boards and their deals
 
@@ -83,7 +83,7 @@ pub record Unsolved (h : Hands) (olds news : List (List ℕ)) : Type 0 where
   pub none-new : None (Tabled h) news
 
 -- A slip is a board's position from 1 and its hands, and the state of the board at that position is solve.
-pub record OfSolve (js : List Judged) (news : List (List ℕ)) (slip : List ℕ) : Type 0 where
+pub record OfSolve (js : List BoardPlan) (news : List (List ℕ)) (slip : List ℕ) : Type 0 where
   pub position : ℕ
   pub from-one : 1 ≤ position
   pub is-there : position ≤ length news
@@ -99,7 +99,7 @@ pub record SlipFor (p : ℕ) (card : List ℕ) (solve : ℕ) (slips : List ℕ) 
 -- THEOREM (demands/proofs/Listed.antt). Both editions taken and slips enough: a deal is listed exactly when it is unsolved, and once; every slip is
 -- that of a solve board, in board order, and every solve board has one; the rest of the lent numbers is zero, and holds no hands of 13
 -- cards.
-pub record ListedOnce (js : List Judged) (olds news : List (List ℕ)) (solve : ℕ) (slips : List ℕ) : Type 0 where
+pub record ListedOnce (js : List BoardPlan) (olds news : List (List ℕ)) (solve : ℕ) (slips : List ℕ) : Type 0 where
   pub exactly : (h : Hands) → ListedIn h solve slips ↔ Unsolved h olds news
   pub once : (h : Hands) (j k : ℕ) → j < solve → k < solve → Holds h (slipHere j slips) → Holds h (slipHere k slips) → j ≡ k
   pub of-solve : (k : ℕ) → k < solve → OfSolve js news (slipHere k slips)
@@ -111,24 +111,24 @@ pub record ListedOnce (js : List Judged) (olds news : List (List ℕ)) (solve : 
 abbrev pub ListedExactlyOnce : Type 0
 ListedExactlyOnce =
     (c : Conventions) (old new : List ℕ) (boxes : Boxes) (slips : List ℕ) (boxes′ : Boxes) (slips′ : List ℕ) (t : Totals)
-    → IsPlanned c old new boxes slips boxes′ slips′ (Listed t)
-    → ListedOnce (boardsOf c old new) (cardsOf c old) (cardsOf c new) (t .solve) slips′
+    → IsPlanned c old new boxes slips boxes′ slips′ (Planned t)
+    → ListedOnce (plansOf c old new) (cardsOf c old) (cardsOf c new) (t .solve) slips′
 
 -- THEOREM (demands/proofs/Listed.antt). It is listed whenever both editions are taken and slips are enough, whatever else is lent.
-abbrev pub ListedWhenTaken : Type 0
-ListedWhenTaken =
-    (c : Conventions) (old new : List ℕ) (boxes : Boxes) (slips : List ℕ) (boxes′ : Boxes) (slips′ : List ℕ) (r : Planned)
+abbrev pub PlannedIfTaken : Type 0
+PlannedIfTaken =
+    (c : Conventions) (old new : List ℕ) (boxes : Boxes) (slips : List ℕ) (boxes′ : Boxes) (slips′ : List ℕ) (r : Planning)
     → IsPlanned c old new boxes slips boxes′ slips′ r
     → isTaken (oldReading c old boxes) ≡ true
     → isTaken (newReading c new boxes) ≡ true
-    → totalsOf (boardsOf c old new) .solve ≤ length slips / 5
-    → r ≡ Listed (totalsOf (boardsOf c old new))
+    → totalsOf (plansOf c old new) .solve ≤ length slips / 5
+    → r ≡ Planned (totalsOf (plansOf c old new))
 
 -- THEOREM (demands/proofs/Listed.antt). Where every whole board of the new edition has a table, nothing is listed: every lent number is zero.
 abbrev pub NothingListed : Type 0
 NothingListed =
     (c : Conventions) (old new : List ℕ) (boxes : Boxes) (slips : List ℕ) (boxes′ : Boxes) (slips′ : List ℕ) (t : Totals)
-    → IsPlanned c old new boxes slips boxes′ slips′ (Listed t)
+    → IsPlanned c old new boxes slips boxes′ slips′ (Planned t)
     → ((x : List ℕ) → Among x (cardsOf c new) → isWhole x ≡ true → hasTable x ≡ true)
     → (t .solve ≡ 0) × (slips′ ≡ replicate (length slips′) 0)
 
@@ -136,7 +136,7 @@ NothingListed =
 -- numbers are the numbers.
 abbrev pub SamePlan : Type 0
 SamePlan =
-    (c : Conventions) (old new : List ℕ) (boxes : Boxes) (numbers : List ℕ) (slips : List Slip) (boxes₁ boxes₂ : Boxes) (numbers′ : List ℕ) (slips′ : List Slip) (r₁ r₂ : Planned)
+    (c : Conventions) (old new : List ℕ) (boxes : Boxes) (numbers : List ℕ) (slips : List Slip) (boxes₁ boxes₂ : Boxes) (numbers′ : List ℕ) (slips′ : List Slip) (r₁ r₂ : Planning)
     → length numbers ≡ 5 * length slips
     → IsPlanned c old new boxes numbers boxes₁ numbers′ r₁
     → IsPlanned c old new boxes (slipNumbers slips) boxes₂ (slipNumbers slips′) r₂
@@ -170,7 +170,7 @@ abbrev pub ListedInside : Type 0
 ListedInside =
     (c : Conventions) (front middle middle′ back : List ℕ) (boxes : Boxes) (slips : List ℕ) (boxes′ : Boxes) (slips′ : List ℕ) (t : Totals)
     → AlikeBut front middle middle′ back
-    → IsPlanned c (front ++ (middle ++ back)) (front ++ (middle′ ++ back)) boxes slips boxes′ slips′ (Listed t)
+    → IsPlanned c (front ++ (middle ++ back)) (front ++ (middle′ ++ back)) boxes slips boxes′ slips′ (Planned t)
     → AllSolved (cardsOf c (front ++ (middle ++ back)))
     → (h : Hands) → ListedIn h (t .solve) slips′
     → OnlyInside front middle′ h (cardsOf c (front ++ (middle′ ++ back)))
@@ -198,23 +198,23 @@ StateIs olds news earlier card Solve =
 abbrev pub StatesMean : Type 0
 StatesMean =
     (c : Conventions) (old new : List ℕ) (p : ℕ) → 1 ≤ p → p ≤ length (cardsOf c new) → (s : BoardState)
-    → (stateAt (boardsOf c old new) p ≡ s) ↔ StateIs (cardsOf c old) (cardsOf c new) (take (p - 1) (cardsOf c new)) (cardAt (cardsOf c new) p) s
+    → (stateAt (plansOf c old new) p ≡ s) ↔ StateIs (cardsOf c old) (cardsOf c new) (take (p - 1) (cardsOf c new)) (cardAt (cardsOf c new) p) s
 
 -- THEOREM (demands/proofs/StatesMean.antt). Outside the positions 1 to boards the state is blank.
 abbrev pub BlankOutside : Type 0
 BlankOutside =
     (c : Conventions) (old new : List ℕ)
-    → (stateAt (boardsOf c old new) 0 ≡ Blank) × ((p : ℕ) → length (cardsOf c new) < p → stateAt (boardsOf c old new) p ≡ Blank)
+    → (stateAt (plansOf c old new) 0 ≡ Blank) × ((p : ℕ) → length (cardsOf c new) < p → stateAt (plansOf c old new) p ≡ Blank)
 
 -- THEOREM (demands/proofs/StatesMean.antt). A twin's source stands before it and is a solve board.
 abbrev pub TwinsOfSolve : Type 0
 TwinsOfSolve =
-    (c : Conventions) (old new : List ℕ) (p k : ℕ) → stateAt (boardsOf c old new) p ≡ Twin k
-    → (1 ≤ k) × (k < p) × (stateAt (boardsOf c old new) k ≡ Solve)
+    (c : Conventions) (old new : List ℕ) (p k : ℕ) → stateAt (plansOf c old new) p ≡ Twin k
+    → (1 ≤ k) × (k < p) × (stateAt (plansOf c old new) k ≡ Solve)
 
 -- THEOREM (demands/proofs/StatesMean.antt). The source of near is an own board.
 abbrev pub NearOfOwn : Type 0
-NearOfOwn = (c : Conventions) (old new : List ℕ) (p k : ℕ) → stateAt (boardsOf c old new) p ≡ Near k → stateAt (boardsOf c old new) k ≡ Own
+NearOfOwn = (c : Conventions) (old new : List ℕ) (p k : ℕ) → stateAt (plansOf c old new) p ≡ Near k → stateAt (plansOf c old new) k ≡ Own
 
 -- THEOREM (demands/proofs/StatesMean.antt). What a state's search gives: 0 exactly when no card fits, and a number from 1 exactly when the card
 -- of that number is the first that fits.
@@ -249,7 +249,7 @@ pub record IsBehind (old new : List ℕ) (p : ℕ) (s : BoardState) (part : List
 abbrev pub PlacesBehind : Type 0
 PlacesBehind =
     (c : Conventions) (old new : List ℕ) (p : ℕ) → length old ≤ 16777215 → length new ≤ 16777215 → 1 ≤ p → p ≤ length (cardsOf c new)
-    → IsBehind old new p (stateAt (boardsOf c old new) p) (partOf old new (behindAt (cardsOf c old) (cardsOf c new) (boardsOf c old new) p))
+    → IsBehind old new p (stateAt (plansOf c old new) p) (partOf old new (behindAt (cardsOf c old) (cardsOf c new) (plansOf c old new) p))
 
 -- THEOREM (demands/proofs/RecordsBehind.antt). Both editions taken: what is handed back for a board of the new edition is the record behind it.
 abbrev pub RecordsBehind : Type 0
@@ -259,34 +259,34 @@ RecordsBehind =
     → isTaken (oldReading c old boxes) ≡ true
     → isTaken (newReading c new boxes) ≡ true
     → 1 ≤ p → p ≤ length (cardsOf c new)
-    → IsBehind old new p (stateAt (boardsOf c old new) p) part
+    → IsBehind old new p (stateAt (plansOf c old new) p) part
 
 -- ---- totals
 
 -- THEOREM (demands/proofs/TotalsAdd.antt). Totals add up, whatever the boards; there are as many slips as solve boards.
-pub record AddUp (js : List Judged) (t : Totals) : Type 0 where
+pub record AddUp (js : List BoardPlan) (t : Totals) : Type 0 where
   pub sum : t .boards ≡ t .blank + t .own + t .old + t .near + t .twin + t .solve
   pub slips : length (slipsOf js) ≡ t .solve
 
 abbrev pub TotalsAddUp : Type 0
-TotalsAddUp = (js : List Judged) → AddUp js (totalsOf js)
+TotalsAddUp = (js : List BoardPlan) → AddUp js (totalsOf js)
 
 -- THEOREM (demands/proofs/Listed.antt). Those that are handed back do, and are of as many boards as the new edition has.
 abbrev pub TotalsTold : Type 0
 TotalsTold =
     (c : Conventions) (old new : List ℕ) (boxes : Boxes) (slips : List ℕ) (boxes′ : Boxes) (slips′ : List ℕ) (t : Totals)
-    → IsPlanned c old new boxes slips boxes′ slips′ (Listed t)
-    → (t .boards ≡ length (cardsOf c new)) × AddUp (boardsOf c old new) t
+    → IsPlanned c old new boxes slips boxes′ slips′ (Planned t)
+    → (t .boards ≡ length (cardsOf c new)) × AddUp (plansOf c old new) t
 
 -- ---- the numbers of boards
 
 -- The five numbers of the board at a position: its state, its source board, and edition, start and end of the record behind it.
-abbrev pub fiveAt : List (List ℕ) → List (List ℕ) → List Judged → ℕ → List ℕ
+abbrev pub fiveAt : List (List ℕ) → List (List ℕ) → List BoardPlan → ℕ → List ℕ
 fiveAt olds news js p = stateNumber (stateAt js p) ∷ fromOf (stateAt js p) ∷ behindNumbers (behindAt olds news js p)
 
 -- Five numbers a board, in board order, for each board that has five of the lent numbers; behind those of the last such board all are zero:
 -- behind all boards where each has its five, else in a tail too short for five.
-pub record Numbered (olds news : List (List ℕ)) (js : List Judged) (lent : ℕ) (numbers : List ℕ) : Type 0 where
+pub record Numbered (olds news : List (List ℕ)) (js : List BoardPlan) (lent : ℕ) (numbers : List ℕ) : Type 0 where
   pub as-many : length numbers ≡ lent
   pub each : (k : ℕ) → k < length news → 5 * k + 5 ≤ lent → slipHere k numbers ≡ fiveAt olds news js (suc k)
   pub rest-zero : length news ≤ lent / 5 → drop (5 * length news) numbers ≡ replicate (length numbers - 5 * length news) 0
@@ -297,4 +297,4 @@ abbrev pub NumbersTold : Type 0
 NumbersTold =
     (c : Conventions) (old new : List ℕ) (boxes : Boxes) (numbers : List ℕ) (boxes′ : Boxes) (numbers′ : List ℕ) (m n : ℕ)
     → BoardsTold c old new boxes numbers boxes′ numbers′ (Both m n)
-    → Numbered (cardsOf c old) (cardsOf c new) (boardsOf c old new) (length numbers) numbers′
+    → Numbered (cardsOf c old) (cardsOf c new) (plansOf c old new) (length numbers) numbers′

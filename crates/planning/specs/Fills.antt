@@ -9,22 +9,22 @@ use Rattle.planning.specs.declared.slips.Slip.{Slip}
 use Rattle.planning.specs.declared.slips.NextSlip.{NextSlip}
 use Rattle.planning.specs.declared.slips.Counted.{Counted}
 use Rattle.planning.specs.Cards.{cardsIn}
-use Rattle.planning.specs.States.{Judged, judged, isSolve}
+use Rattle.planning.specs.States.{BoardPlan, boardPlans, isSolve}
 use Rattle.planning.specs.Slips.{slipStruct, slipsOf}
-use Rattle.planning.specs.Plans.{Boxes, boardsOf, plannedOf, isListed, BoxesAfter}
+use Rattle.planning.specs.Plans.{Boxes, plansOf, planningOf, isPlanned, BoxesAfter}
 
 -- A struct of zeros.
 abbrev pub noSlip : Slip
 noSlip = record { position = 0; north = 0; east = 0; south = 0; west = 0 }
 
 -- The slip of the first of the boards that is to be solved, the first of the list being at index k; zeros where there is none.
-abbrev pub slipFrom : ℕ → List Judged → NextSlip
+abbrev pub slipFrom : ℕ → List BoardPlan → NextSlip
 slipFrom k [] = record { next = k; slip = noSlip }
 slipFrom k (j ∷ js) = cond (isSolve (j .state)) (record { next = k + 1; slip = slipStruct (j .position) (j .card) }) (slipFrom (k + 1) js)
 
 -- From the board at index k on, of the first news of the lent cards.
 unfoldable pub nextOf : ℕ → List ℕ → ℕ → List ℕ → ℕ → NextSlip
-nextOf olds old news new k = slipFrom k (drop k (judged (cardsIn olds old) (cardsIn news new)))
+nextOf olds old news new k = slipFrom k (drop k (boardPlans (cardsIn olds old) (cardsIn news new)))
 
 -- n structs, one after the other, each sought behind the one before it.
 abbrev pub filledFrom : (ℕ → NextSlip) → ℕ → ℕ → List Slip
@@ -33,8 +33,8 @@ filledFrom next k (suc n) = next k .slip ∷ filledFrom next (next k .next) n
 
 -- The contract of plan_counted: the answer where so many slips have room, both editions in their boxes, and the boards whose slips are to be listed.
 pub record IsCounted (c : Conventions) (old new : List ℕ) (boxes : Boxes) (room : ℕ) (boxes′ : Boxes) (r : Counted) : Type 0 where
-  pub answer : r .answer ≡ plannedOf c old new boxes (5 * room)
-  pub boxes-after : BoxesAfter c (isListed (r .answer)) old new boxes boxes′
+  pub answer : r .answer ≡ planningOf c old new boxes (5 * room)
+  pub boxes-after : BoxesAfter c (isPlanned (r .answer)) old new boxes boxes′
   pub old-room : 64 * r .olds ≤ length (boxes′ .old-cards)
   pub new-room : 64 * r .news ≤ length (boxes′ .new-cards)
-  pub boards : judged (cardsIn (r .olds) (boxes′ .old-cards)) (cardsIn (r .news) (boxes′ .new-cards)) ≡ cond (isListed (r .answer)) (boardsOf c old new) []
+  pub boards : boardPlans (cardsIn (r .olds) (boxes′ .old-cards)) (cardsIn (r .news) (boxes′ .new-cards)) ≡ cond (isPlanned (r .answer)) (plansOf c old new) []

@@ -23,10 +23,10 @@ use Rattle.planning.specs.declared.editions.Editions.the-variants as edi
 use Rattle.planning.specs.declared.plan.Totals.{Totals}
 use Rattle.planning.specs.declared.plan.PlanRefusal.{PlanRefusal}
 use Rattle.planning.specs.declared.plan.PlanRefusal.the-variants.{Edition, SlipsShort}
-use Rattle.planning.specs.declared.plan.Planned.{Planned}
-use Rattle.planning.specs.declared.plan.Planned.the-variants.{Listed}
-use Rattle.planning.specs.declared.plan.Planned.the-variants as planned
-use Rattle.planning.specs.States.{Judged, judged, stateAt}
+use Rattle.planning.specs.declared.plan.Planning.{Planning}
+use Rattle.planning.specs.declared.plan.Planning.the-variants.{Planned}
+use Rattle.planning.specs.declared.plan.Planning.the-variants as planning
+use Rattle.planning.specs.States.{BoardPlan, boardPlans, stateAt}
 use Rattle.planning.specs.Slips.{slipsOf, totalsOf, behindAt, partOf, numbersFrom}
 
 -- ---- refusals: 1 to 3 of the old edition, then of the new, then 4 slips short (the boards to solve)
@@ -92,25 +92,25 @@ areBoth (Both m n) = true
 areBoth (editions.Refused f) = false
 
 -- The boards of the new edition.
-abbrev pub boardsOf : Conventions → List ℕ → List ℕ → List Judged
-boardsOf c old new = judged (cardsOf c old) (cardsOf c new)
+abbrev pub plansOf : Conventions → List ℕ → List ℕ → List BoardPlan
+plansOf c old new = boardPlans (cardsOf c old) (cardsOf c new)
 
 -- ---- the plan
 
-abbrev pub listedBy : ℕ → Totals → Planned
-listedBy slips t = cond (ltb slips (t .solve)) (planned.Refused (SlipsShort (t .solve))) (Listed t)
+abbrev pub slipsAnswer : ℕ → Totals → Planning
+slipsAnswer slips t = cond (ltb slips (t .solve)) (planning.Refused (SlipsShort (t .solve))) (Planned t)
 
-abbrev pub plannedBy : Editions → ℕ → Totals → Planned
-plannedBy (Both m n) slips t = listedBy slips t
-plannedBy (editions.Refused f) slips t = planned.Refused (Edition f)
+abbrev pub plannedBy : Editions → ℕ → Totals → Planning
+plannedBy (Both m n) slips t = slipsAnswer slips t
+plannedBy (editions.Refused f) slips t = planning.Refused (Edition f)
 
 -- The answer; ls numbers are lent for slips, five a slip, and a tail too short for one counts as none.
-unfoldable pub plannedOf : Conventions → List ℕ → List ℕ → Boxes → ℕ → Planned
-plannedOf c old new boxes ls = plannedBy (editionsOf c old new boxes) (ls / 5) (totalsOf (boardsOf c old new))
+unfoldable pub planningOf : Conventions → List ℕ → List ℕ → Boxes → ℕ → Planning
+planningOf c old new boxes ls = plannedBy (editionsOf c old new boxes) (ls / 5) (totalsOf (plansOf c old new))
 
-abbrev pub isListed : Planned → Bool
-isListed (Listed t) = true
-isListed (planned.Refused f) = false
+abbrev pub isPlanned : Planning → Bool
+isPlanned (Planned t) = true
+isPlanned (planning.Refused f) = false
 
 -- ---- contracts: boxes are the four before the call, boxes′ the four after it
 
@@ -127,30 +127,30 @@ pub record BothRead (c : Conventions) (old new : List ℕ) (boxes boxes′ : Box
   pub boxes-after : BoxesAfter c (areBoth r) old new boxes boxes′
 
 -- The contract of plan: the answer, and every lent number.
-pub record IsPlanned (c : Conventions) (old new : List ℕ) (boxes : Boxes) (slips : List ℕ) (boxes′ : Boxes) (slips′ : List ℕ) (r : Planned) : Type 0 where
-  pub answer : r ≡ plannedOf c old new boxes (length slips)
-  pub boxes-after : BoxesAfter c (isListed r) old new boxes boxes′
-  pub slips-after : slips′ ≡ lent (isListed r) (length slips) (slipsOf (boardsOf c old new))
+pub record IsPlanned (c : Conventions) (old new : List ℕ) (boxes : Boxes) (slips : List ℕ) (boxes′ : Boxes) (slips′ : List ℕ) (r : Planning) : Type 0 where
+  pub answer : r ≡ planningOf c old new boxes (length slips)
+  pub boxes-after : BoxesAfter c (isPlanned r) old new boxes boxes′
+  pub slips-after : slips′ ≡ lent (isPlanned r) (length slips) (slipsOf (plansOf c old new))
 
 -- The state at a position: blank after a refusal.
-abbrev pub stateBy : Editions → List Judged → ℕ → BoardState
+abbrev pub stateBy : Editions → List BoardPlan → ℕ → BoardState
 stateBy (Both m n) js p = stateAt js p
 stateBy (editions.Refused f) js p = Blank
 
 -- The record behind a board: nothing after a refusal.
 abbrev pub behindBy : Editions → Conventions → List ℕ → List ℕ → ℕ → Behind
-behindBy (Both m n) c old new p = behindAt (cardsOf c old) (cardsOf c new) (boardsOf c old new) p
+behindBy (Both m n) c old new p = behindAt (cardsOf c old) (cardsOf c new) (plansOf c old new) p
 behindBy (editions.Refused f) c old new p = Nothing
 
 -- ls lent numbers afterwards: five a board, as many whole ones as fit, and zeros behind them; zeros after a refusal.
 abbrev pub boardsAfter : Editions → Conventions → List ℕ → List ℕ → ℕ → List ℕ
-boardsAfter (Both m n) c old new ls = putAll 5 (replicate ls 0) 0 (numbersFrom (cardsOf c old) (cardsOf c new) (boardsOf c old new))
+boardsAfter (Both m n) c old new ls = putAll 5 (replicate ls 0) 0 (numbersFrom (cardsOf c old) (cardsOf c new) (plansOf c old new))
 boardsAfter (editions.Refused f) c old new ls = replicate ls 0
 
 -- The contract of state_at: whether both editions were taken, and the state.
 pub record StateTold (c : Conventions) (old new : List ℕ) (boxes boxes′ : Boxes) (p : ℕ) (r : Editions) (s : BoardState) : Type 0 where
   pub editions-read : BothRead c old new boxes boxes′ r
-  pub state : s ≡ stateBy r (boardsOf c old new) p
+  pub state : s ≡ stateBy r (plansOf c old new) p
 
 -- The contract of place_behind: the places of the record behind a board.
 pub record BehindTold (c : Conventions) (old new : List ℕ) (boxes boxes′ : Boxes) (p : ℕ) (r : Editions) (b : Behind) : Type 0 where

@@ -13,7 +13,7 @@ use Rattle.planning.specs.declared.behind.Behind.the-variants.{InOld, In
 use Rattle.planning.specs.declared.plan.Totals.{Totals}
 use Rattle.planning.specs.declared.slips.Slip.{Slip}
 use Rattle.planning.specs.Cards.{handsOf}
-use Rattle.planning.specs.States.{Judged, isSolve, stateNumber, fromOf, boardAt}
+use Rattle.planning.specs.States.{BoardPlan, isSolve, stateNumber, fromOf, planAt}
 
 -- ---- slips
 
@@ -22,7 +22,7 @@ unfoldable pub slipOf : ℕ → List ℕ → List ℕ
 slipOf p card = p ∷ handsOf card .north ∷ handsOf card .east ∷ handsOf card .south ∷ handsOf card .west ∷ []
 
 -- The slips of boards, in board order.
-abbrev pub slipsOf : List Judged → List (List ℕ)
+abbrev pub slipsOf : List BoardPlan → List (List ℕ)
 slipsOf [] = []
 slipsOf (j ∷ js) = cond (isSolve (j .state)) (slipOf (j .position) (j .card) ∷ slipsOf js) (slipsOf js)
 
@@ -40,11 +40,11 @@ slipNumbers slips = flat (map fiveOf slips)
 -- ---- totals
 
 -- How many boards have the state with the number k.
-abbrev pub countOf : ℕ → List Judged → ℕ
+abbrev pub countOf : ℕ → List BoardPlan → ℕ
 countOf k [] = 0
 countOf k (j ∷ js) = cond (eqb (stateNumber (j .state)) k) (countOf k js + 1) (countOf k js)
 
-unfoldable pub totalsOf : List Judged → Totals
+unfoldable pub totalsOf : List BoardPlan → Totals
 totalsOf js = record {
   boards = length js;
   blank = countOf 0 js;
@@ -82,16 +82,16 @@ behindState olds news card (Near k) = newRecord (cardAt news k)
 behindState olds news card (Twin k) = newRecord (cardAt news k)
 behindState olds news card Solve = newRecord card
 
-abbrev pub behindOf : List (List ℕ) → List (List ℕ) → Judged → Behind
+abbrev pub behindOf : List (List ℕ) → List (List ℕ) → BoardPlan → Behind
 behindOf olds news j = behindState olds news (j .card) (j .state)
 
-abbrev pub behindIn : List (List ℕ) → List (List ℕ) → Option Judged → Behind
+abbrev pub behindIn : List (List ℕ) → List (List ℕ) → Option BoardPlan → Behind
 behindIn olds news none = Nothing
 behindIn olds news (some j) = behindOf olds news j
 
 -- At a position from 1; nothing outside 1 to boards.
-abbrev pub behindAt : List (List ℕ) → List (List ℕ) → List Judged → ℕ → Behind
-behindAt olds news js p = behindIn olds news (boardAt js p)
+abbrev pub behindAt : List (List ℕ) → List (List ℕ) → List BoardPlan → ℕ → Behind
+behindAt olds news js p = behindIn olds news (planAt js p)
 
 -- The part of the old or the new text.
 abbrev pub partOf : List ℕ → List ℕ → Behind → List ℕ
@@ -107,8 +107,8 @@ behindNumbers Nothing = 0 ∷ 0 ∷ 0 ∷ []
 
 -- ---- five numbers a board: state, source board, and edition, start and end of the record behind it
 
-unfoldable pub boardNumbers : List (List ℕ) → List (List ℕ) → Judged → List ℕ
+unfoldable pub boardNumbers : List (List ℕ) → List (List ℕ) → BoardPlan → List ℕ
 boardNumbers olds news j = stateNumber (j .state) ∷ fromOf (j .state) ∷ behindNumbers (behindOf olds news j)
 
-abbrev pub numbersFrom : List (List ℕ) → List (List ℕ) → List Judged → List (List ℕ)
+abbrev pub numbersFrom : List (List ℕ) → List (List ℕ) → List BoardPlan → List (List ℕ)
 numbersFrom olds news js = map (boardNumbers olds news) js

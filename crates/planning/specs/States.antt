@@ -6,7 +6,7 @@ use mathlib.Core.Option.{Option, none, some}
 use lib.Dec.{eqb}
 use Rattle.planning.specs.declared.state.BoardState.{BoardState}
 use Rattle.planning.specs.declared.state.BoardState.the-variants.{Blank, Own, Old, Near, Twin, Solve}
-use Rattle.planning.specs.Cards.{dealOf, isWhole, hasTable, fits}
+use Rattle.planning.specs.Cards.{cardDeal, isWhole, hasTable, fits}
 
 -- The number of the first card that passes a test, the first of the list being k; 0 where none does.
 abbrev pub firstFrom : (List ℕ → Bool) → ℕ → List (List ℕ) → ℕ
@@ -27,9 +27,9 @@ unfoldable pub stateOf : List (List ℕ) → List (List ℕ) → List (List ℕ)
 stateOf olds news earlier card =
     cond (isWhole card)
     (cond (hasTable card) Own
-    (orElse Old (firstWith true (dealOf card) olds)
-    (orElse Near (firstWith true (dealOf card) news)
-    (orElse Twin (firstWith false (dealOf card) earlier) Solve))))
+    (orElse Old (firstWith true (cardDeal card) olds)
+    (orElse Near (firstWith true (cardDeal card) news)
+    (orElse Twin (firstWith false (cardDeal card) earlier) Solve))))
     Blank
 
 -- The states by their numbers.
@@ -54,36 +54,36 @@ abbrev pub isSolve : BoardState → Bool
 isSolve s = eqb (stateNumber s) 5
 
 -- A board of the new edition: its position from 1, its card and its state.
-pub record Judged : Type 0 where
+pub record BoardPlan : Type 0 where
   pub position : ℕ
   pub card : List ℕ
   pub state : BoardState
 
 -- The boards from the position p on; earlier are the cards of those before.
-abbrev pub judgedFrom : List (List ℕ) → List (List ℕ) → ℕ → List (List ℕ) → List (List ℕ) → List Judged
-judgedFrom olds news p earlier [] = []
-judgedFrom olds news p earlier (x ∷ xs) =
-    record { position = p; card = x; state = stateOf olds news earlier x } ∷ judgedFrom olds news (p + 1) (earlier ++ (x ∷ [])) xs
+abbrev pub boardPlansFrom : List (List ℕ) → List (List ℕ) → ℕ → List (List ℕ) → List (List ℕ) → List BoardPlan
+boardPlansFrom olds news p earlier [] = []
+boardPlansFrom olds news p earlier (x ∷ xs) =
+    record { position = p; card = x; state = stateOf olds news earlier x } ∷ boardPlansFrom olds news (p + 1) (earlier ++ (x ∷ [])) xs
 
 -- All boards of the new edition, given the cards of both.
-unfoldable pub judged : List (List ℕ) → List (List ℕ) → List Judged
-judged olds news = judgedFrom olds news 1 [] news
+unfoldable pub boardPlans : List (List ℕ) → List (List ℕ) → List BoardPlan
+boardPlans olds news = boardPlansFrom olds news 1 [] news
 
 -- The board at a position from 1; none outside 1 to boards.
-abbrev pub boardFrom : List Judged → ℕ → Option Judged
-boardFrom [] k = none
-boardFrom (j ∷ js) zero = some j
-boardFrom (j ∷ js) (suc k) = boardFrom js k
+abbrev pub planFrom : List BoardPlan → ℕ → Option BoardPlan
+planFrom [] k = none
+planFrom (j ∷ js) zero = some j
+planFrom (j ∷ js) (suc k) = planFrom js k
 
-abbrev pub boardAt : List Judged → ℕ → Option Judged
-boardAt js zero = none
-boardAt js (suc k) = boardFrom js k
+abbrev pub planAt : List BoardPlan → ℕ → Option BoardPlan
+planAt js zero = none
+planAt js (suc k) = planFrom js k
 
 -- Its state, blank where there is none.
-abbrev pub stateIn : Option Judged → BoardState
+abbrev pub stateIn : Option BoardPlan → BoardState
 stateIn none = Blank
 stateIn (some j) = j .state
 
 -- The state at a position.
-abbrev pub stateAt : List Judged → ℕ → BoardState
-stateAt js p = stateIn (boardAt js p)
+abbrev pub stateAt : List BoardPlan → ℕ → BoardState
+stateAt js p = stateIn (planAt js p)

@@ -8,14 +8,14 @@ use lib.ListN.{length}
 use Rattle.reader.specs.Store.{zeros}
 use Rattle.planning.specs.declared.state.BoardState.{BoardState}
 use Rattle.planning.specs.declared.plan.Totals.{Totals}
-use Rattle.planning.specs.declared.plan.Planned.{Planned}
+use Rattle.planning.specs.declared.plan.Planning.{Planning}
 use Rattle.planning.specs.Cards.{cardsIn, cardHere}
-use Rattle.planning.specs.States.{Judged, stateOf, stateNumber}
-use Rattle.planning.specs.Plans.{Boxes, listedBy, isListed}
+use Rattle.planning.specs.States.{BoardPlan, stateOf, stateNumber}
+use Rattle.planning.specs.Plans.{Boxes, slipsAnswer, isPlanned}
 
 -- The board at index k of the lent cards of the new edition.
-abbrev pub boardHere : List (List ℕ) → List (List ℕ) → ℕ → List ℕ → Judged
-boardHere olds news k box = record { position = k + 1; card = cardHere k box; state = stateOf olds news (cardsIn k box) (cardHere k box) }
+abbrev pub planHere : List (List ℕ) → List (List ℕ) → ℕ → List ℕ → BoardPlan
+planHere olds news k box = record { position = k + 1; card = cardHere k box; state = stateOf olds news (cardsIn k box) (cardHere k box) }
 
 -- A count of the boards whose state has the number k, with one board more.
 abbrev pub tally : ℕ → BoardState → ℕ → ℕ
@@ -48,19 +48,19 @@ pub record Within (n : ℕ) (t : Totals) : Type 0 where
   pub solve : t .solve ≤ n
 
 -- The four boxes, kept or set to 0.
-pub record Kept (well : Bool) (boxes boxes′ : Boxes) : Type 0 where
+pub record BoxesKept (well : Bool) (boxes boxes′ : Boxes) : Type 0 where
   pub old-cards : boxes′ .old-cards ≡ cond well (boxes .old-cards) (zeros (boxes .old-cards))
   pub old-entries : boxes′ .old-entries ≡ cond well (boxes .old-entries) (zeros (boxes .old-entries))
   pub new-cards : boxes′ .new-cards ≡ cond well (boxes .new-cards) (zeros (boxes .new-cards))
   pub new-entries : boxes′ .new-entries ≡ cond well (boxes .new-entries) (zeros (boxes .new-entries))
 
 -- The answer for the totals where so many slips have room, and the four boxes: as they were, or zeros after a refusal.
-pub record Settled (boxes : Boxes) (room : ℕ) (t : Totals) (r : Planned) (boxes′ : Boxes) : Type 0 where
-  pub answer : r ≡ listedBy room t
-  pub boxes-after : Kept (isListed r) boxes boxes′
+pub record Settled (boxes : Boxes) (room : ℕ) (t : Totals) (r : Planning) (boxes′ : Boxes) : Type 0 where
+  pub answer : r ≡ slipsAnswer room t
+  pub boxes-after : BoxesKept (isPlanned r) boxes boxes′
 
 -- The answer for the totals, and all lent words: as they were, or zeros after a refusal.
-pub record PlanFinished (boxes : Boxes) (slips : List ℕ) (t : Totals) (r : Planned) (boxes′ : Boxes) (slips′ : List ℕ) : Type 0 where
-  pub answer : r ≡ listedBy (length slips / 5) t
-  pub boxes-after : Kept (isListed r) boxes boxes′
-  pub slips-after : slips′ ≡ cond (isListed r) slips (zeros slips)
+pub record PlanEnded (boxes : Boxes) (slips : List ℕ) (t : Totals) (r : Planning) (boxes′ : Boxes) (slips′ : List ℕ) : Type 0 where
+  pub answer : r ≡ slipsAnswer (length slips / 5) t
+  pub boxes-after : BoxesKept (isPlanned r) boxes boxes′
+  pub slips-after : slips′ ≡ cond (isPlanned r) slips (zeros slips)

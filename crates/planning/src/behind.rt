@@ -4,7 +4,7 @@ ghost use Prim.Native.Nat.{_-_, _*_, _≤_, _<_};
 ghost use lib.ListN.{length, getD, take, drop};
 ghost use Rattle.tables.specs.Letters.{builtIn};
 ghost use Rattle.planning.specs.Cards.{cardsIn};
-ghost use Rattle.planning.specs.States.{judged};
+ghost use Rattle.planning.specs.States.{boardPlans};
 ghost use Rattle.planning.specs.Slips.{cardAt, oldRecord, newRecord, behindState, behindAt};
 ghost use Rattle.planning.specs.Plans.{BehindTold, PartTold};
 use crate::cards::word_of;
@@ -85,7 +85,7 @@ pub fn behind_state(
 // The record behind the board at the position p; nothing outside 1 to news.
 fn behind_at(old_cards: &[u32], olds: usize, new_cards: &[u32], news: usize, p: u64) -> Behind
     requires { ⌜ (64 * olds ≤ length (now «old_cards»)) × (64 * news ≤ length (now «new_cards»)) ⌝ }
-    ensures { λ r. ⌜ r ≡ behindAt (cardsIn olds (now («old_cards» .entry))) (cardsIn news (now («new_cards» .entry))) (judged (cardsIn olds (now («old_cards» .entry))) (cardsIn news (now («new_cards» .entry)))) p ⌝ }
+    ensures { λ r. ⌜ r ≡ behindAt (cardsIn olds (now («old_cards» .entry))) (cardsIn news (now («new_cards» .entry))) (boardPlans (cardsIn olds (now («old_cards» .entry))) (cardsIn news (now («new_cards» .entry)))) p ⌝ }
 {
     if p == 0 {
         return Behind::Nothing;

@@ -5,10 +5,10 @@ ghost use lib.ListN.{length, getD};
 ghost use Rattle.tables.specs.Letters.{builtIn};
 ghost use Rattle.reader.specs.Store.{putAll};
 ghost use Rattle.planning.specs.Cards.{cardsIn};
-ghost use Rattle.planning.specs.States.{judged};
+ghost use Rattle.planning.specs.States.{boardPlans};
 ghost use Rattle.planning.specs.Slips.{behindNumbers, boardNumbers, numbersFrom};
 ghost use Rattle.planning.specs.Plans.{BoardsTold};
-ghost use Rattle.planning.specs.Steps.{boardHere};
+ghost use Rattle.planning.specs.Steps.{planHere};
 use crate::behind::Behind;
 use crate::behind::behind_state;
 use crate::editions::Editions;
@@ -61,7 +61,7 @@ fn board_numbers(
     k: usize,
 ) -> [u64; 5]
     requires { ⌜ (64 * olds ≤ length (now «old_cards»)) × (64 * news ≤ length (now «new_cards»)) × (k < news) ⌝ }
-    ensures { λ r. ⌜ r ≡ boardNumbers (cardsIn olds (now («old_cards» .entry))) (cardsIn news (now («new_cards» .entry))) (boardHere (cardsIn olds (now («old_cards» .entry))) (cardsIn news (now («new_cards» .entry))) k (now («new_cards» .entry))) ⌝ }
+    ensures { λ r. ⌜ r ≡ boardNumbers (cardsIn olds (now («old_cards» .entry))) (cardsIn news (now («new_cards» .entry))) (planHere (cardsIn olds (now («old_cards» .entry))) (cardsIn news (now («new_cards» .entry))) k (now («new_cards» .entry))) ⌝ }
 {
     let s = state_of(old_cards, olds, new_cards, news, k);
     let b = behind_state(old_cards, olds, new_cards, news, (k + 1) as u64, s);
@@ -77,7 +77,7 @@ fn board_numbers(
 // Stores the five numbers of each board, as many as there is room for.
 fn put_boards(old_cards: &[u32], olds: usize, new_cards: &[u32], news: usize, numbers: &mut [u64])
     requires { ⌜ (64 * olds ≤ length (now «old_cards»)) × (64 * news ≤ length (now «new_cards»)) ⌝ }
-    ensures { λ _. ⌜ now (numbers .exit) ≡ putAll 5 (now (numbers .entry)) 0 (numbersFrom (cardsIn olds (now («old_cards» .entry))) (cardsIn news (now («new_cards» .entry))) (judged (cardsIn olds (now («old_cards» .entry))) (cardsIn news (now («new_cards» .entry))))) ⌝ }
+    ensures { λ _. ⌜ now (numbers .exit) ≡ putAll 5 (now (numbers .entry)) 0 (numbersFrom (cardsIn olds (now («old_cards» .entry))) (cardsIn news (now («new_cards» .entry))) (boardPlans (cardsIn olds (now («old_cards» .entry))) (cardsIn news (now («new_cards» .entry))))) ⌝ }
 {
     let mut k = 0;
     while k < news {

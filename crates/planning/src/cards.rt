@@ -2,7 +2,7 @@
 ghost use mathlib.Core.Path.{_≡_};
 ghost use Prim.Native.Nat.{_+_, _*_, _≤_, _<_};
 ghost use lib.ListN.{length, getD};
-ghost use Rattle.planning.specs.Cards.{dealOf, isWhole, hasTable, cardHere};
+ghost use Rattle.planning.specs.Cards.{cardDeal, isWhole, hasTable, cardHere};
 use reader::deal::HandWords;
 use reader::deal::hands_of_words;
 
@@ -17,7 +17,7 @@ pub fn word_of(cards: &[u32], k: usize, w: usize) -> u32
 // Its deal, words 10 to 17.
 pub fn deal_at(cards: &[u32], k: usize) -> HandWords
     requires { ⌜ 64 * k + 64 ≤ length (now cards) ⌝ }
-    ensures { λ r. ⌜ r .words ≡ dealOf (cardHere k (now (cards .entry))) ⌝ }
+    ensures { λ r. ⌜ r .words ≡ cardDeal (cardHere k (now (cards .entry))) ⌝ }
 {
     let at = 64 * k;
     HandWords {

@@ -6,10 +6,10 @@ ghost use lib.ListN.{length};
 ghost use Rattle.tables.specs.Letters.{builtIn};
 ghost use Rattle.reader.specs.Store.{put, putAll};
 ghost use Rattle.planning.specs.Cards.{cardHere, cardsIn};
-ghost use Rattle.planning.specs.States.{judged, isSolve};
+ghost use Rattle.planning.specs.States.{boardPlans, isSolve};
 ghost use Rattle.planning.specs.Slips.{slipOf, slipsOf, totalsOf};
 ghost use Rattle.planning.specs.Plans.{planNumber, planCarries, planEdition, IsPlanned};
-ghost use Rattle.planning.specs.Steps.{counted, Within, Kept, Settled, PlanFinished};
+ghost use Rattle.planning.specs.Steps.{counted, Within, BoxesKept, Settled, PlanEnded};
 use crate::cards::deal_at;
 use crate::editions::Editions;
 use crate::editions::EditionsRefusal;
@@ -43,9 +43,9 @@ pub enum PlanRefusal {
     SlipsShort(u64),
 }
 
-// Listed with the totals, or refused, which leaves all lent words zero.
-pub enum Planned {
-    Listed(Totals),
+// Planned with the totals, or refused, which leaves all lent words zero.
+pub enum Planning {
+    Planned(Totals),
     Refused(PlanRefusal),
 }
 
@@ -114,7 +114,7 @@ fn put_slip(slips: &mut [u64], n: usize, cards: &[u32], k: usize, s: BoardState)
 }
 
 // The totals of all boards of the new edition, and their slips.
-pub fn list_boards(
+pub fn put_slips(
     old_cards: &[u32],
     olds: usize,
     new_cards: &[u32],
@@ -122,7 +122,7 @@ pub fn list_boards(
     slips: &mut [u64],
 ) -> Totals
     requires { ⌜ (64 * olds ≤ length (now «old_cards»)) × (64 * news ≤ length (now «new_cards»)) ⌝ }
-    ensures { λ r. ⌜ (r ≡ totalsOf (judged (cardsIn olds (now («old_cards» .entry))) (cardsIn news (now («new_cards» .entry))))) × (now (slips .exit) ≡ putAll 5 (now (slips .entry)) 0 (slipsOf (judged (cardsIn olds (now («old_cards» .entry))) (cardsIn news (now («new_cards» .entry)))))) ⌝ }
+    ensures { λ r. ⌜ (r ≡ totalsOf (boardPlans (cardsIn olds (now («old_cards» .entry))) (cardsIn news (now («new_cards» .entry))))) × (now (slips .exit) ≡ putAll 5 (now (slips .entry)) 0 (slipsOf (boardPlans (cardsIn olds (now («old_cards» .entry))) (cardsIn news (now («new_cards» .entry)))))) ⌝ }
 {
     let mut t = Totals {
         boards: 0,
@@ -146,10 +146,10 @@ pub fn list_boards(
 // How many boards of the new edition are in each state: their totals alone, with no slip lent.
 pub fn count_boards(old_cards: &[u32], olds: usize, new_cards: &[u32], news: usize) -> Totals
     requires { ⌜ (64 * olds ≤ length (now «old_cards»)) × (64 * news ≤ length (now «new_cards»)) ⌝ }
-    ensures { λ r. ⌜ r ≡ totalsOf (judged (cardsIn olds (now («old_cards» .entry))) (cardsIn news (now («new_cards» .entry)))) ⌝ }
+    ensures { λ r. ⌜ r ≡ totalsOf (boardPlans (cardsIn olds (now («old_cards» .entry))) (cardsIn news (now («new_cards» .entry)))) ⌝ }
 {
     let mut none = [0u64; 0];
-    list_boards(old_cards, olds, new_cards, news, &mut none)
+    put_slips(old_cards, olds, new_cards, news, &mut none)
 }
 
 // Sets all cards and entries to 0.
@@ -159,7 +159,7 @@ pub fn zero_boxes(
     new_cards: &mut [u32],
     new_entries: &mut [u32],
 )
-    ensures { λ _. ⌜ Kept false
+    ensures { λ _. ⌜ BoxesKept false
         (record { old-cards = now («old_cards» .entry); old-entries = now («old_entries» .entry); new-cards = now («new_cards» .entry); new-entries = now («new_entries» .entry) })
         (record { old-cards = now («old_cards» .exit); old-entries = now («old_entries» .exit); new-cards = now («new_cards» .exit); new-entries = now («new_entries» .exit) })
         ⌝ }
@@ -178,7 +178,7 @@ pub fn settle(
     new_entries: &mut [u32],
     room: usize,
     t: Totals,
-) -> Planned
+) -> Planning
     ensures { λ r. ⌜ Settled
         (record { old-cards = now («old_cards» .entry); old-entries = now («old_entries» .entry); new-cards = now («new_cards» .entry); new-entries = now («new_entries» .entry) })
         room t r
@@ -188,9 +188,9 @@ pub fn settle(
     let solve = t.solve;
     if (room as u64) < solve {
         zero_boxes(old_cards, old_entries, new_cards, new_entries);
-        return Planned::Refused(PlanRefusal::SlipsShort(solve));
+        return Planning::Refused(PlanRefusal::SlipsShort(solve));
     }
-    Planned::Listed(t)
+    Planning::Planned(t)
 }
 
 // The answer for the totals; all lent words are set to 0 where it is a refusal.
@@ -201,8 +201,8 @@ pub fn finish_plan(
     new_entries: &mut [u32],
     slips: &mut [u64],
     t: Totals,
-) -> Planned
-    ensures { λ r. ⌜ PlanFinished
+) -> Planning
+    ensures { λ r. ⌜ PlanEnded
         (record { old-cards = now («old_cards» .entry); old-entries = now («old_entries» .entry); new-cards = now («new_cards» .entry); new-entries = now («new_entries» .entry) })
         (now (slips .entry)) t r
         (record { old-cards = now («old_cards» .exit); old-entries = now («old_entries» .exit); new-cards = now («new_cards» .exit); new-entries = now («new_entries» .exit) })
@@ -217,8 +217,8 @@ pub fn finish_plan(
         t,
     );
     match p {
-        Planned::Listed(_) => p,
-        Planned::Refused(_) => {
+        Planning::Planned(_) => p,
+        Planning::Refused(_) => {
             zero_numbers(slips);
             p
         }
@@ -235,7 +235,7 @@ pub fn plan_with(
     new_cards: &mut [u32],
     new_entries: &mut [u32],
     slips: &mut [u64],
-) -> Planned
+) -> Planning
     ensures { λ r. ⌜ IsPlanned c (now (old .entry)) (now (new .entry))
         (record { old-cards = now («old_cards» .entry); old-entries = now («old_entries» .entry); new-cards = now («new_cards» .entry); new-entries = now («new_entries» .entry) })
         (now (slips .entry))
@@ -244,9 +244,9 @@ pub fn plan_with(
 {
     zero_numbers(slips);
     match read_both(c, old, new, old_cards, old_entries, new_cards, new_entries) {
-        Editions::Refused(f) => Planned::Refused(PlanRefusal::Edition(f)),
+        Editions::Refused(f) => Planning::Refused(PlanRefusal::Edition(f)),
         Editions::Both(olds, news) => {
-            let t = list_boards(old_cards, olds as usize, new_cards, news as usize, slips);
+            let t = put_slips(old_cards, olds as usize, new_cards, news as usize, slips);
             finish_plan(old_cards, old_entries, new_cards, new_entries, slips, t)
         }
     }
@@ -261,7 +261,7 @@ pub fn plan(
     new_cards: &mut [u32],
     new_entries: &mut [u32],
     slips: &mut [u64],
-) -> Planned
+) -> Planning
     ensures { λ r. ⌜ IsPlanned builtIn (now (old .entry)) (now (new .entry))
         (record { old-cards = now («old_cards» .entry); old-entries = now («old_entries» .entry); new-cards = now («new_cards» .entry); new-entries = now («new_entries» .entry) })
         (now (slips .entry))

@@ -5,14 +5,14 @@ ghost use Prim.Native.Nat.{_+_, _*_, _≤_};
 ghost use lib.ListN.{length};
 ghost use Rattle.reader.specs.Words.{same};
 ghost use Rattle.reader.specs.Deals.{wholeHands, handsOfWords};
-ghost use Rattle.planning.specs.Cards.{dealOf, fits, cardsIn, cardHere};
+ghost use Rattle.planning.specs.Cards.{cardDeal, fits, cardsIn, cardHere};
 ghost use Rattle.planning.specs.States.{firstWith};
 use reader::deal::HandWords;
 
 // Are these the words of the deal of the card at index k? They are compared in order, up to the first that differs.
 fn same_deal(cards: &[u32], k: usize, words: &[u32]) -> bool
     requires { ⌜ (64 * k + 64 ≤ length (now cards)) × (length (now words) ≡ 8) ⌝ }
-    ensures { λ r. ⌜ r ≡ same (now (words .entry)) (dealOf (cardHere k (now (cards .entry)))) ⌝ }
+    ensures { λ r. ⌜ r ≡ same (now (words .entry)) (cardDeal (cardHere k (now (cards .entry)))) ⌝ }
 {
     let at = 64 * k + 10;
     let mut i = 0;

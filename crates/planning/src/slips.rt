@@ -3,7 +3,7 @@ ghost use mathlib.Core.Path.{_≡_};
 ghost use Prim.Native.Nat.{_+_, _*_, _≤_, _<_};
 ghost use lib.ListN.{length};
 ghost use Rattle.tables.specs.Letters.{builtIn};
-ghost use Rattle.planning.specs.declared.plan.Planned.the-variants.{Refused};
+ghost use Rattle.planning.specs.declared.plan.Planning.the-variants.{Refused};
 ghost use Rattle.planning.specs.Cards.{cardHere};
 ghost use Rattle.planning.specs.Slips.{slipStruct, slipNumbers};
 ghost use Rattle.planning.specs.Plans.{IsPlanned};
@@ -11,7 +11,7 @@ ghost use Rattle.planning.specs.Fills.{nextOf, filledFrom, IsCounted};
 use crate::editions::Editions;
 use crate::editions::read_both;
 use crate::plan::PlanRefusal;
-use crate::plan::Planned;
+use crate::plan::Planning;
 use crate::plan::count_boards;
 use crate::plan::settle;
 use crate::plan::slip_of;
@@ -37,7 +37,7 @@ pub struct NextSlip {
 
 // What planning answers, and how many cards of each edition the slips are of: none after a refusal.
 pub struct Counted {
-    pub answer: Planned,
+    pub answer: Planning,
     pub olds: usize,
     pub news: usize,
 }
@@ -112,7 +112,7 @@ pub fn fill_slips(
 fn refused(f: PlanRefusal) -> Counted
     ensures { λ r. ⌜ r ≡ record { answer = Refused f; olds = 0; news = 0 } ⌝ }
 {
-    let answer = Planned::Refused(f);
+    let answer = Planning::Refused(f);
     Counted {
         answer,
         olds: 0,
@@ -143,8 +143,8 @@ pub fn plan_counted(
             let t = count_boards(old_cards, olds as usize, new_cards, news as usize);
             let answer = settle(old_cards, old_entries, new_cards, new_entries, room, t);
             match answer {
-                Planned::Refused(f) => refused(f),
-                Planned::Listed(_) => Counted {
+                Planning::Refused(f) => refused(f),
+                Planning::Planned(_) => Counted {
                     answer,
                     olds: olds as usize,
                     news: news as usize,
@@ -164,7 +164,7 @@ pub fn plan_slips_with(
     new_cards: &mut [u32],
     new_entries: &mut [u32],
     slips: &mut [Slip],
-) -> Planned
+) -> Planning
     ensures { λ r. ⌜ IsPlanned c (now (old .entry)) (now (new .entry))
         (record { old-cards = now («old_cards» .entry); old-entries = now («old_entries» .entry); new-cards = now («new_cards» .entry); new-entries = now («new_entries» .entry) })
         (slipNumbers (now (slips .entry)))
@@ -194,7 +194,7 @@ pub fn plan_slips(
     new_cards: &mut [u32],
     new_entries: &mut [u32],
     slips: &mut [Slip],
-) -> Planned
+) -> Planning
     ensures { λ r. ⌜ IsPlanned builtIn (now (old .entry)) (now (new .entry))
         (record { old-cards = now («old_cards» .entry); old-entries = now («old_entries» .entry); new-cards = now («new_cards» .entry); new-entries = now («new_entries» .entry) })
         (slipNumbers (now (slips .entry)))

@@ -4,7 +4,7 @@ ghost use Prim.Native.Nat.{_*_, _≤_, _<_};
 ghost use lib.ListN.{length};
 ghost use Rattle.tables.specs.Letters.{builtIn};
 ghost use Rattle.planning.specs.Cards.{cardsIn};
-ghost use Rattle.planning.specs.States.{judged, stateAt};
+ghost use Rattle.planning.specs.States.{boardPlans, stateAt};
 ghost use Rattle.planning.specs.Plans.{StateTold};
 use crate::editions::Editions;
 use crate::editions::read_both;
@@ -22,7 +22,7 @@ pub struct StateAnswer {
 // The state of the board at the position p; blank outside 1 to news.
 fn state_in(old_cards: &[u32], olds: usize, new_cards: &[u32], news: usize, p: u64) -> BoardState
     requires { ⌜ (64 * olds ≤ length (now «old_cards»)) × (64 * news ≤ length (now «new_cards»)) ⌝ }
-    ensures { λ r. ⌜ r ≡ stateAt (judged (cardsIn olds (now («old_cards» .entry))) (cardsIn news (now («new_cards» .entry)))) p ⌝ }
+    ensures { λ r. ⌜ r ≡ stateAt (boardPlans (cardsIn olds (now («old_cards» .entry))) (cardsIn news (now («new_cards» .entry)))) p ⌝ }
 {
     if p == 0 {
         return BoardState::Blank;

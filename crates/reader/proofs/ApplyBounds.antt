@@ -14,7 +14,7 @@ use Rattle.tables.specs.declared.numbers.Number.the-variants.{Value, Bad}
 use Rattle.tables.specs.Text.{trimmed, firstCharacter, characters, front, differs}
 use Rattle.tables.specs.Numbers.{digitsFrom, within, someDigits, numberOf, raised, lowered, signedOf}
 use Rattle.tables.specs.Letters.{every, seatOf, strainOf, capital}
-use Rattle.tables.specs.Tables.{Reading, holds, refuses, digitOf, firstBad, digitsChecked, digitsReading, tableOfDigits}
+use Rattle.tables.specs.Tables.{TableReading, holds, refuses, digitOf, firstBad, digitsChecked, digitsReading, tableOfDigits}
 use Rattle.tables.specs.declared.refusal.Refusal.the-variants.{Length}
 use Rattle.tables.proofs.Laws.{by-cases}
 use Rattle.tables.proofs.TextLaws.{front-few}
@@ -202,7 +202,7 @@ record Twenty (cells : List ℕ) : Type 0 where
   twenty : length cells ≡ 20
   low : every isTricks cells ≡ true
 
-abbrev TwentyIn : Reading → Type 0
+abbrev TwentyIn : TableReading → Type 0
 TwentyIn (holds cells) = Twenty cells
 TwentyIn (refuses f) = Unit {0}
 
@@ -225,7 +225,7 @@ digits-twenty value = go (characters (trimmed value)) (eqb (length (characters (
     go xs true e = checked xs (firstBad xs 0) refl (eqb-true (length xs) 20 e)
     go xs false e = tt
 
-digits-kept : (r : Reading) → TwentyIn r → TableKept (digitsTable r)
+digits-kept : (r : TableReading) → TwentyIn r → TableKept (digitsTable r)
 digits-kept (holds cells) e = record { kind-low = omega arith; twenty = e .twenty; cells-low = e .low; none-zero = λ k. absurd (omega arith) }
 digits-kept (refuses f) e = record { kind-low = omega arith; twenty = refl; cells-low = refl; none-zero = λ k. refl }
 

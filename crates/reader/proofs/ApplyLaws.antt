@@ -14,7 +14,7 @@ use Rattle.tables.specs.declared.dd.Decoded.the-variants.{Table, Refused}
 use Rattle.tables.specs.declared.dd.TableRead.{TableRead}
 use Rattle.tables.specs.Text.{trimmed, firstCharacter}
 use Rattle.tables.specs.Letters.{seatOf}
-use Rattle.tables.specs.Tables.{Reading, holds, refuses, tableRead, tableOfDigits}
+use Rattle.tables.specs.Tables.{TableReading, holds, refuses, tableRead, tableOfDigits}
 use Rattle.reader.specs.declared.deal.Hands.{Hands}
 use Rattle.reader.specs.declared.deal.DealRead.{DealRead}
 use Rattle.reader.specs.declared.deal.DealRead.the-variants.{Dealt, NoDeal}
@@ -300,11 +300,11 @@ applied-places P c k value place b p a =
 
 -- ---- the digits of a table, as they are answered
 
-pub digits-table : (x : Reading) (r : TableRead) → r ≡ tableRead x → r .answer ≡ Table → digitsTable x ≡ record { kind = 1; cells = r .table }
+pub digits-table : (x : TableReading) (r : TableRead) → r ≡ tableRead x → r .answer ≡ Table → digitsTable x ≡ record { kind = 1; cells = r .table }
 digits-table (holds cells) r e t = rw e
 digits-table (refuses f) r e t = let z : _≡_ {A = ℕ} 0 1 = cc in absurd (omega arith)
 
-pub digits-refused : (x : Reading) (r : TableRead) (f : Refusal) → r ≡ tableRead x → r .answer ≡ Refused f → digitsTable x ≡ record { kind = 0; cells = r .table }
+pub digits-refused : (x : TableReading) (r : TableRead) (f : Refusal) → r ≡ tableRead x → r .answer ≡ Refused f → digitsTable x ≡ record { kind = 0; cells = r .table }
 digits-refused (holds cells) r f e t = let z : _≡_ {A = ℕ} 0 1 = cc in absurd (omega arith)
 digits-refused (refuses g) r f e t = rw e
 

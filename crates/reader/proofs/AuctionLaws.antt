@@ -67,10 +67,10 @@ passes-out a n b p len {l} {l₁} {l₂} {l₃} {r} e₁ e₂ e₃ er =
     let q : n + 2 ≡ n + 1 + 1 = omega arith in
     (record { answer = er; words = e₃ ∙ rw (e₂, e₁, q) }, omega (arith, count-of er))
 
-pub call-noted : (a n : ℕ) (b : Bidding) (p len k code : ℕ) {l l₁ l₂ : List ℕ} {r : Bidding} → k < len
+pub call-annotated : (a n : ℕ) (b : Bidding) (p len k code : ℕ) {l l₁ l₂ : List ℕ} {r : Bidding} → k < len
     → l₁ ≡ put 4 l n (entryWords a (entry 6 p k code)) → l₂ ≡ put 4 l₁ (n + 1) (entryWords a (entry 7 (p + k) (len - k) 0))
     → r ≡ bidding true (b .end) false (b .count + 2) → Emits a n l l₂ r (callOut b p len k code) × (r .count ≤ b .count + 3)
-call-noted a n b p len k code {l} {l₁} {l₂} {r} h e₁ e₂ er =
+call-annotated a n b p len k code {l} {l₁} {l₂} {r} h e₁ e₂ er =
     let z : ltb 0 (len - k) ≡ true = lt-ltb 0 (len - k) (omega arith) in
     (record { answer = rw z er; words = rw z (e₂ ∙ rw e₁) }, omega (arith, count-of er))
 
@@ -95,10 +95,10 @@ module _ (c : Conventions) (b : Bidding) (t : Piece) (a n : ℕ) where
       → r ≡ bidding (b .made) 2 true (b .count) → Emits a n l l r (called c b t) × (r .count ≤ b .count + 3)
   step-star s e er = (rw (called-by c b t s e) (record { answer = er; words = refl }), omega (arith, count-of er))
 
-  pub step-note : {l l′ : List ℕ} {r : Bidding} → b .stopped ≡ false → callTokenOf c (t .bytes) ≡ Annotation → b .made ≡ true
+  pub step-annotation : {l l′ : List ℕ} {r : Bidding} → b .stopped ≡ false → callTokenOf c (t .bytes) ≡ Annotation → b .made ≡ true
       → l′ ≡ put 4 l n (entryWords a (entry 7 (t .at) (length (t .bytes)) 0)) → r ≡ bidding true (b .end) false (b .count + 1)
       → Emits a n l l′ r (called c b t) × (r .count ≤ b .count + 3)
-  step-note s e m ew er = (rw (called-by c b t s e, m) (record { answer = er; words = ew }), omega (arith, count-of er))
+  step-annotation s e m ew er = (rw (called-by c b t s e, m) (record { answer = er; words = ew }), omega (arith, count-of er))
 
   pub step-lost : {l : List ℕ} {r : Bidding} → b .stopped ≡ false → callTokenOf c (t .bytes) ≡ Annotation → b .made ≡ false
       → r ≡ bidding false (b .end) false (b .count) → Emits a n l l r (called c b t) × (r .count ≤ b .count + 3)
@@ -146,8 +146,8 @@ none-fits t = record { few = omega arith; inside = none }
 one-fits : (t : Piece) (kind n z : ℕ) → (eqb kind 6 || eqb kind 7) ≡ true → n ≤ length (t .bytes) → 0 < length (t .bytes) → Fits t (entry kind (t .at) n z ∷ [])
 one-fits t kind n z e h s = record { few = omega arith; inside = one {x = entry kind (t .at) n z} (record { placed = e; starts = omega arith; ends = omega arith }) none }
 
-noted-inside : (t : Piece) (k : ℕ) → k ≤ length (t .bytes) → All (Inside (t .at) (t .at + length (t .bytes))) (annotation (t .at + k) (length (t .bytes) - k))
-noted-inside t k h =
+annotated-inside : (t : Piece) (k : ℕ) → k ≤ length (t .bytes) → All (Inside (t .at) (t .at + length (t .bytes))) (annotation (t .at + k) (length (t .bytes) - k))
+annotated-inside t k h =
     chosen (λ es. All (Inside (t .at) (t .at + length (t .bytes))) es) (ltb 0 (length (t .bytes) - k)) (entry 7 (t .at + k) (length (t .bytes) - k) 0 ∷ []) []
     (λ e. one (record { placed = refl; starts = omega arith; ends = omega arith }) none)
     none
@@ -161,7 +161,7 @@ call-fits : (t : Piece) (k code : ℕ) → k ≤ length (t .bytes) → 0 < lengt
 call-fits t k code h s =
     record {
       few = omega (arith, annotation-few (t .at + k) (length (t .bytes) - k));
-      inside = one {x = entry 6 (t .at) k code} (record { placed = refl; starts = omega arith; ends = omega arith }) (noted-inside t k h);
+      inside = one {x = entry 6 (t .at) k code} (record { placed = refl; starts = omega arith; ends = omega arith }) (annotated-inside t k h);
     }
 
 token-fits : (c : Conventions) (b : Bidding) (t : Piece) → 0 < length (t .bytes) → Fits t (calledBy (callTokenOf c (t .bytes)) b t .entries)

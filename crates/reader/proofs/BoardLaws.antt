@@ -20,7 +20,7 @@ use Rattle.reader.specs.Lines.{lineKind, hasBrace, lastBrace}
 use Rattle.tables.specs.Text.{lead}
 use Rattle.reader.specs.Sections.{walkedAll}
 use Rattle.reader.specs.Pieces.{Out, andThen, rawLines}
-use Rattle.reader.specs.Boards.{noSpan, at, closedBy, closed, tagged, directed, dated, readBy, readTag, noted, blocked, braced, inNote, lineBy, lineOut, linesOut, noState, recordOut}
+use Rattle.reader.specs.Boards.{noSpan, at, closedBy, closed, tagged, directed, dataAdded, readBy, tagLineOut, withCommentary, blocked, braced, inCommentary, lineBy, lineOut, linesOut, noState, recordOut}
 
 -- A step from s that counts its entries.
 abbrev pub Counts : State → Out State → Type 0
@@ -48,10 +48,10 @@ tagged-counts c s p l q t d = refl
 read-counts : (c : Conventions) (s : State) (p : ℕ) (l : List ℕ) (q : ℕ) (t : TagReading) → Counts s (readBy c s p l q t)
 read-counts c s p l q (Plain t) = tagged-counts c s p l q t noSpan
 read-counts c s p l q (WithComment t d) = counts-then s (tagged c s p l q t noSpan) (directed (tagged c s p l q t noSpan .state) p d) (tagged-counts c s p l q t noSpan) refl
-read-counts c s p l q (WithData t d) = counts-then s (tagged c s p l q t (at p d)) (dated (tagged c s p l q t (at p d) .state) p d) (tagged-counts c s p l q t (at p d)) refl
+read-counts c s p l q (WithData t d) = counts-then s (tagged c s p l q t (at p d)) (dataAdded (tagged c s p l q t (at p d) .state) p d) (tagged-counts c s p l q t (at p d)) refl
 
-tag-counts : (c : Conventions) (r : List ℕ) (s : State) (p : ℕ) (l : List ℕ) (t : TagReading) → Counts s (readTag c r s p l t)
-unfolding readTag
+tag-counts : (c : Conventions) (r : List ℕ) (s : State) (p : ℕ) (l : List ℕ) (t : TagReading) → Counts s (tagLineOut c r s p l t)
+unfolding tagLineOut
 tag-counts c r s p l t = counts-then s (closed c r s) (readBy c (closed c r s .state) p l (p + length l) t) (closed-counts c r s) (read-counts c (closed c r s .state) p l (p + length l) t)
 
 blocked-counts : (r : List ℕ) (s : State) (i j : ℕ) → Counts s (blocked r s i j)
@@ -62,12 +62,12 @@ braced-counts : (r : List ℕ) (s : State) (p : ℕ) (l : List ℕ) → Counts s
 unfolding braced
 braced-counts r s p l =
     let o = blocked r s (p + length (lead l) + 1) (p + lastBrace l) in
-    let t = noted s true (p + length (lead l) + 1) in
+    let t = withCommentary s true (p + length (lead l) + 1) in
     counts-cond (hasBrace l) s o (record { state = t; entries = [] }) (blocked-counts r s (p + length (lead l) + 1) (p + lastBrace l)) (counts-none s t refl)
 
-note-counts : (r : List ℕ) (s : State) (p : ℕ) (l : List ℕ) → Counts s (inNote r s p l)
-unfolding inNote
-note-counts r s p l =
+commentary-counts : (r : List ℕ) (s : State) (p : ℕ) (l : List ℕ) → Counts s (inCommentary r s p l)
+unfolding inCommentary
+commentary-counts r s p l =
     counts-cond (hasBrace l) s (blocked r s (s .block) (p + lastBrace l)) (record { state = s; entries = [] }) (blocked-counts r s (s .block) (p + lastBrace l)) (counts-none s s refl)
 
 by-counts : (c : Conventions) (r : List ℕ) (s : State) (p : ℕ) (l : List ℕ) (k : Line) → Counts s (lineBy c r s p l k)
@@ -80,7 +80,7 @@ by-counts c r s p l (Data d) = refl
 
 pub line-counts : (c : Conventions) (r : List ℕ) (s : State) (p : ℕ) (l : List ℕ) → Counts s (lineOut c r s p l)
 unfolding lineOut
-line-counts c r s p l = counts-cond (s .noting) s (inNote r s p l) (lineBy c r s p l (lineKind l)) (note-counts r s p l) (by-counts c r s p l (lineKind l))
+line-counts c r s p l = counts-cond (s .commentary) s (inCommentary r s p l) (lineBy c r s p l (lineKind l)) (commentary-counts r s p l) (by-counts c r s p l (lineKind l))
 
 pub lines-counts : (c : Conventions) (r : List ℕ) (s : State) (p : ℕ) (ls : List (List ℕ)) → Counts s (linesOut c r s p ls)
 lines-counts c r s p [] = closed-counts c r s

@@ -11,7 +11,7 @@ use lib.ListN.{length, length-append}
 use borrow.Author.Tests.{eqb-true}
 use Rattle.tables.specs.declared.letters.Conventions.{Conventions}
 use Rattle.tables.specs.Text.{lead}
-use Rattle.tables.specs.Tables.{Reading, holds, refuses, gathered}
+use Rattle.tables.specs.Tables.{TableReading, holds, refuses, gathered}
 use Rattle.tables.proofs.Laws.{either}
 use Rattle.reader.specs.declared.store.Entry.{Entry}
 use Rattle.reader.specs.declared.tag.Span.{Span}
@@ -32,7 +32,7 @@ use Rattle.reader.specs.Names.{tagNumber}
 use Rattle.reader.specs.Pieces.{Piece, Out, andThen, entry, rawLines}
 use Rattle.reader.specs.Play.{lastTrick}
 use Rattle.reader.specs.Sections.{walked, noWalk, walkedAll, sectionData}
-use Rattle.reader.specs.Boards.{applied, withSections, rowsClosed, boardClosed, closedEntries, closedBy, closed, noSpan, at, tagged, directed, dated, readBy, readTag, noted, blocked, braced, inNote, lineBy, lineOut, linesOut, noBoard, noState, recordOut, isAllWhite}
+use Rattle.reader.specs.Boards.{applied, withSections, rowsClosed, boardClosed, closedEntries, closedBy, closed, noSpan, at, tagged, directed, dataAdded, readBy, tagLineOut, withCommentary, blocked, braced, inCommentary, lineBy, lineOut, linesOut, noBoard, noState, recordOut, isAllWhite}
 use Rattle.reader.specs.Fellows.{Stands}
 use Rattle.reader.proofs.EntryLaws.{All, none, one, all-append, all-map, Inside, out-all, out-count}
 use Rattle.reader.proofs.AuctionLaws.{CallsInside, calls-counted}
@@ -131,7 +131,7 @@ closed-kept b o n w es new h calls tricks = go (eqb (o .kind) 1) refl (eqb (o .k
     play : Section
     play = record { first = n + 1; count = lastTrick (w .tricks) .state .count; seat = o .seat; end = w .tricks .end }
 
-    rows : (x : Reading) → Kept (es ++ new) (n + length new) (rowsClosed b x)
+    rows : (x : TableReading) → Kept (es ++ new) (n + length new) (rowsClosed b x)
     rows (holds cells) = record { counted = grown .counted; placed = record { values = grown .placed .values; auction = grown .placed .auction; play = grown .placed .play } }
     rows (refuses f) = grown
 
@@ -241,10 +241,10 @@ reading-keeps c s p l q (WithComment t d) =
     keeps-then s o (directed (o .state) p d) (tagged-keeps c s p l q t noSpan) (λ es h. kept-grows (directed (o .state) p d .entries) h)
 reading-keeps c s p l q (WithData t d) =
     let o = tagged c s p l q t (at p d) in
-    keeps-then s o (dated (o .state) p d) (tagged-keeps c s p l q t (at p d)) (λ es h. kept-grows (dated (o .state) p d .entries) h)
+    keeps-then s o (dataAdded (o .state) p d) (tagged-keeps c s p l q t (at p d)) (λ es h. kept-grows (dataAdded (o .state) p d .entries) h)
 
-tag-keeps : (c : Conventions) (r : List ℕ) (s : State) (p : ℕ) (l : List ℕ) (t : TagReading) → Keeps s (readTag c r s p l t)
-unfolding readTag
+tag-keeps : (c : Conventions) (r : List ℕ) (s : State) (p : ℕ) (l : List ℕ) (t : TagReading) → Keeps s (tagLineOut c r s p l t)
+unfolding tagLineOut
 tag-keeps c r s p l t =
     keeps-then s (closed c r s) (readBy c (closed c r s .state) p l (p + length l) t) (closed-keeps c r s) (reading-keeps c (closed c r s .state) p l (p + length l) t)
 
@@ -252,9 +252,9 @@ blocked-keeps : (r : List ℕ) (s : State) (i j : ℕ) → Keeps s (blocked r s 
 unfolding blocked
 blocked-keeps r s i j es h = kept-grows (cond (isAllWhite r i j) [] (entry 4 i (j - i) (s .tags) ∷ [])) h
 
-note-keeps : (r : List ℕ) (s : State) (p : ℕ) (l : List ℕ) → Keeps s (inNote r s p l)
-unfolding inNote
-note-keeps r s p l =
+commentary-keeps : (r : List ℕ) (s : State) (p : ℕ) (l : List ℕ) → Keeps s (inCommentary r s p l)
+unfolding inCommentary
+commentary-keeps r s p l =
     chosen (Keeps s) (hasBrace l) (blocked r s (s .block) (p + lastBrace l)) (record { state = s; entries = [] })
     (λ e. blocked-keeps r s (s .block) (p + lastBrace l))
     (λ e. keeps-none s s refl refl)
@@ -262,7 +262,7 @@ note-keeps r s p l =
 brace-keeps : (r : List ℕ) (s : State) (p : ℕ) (l : List ℕ) → Keeps s (braced r s p l)
 unfolding braced
 brace-keeps r s p l =
-    let t = noted s true (p + length (lead l) + 1) in
+    let t = withCommentary s true (p + length (lead l) + 1) in
     chosen (Keeps s) (hasBrace l) (blocked r s (p + length (lead l) + 1) (p + lastBrace l)) (record { state = t; entries = [] })
     (λ e. blocked-keeps r s (p + length (lead l) + 1) (p + lastBrace l))
     (λ e. keeps-none s t refl refl)
@@ -273,12 +273,12 @@ kind-keeps c r s p l Brace = brace-keeps r s p l
 kind-keeps c r s p l (Directive d) = λ es h. kept-grows (directed s p d .entries) h
 kind-keeps c r s p l (TagOn t) = tag-keeps c r s p l t
 kind-keeps c r s p l Bracket = keeps-none s s refl refl
-kind-keeps c r s p l (Data d) = λ es h. kept-grows (dated s p d .entries) h
+kind-keeps c r s p l (Data d) = λ es h. kept-grows (dataAdded s p d .entries) h
 
 line-keeps : (c : Conventions) (r : List ℕ) (s : State) (p : ℕ) (l : List ℕ) → Keeps s (lineOut c r s p l)
 unfolding lineOut
 line-keeps c r s p l =
-    chosen (Keeps s) (s .noting) (inNote r s p l) (lineBy c r s p l (lineKind l)) (λ e. note-keeps r s p l) (λ e. kind-keeps c r s p l (lineKind l))
+    chosen (Keeps s) (s .commentary) (inCommentary r s p l) (lineBy c r s p l (lineKind l)) (λ e. commentary-keeps r s p l) (λ e. kind-keeps c r s p l (lineKind l))
 
 -- ---- the lines of a record
 

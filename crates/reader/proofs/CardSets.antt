@@ -13,7 +13,7 @@ use lib.Count as Count
 use Rattle.tables.proofs.Laws.{by-cases, both, clash}
 use Rattle.reader.specs.declared.deal.HandRead.{HandRead}
 use Rattle.reader.specs.declared.deal.HandRead.the-variants.{Held, NoHand}
-use Rattle.reader.specs.Deals.{bit, has, total, ones, cardCount, place}
+use Rattle.reader.specs.Deals.{bit, has, handBits, ones, cardCount, place}
 
 -- ---- bits
 
@@ -142,14 +142,14 @@ times-distinct (k ∷ ks) h =
     tail i = by-cases (eqb k i) (λ t. omega (arith, rw t at (h i))) (λ t. rw t at (h i))
 
 -- The bits of distinct cards' number are the cards.
-pub bit-total : (ks : List ℕ) → distinct ks ≡ true → (i : ℕ) → bit i (total ks) ≡ times i ks
+pub bit-total : (ks : List ℕ) → distinct ks ≡ true → (i : ℕ) → bit i (handBits ks) ≡ times i ks
 bit-total [] e i = bit-zero i
 bit-total (k ∷ ks) e i =
     let h = both (not (among k ks)) (distinct ks) e in
     let z : times k ks ≡ 0 = among-times k ks (not-true (among k ks) (h .0)) in
-    let o : bit k (total ks) ≡ 0 = bit-total ks (h .1) k ∙ z in
-    let s : 2 ^ k + total ks ≡ total ks + 2 ^ k = omega arith in
-    rw (s, bit-add k i (total ks) o)
+    let o : bit k (handBits ks) ≡ 0 = bit-total ks (h .1) k ∙ z in
+    let s : 2 ^ k + handBits ks ≡ handBits ks + 2 ^ k = omega arith in
+    rw (s, bit-add k i (handBits ks) o)
     (by-cases (eqb k i)
     (λ t.
     let q = eqb-true k i t in
@@ -169,17 +169,17 @@ pub distinct-back : (a b : List ℕ) → distinct (a ++ b) ≡ true → distinct
 distinct-back a b e = times-distinct b (λ i. omega (arith, distinct-times (a ++ b) e i, times-append i a b))
 
 -- The first of distinct cards is not in the others' number.
-first-off : (k : ℕ) (ks : List ℕ) → distinct (k ∷ ks) ≡ true → bit k (total ks) ≡ 0
+first-off : (k : ℕ) (ks : List ℕ) → distinct (k ∷ ks) ≡ true → bit k (handBits ks) ≡ 0
 first-off k ks e =
     let h = both (not (among k ks)) (distinct ks) e in
     bit-total ks (h .1) k ∙ among-times k ks (not-true (among k ks) (h .0))
 
-pub total-below : (ks : List ℕ) → distinct ks ≡ true → every inPack ks ≡ true → total ks < 2 ^ 52
+pub total-below : (ks : List ℕ) → distinct ks ≡ true → every inPack ks ≡ true → handBits ks < 2 ^ 52
 total-below [] e f = omega arith
 total-below (k ∷ ks) e f =
     let h = both (not (among k ks)) (distinct ks) e in
     let g = both (inPack k) (every inPack ks) f in
-    omega (arith, add-below 52 k (total ks) (ltb-true k 52 (g .0)) (total-below ks (h .1) (g .1)) (first-off k ks e))
+    omega (arith, add-below 52 k (handBits ks) (ltb-true k 52 (g .0)) (total-below ks (h .1) (g .1)) (first-off k ks e))
 
 ones-add : (n k x : ℕ) → k < n → bit k x ≡ 0 → ones n (x + 2 ^ k) ≡ ones n x + 1
 unfolding ones
@@ -197,15 +197,15 @@ ones-zero zero = refl
 ones-zero (suc n) = rw (ones-zero n)
 
 -- A number of distinct cards has as many.
-pub count-total : (ks : List ℕ) → distinct ks ≡ true → every inPack ks ≡ true → cardCount (total ks) ≡ length ks
+pub count-total : (ks : List ℕ) → distinct ks ≡ true → every inPack ks ≡ true → cardCount (handBits ks) ≡ length ks
 unfolding cardCount
 count-total [] e f = ones-zero 64
 count-total (k ∷ ks) e f =
     let h = both (not (among k ks)) (distinct ks) e in
     let g = both (inPack k) (every inPack ks) f in
     let l = ltb-true k 52 (g .0) in
-    let s : 2 ^ k + total ks ≡ total ks + 2 ^ k = omega arith in
-    rw (s, ones-add 64 k (total ks) (omega arith) (first-off k ks e), count-total ks (h .1) (g .1)) (omega arith)
+    let s : 2 ^ k + handBits ks ≡ handBits ks + 2 ^ k = omega arith in
+    rw (s, ones-add 64 k (handBits ks) (omega arith) (first-off k ks e), count-total ks (h .1) (g .1)) (omega arith)
 
 -- ---- cards placed one after the other
 
@@ -229,10 +229,10 @@ swap true q r = refl
 swap false true r = refl
 swap false false r = refl
 
-place-is : (x : ℕ) (ks : List ℕ) → place x ks ≡ cond (free x ks && distinct ks) (Held (x + total ks)) NoHand
+place-is : (x : ℕ) (ks : List ℕ) → place x ks ≡ cond (free x ks && distinct ks) (Held (x + handBits ks)) NoHand
 place-is x [] = rw add-zero
 place-is x (k ∷ ks) =
-    let a : x + 2 ^ k + total ks ≡ x + (2 ^ k + total ks) = omega arith in
+    let a : x + 2 ^ k + handBits ks ≡ x + (2 ^ k + handBits ks) = omega arith in
     by-cases (has k x) (λ e. rw e) (λ e. rw (e, place-is (x + 2 ^ k) ks, free-add k x ks e, swap (not (among k ks)) (free x ks) (distinct ks), a))
 
 free-zero : (ks : List ℕ) → free 0 ks ≡ true
@@ -241,16 +241,16 @@ free-zero [] = refl
 free-zero (k ∷ ks) = rw (bit-zero k) (free-zero ks)
 
 -- Cards are placed where they are distinct, and their number is the sum of their bits.
-pub place-all : (ks : List ℕ) → place 0 ks ≡ cond (distinct ks) (Held (total ks)) NoHand
-place-all ks = place-is 0 ks ∙ rw (free-zero ks, zero-left (total ks))
+pub place-all : (ks : List ℕ) → place 0 ks ≡ cond (distinct ks) (Held (handBits ks)) NoHand
+place-all ks = place-is 0 ks ∙ rw (free-zero ks, zero-left (handBits ks))
   where
     zero-left : (n : ℕ) → 0 + n ≡ n
     zero-left n = omega arith
 
-pub place-sum : (x : ℕ) (ks : List ℕ) {y : ℕ} → place x ks ≡ Held y → y ≡ x + total ks
+pub place-sum : (x : ℕ) (ks : List ℕ) {y : ℕ} → place x ks ≡ Held y → y ≡ x + handBits ks
 place-sum x ks {y} e =
     by-cases (free x ks && distinct ks)
-    (λ t. let h : Held (x + total ks) ≡ Held y = rw (place-is x ks, t) at e in cc)
+    (λ t. let h : Held (x + handBits ks) ≡ Held y = rw (place-is x ks, t) at e in cc)
     (λ t. let h : NoHand ≡ Held y = rw (place-is x ks, t) at e in let z : _≡_ {A = ℕ} 0 1 = cc in absurd (omega arith))
 
 -- More cards are placed into what the first have made.
@@ -307,13 +307,13 @@ two-out : (p h : ℕ) → 2 * p * h ≡ p * (2 * h)
 two-out p h = rw (mul-comm 2 p, mul-assoc p 2 h)
 
 -- What is below k, and what is above.
-total-down : (k x : ℕ) → total (down k x) + 2 ^ k * (x / 2 ^ k) ≡ x
+total-down : (k x : ℕ) → handBits (down k x) + 2 ^ k * (x / 2 ^ k) ≡ x
 unfolding down
 total-down zero x = rw (pow-zero, div-one) (omega arith)
 total-down (suc k) x =
     let p = 2 ^ k in
     let q = x / 2 ^ k in
-    let i : total (down k x) + p * q ≡ x = total-down k x in
+    let i : handBits (down k x) + p * q ≡ x = total-down k x in
     let d : x / (2 * p) ≡ q / 2 = rw (mul-comm 2 p) (sym (div-div-eq-div-mul x p 2)) in
     let b : q % 2 ≡ bit k x = bit-is k x in
     rw (pow-succ', d, two-out p (q / 2))
@@ -328,7 +328,7 @@ total-down (suc k) x =
     rw t (omega arith)))
 
 -- The cards of x make x.
-pub total-deck : (x : ℕ) → x < 2 ^ 52 → total (down 52 x) ≡ x
+pub total-deck : (x : ℕ) → x < 2 ^ 52 → handBits (down 52 x) ≡ x
 total-deck x h =
     let z : x / 2 ^ 52 ≡ 0 = div-eq-of-lt h in
     omega (arith, total-down 52 x, z)

@@ -9,7 +9,7 @@ use borrow.Author.Tests.{ltb-true, ltb-false}
 use Rattle.tables.specs.declared.letters.Conventions.{Conventions}
 use Rattle.tables.proofs.Laws.{by-cases}
 use Rattle.reader.specs.declared.board.Board.{Board}
-use Rattle.reader.specs.Store.{word}
+use Rattle.reader.specs.Store.{lowWord}
 use Rattle.reader.specs.Boards.{recordOut}
 use Rattle.reader.specs.Editions.{headWords, valueWords, sectionWords, tailWords, backWords, cardWords, cardOf}
 use Rattle.reader.proofs.PlainBounds.{RecordBounded}
@@ -35,11 +35,11 @@ first-length c n r =
 
 module _ (c : Conventions) (a n : ℕ) (r : List ℕ) where
   -- Words 0 and 1.
-  pub word-0 : getD (cardOf c a n r) 0 0 ≡ word n
+  pub word-0 : getD (cardOf c a n r) 0 0 ≡ lowWord n
   unfolding cardWords
   word-0 = refl
 
-  pub word-1 : getD (cardOf c a n r) 1 0 ≡ word (length (recordOut c r .entries))
+  pub word-1 : getD (cardOf c a n r) 1 0 ≡ lowWord (length (recordOut c r .entries))
   unfolding cardWords
   word-1 = refl
 

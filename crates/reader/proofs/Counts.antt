@@ -31,8 +31,8 @@ use Rattle.reader.specs.Tag.{cut, trimPart, withPair, withData, dataAfte
 use Rattle.reader.specs.Names.{tagNumber}
 use Rattle.reader.specs.Lines.{isBlank, hasBrace, lastBrace, splitAs, splitLine, bracketAs, bracketLine, kindBy, lineKind, opensBoard, linePlaced, readingPlaced}
 use Rattle.reader.specs.Pieces.{Piece, Out, entry, rawLines}
-use Rattle.reader.specs.Sections.{noteAfter, closesSection, stopsAt, dataPiece, pieceOf, dataIn, splitPiece, sectionData, walked, noWalk, walkedAll}
-use Rattle.reader.specs.Boards.{lastEntries, closed, noSpan, at, seatOpen, openBy, tagged, dated, readTag, blocked, braced, inNote, lineBy, lineOut, linesOut, noState, recordOut, isAllWhite}
+use Rattle.reader.specs.Sections.{commentaryAfter, closesSection, stopsAt, dataPiece, pieceOf, dataIn, splitPiece, sectionData, walked, noWalk, walkedAll}
+use Rattle.reader.specs.Boards.{lastEntries, closed, noSpan, at, seatOpen, openBy, tagged, dataAdded, tagLineOut, blocked, braced, inCommentary, lineBy, lineOut, linesOut, noState, recordOut, isAllWhite}
 use Rattle.reader.specs.Records.{recordsOf}
 use Rattle.reader.specs.Editions.{cardsFrom, entriesFrom, cardsOf, entriesOf}
 use Rattle.reader.proofs.EntryLaws.{All, none, one, bytesIn, out-few}
@@ -99,17 +99,17 @@ data-few p l (TagOn t) = omega arith
 data-few p l Bracket = omega arith
 data-few p l (Data s) = omega (arith, cut-few s l)
 
-pub piece-few : (noting : Bool) (p : ℕ) (l : List ℕ) → bytesIn (pieceOf noting p l) ≤ length l
+pub piece-few : (commentary : Bool) (p : ℕ) (l : List ℕ) → bytesIn (pieceOf commentary p l) ≤ length l
 unfolding pieceOf
 piece-few true p l = omega arith
 piece-few false p l = data-few p l (lineKind l)
 
 -- A line has no more data than bytes.
-data-step : (noting : Bool) (p : ℕ) (l : List ℕ) (ls : List (List ℕ)) → bytesIn (dataIn noting p (l ∷ ls)) ≤ length l + bytesIn (dataIn (noteAfter noting l) (p + length l) ls)
-data-step noting p l ls =
-    by-cases (stopsAt noting l)
+data-step : (commentary : Bool) (p : ℕ) (l : List ℕ) (ls : List (List ℕ)) → bytesIn (dataIn commentary p (l ∷ ls)) ≤ length l + bytesIn (dataIn (commentaryAfter commentary l) (p + length l) ls)
+data-step commentary p l ls =
+    by-cases (stopsAt commentary l)
     (λ e. rw e (omega arith))
-    (λ e. rw (e, bytes-append (pieceOf noting p l)) (omega (arith, piece-few noting p l)))
+    (λ e. rw (e, bytes-append (pieceOf commentary p l)) (omega (arith, piece-few commentary p l)))
 
 split-few : (r : List ℕ) (s : Span) → bytesIn (splitPiece r s) ≤ s .len
 split-few r s = by-cases (eqb (s .len) 0) (λ e. rw e (omega arith)) (λ e. rw e (omega (arith, cut-len s r)))
@@ -193,8 +193,8 @@ few-if : (b : Bool) (e : Entry) → length (cond b [] (e ∷ [])) ≤ 1
 few-if true e = omega arith
 few-if false e = omega arith
 
-dated-few : (s : State) (p : ℕ) (g : Span) → length (dated s p g .entries) ≤ 1
-dated-few s p g = few-if (eqb (s .section .kind) 0) (entry 5 (p + g .start) (g .len) (s .section .kind))
+added-few : (s : State) (p : ℕ) (g : Span) → length (dataAdded s p g .entries) ≤ 1
+added-few s p g = few-if (eqb (s .section .kind) 0) (entry 5 (p + g .start) (g .len) (s .section .kind))
 
 pub chosen : {A : Type 0} (P : A → Type 0) (b : Bool) (x y : A) → (b ≡ true → P x) → (b ≡ false → P y) → P (cond b x y)
 chosen P true x y h k = h refl
@@ -204,53 +204,53 @@ chosen P false x y h k = k refl
 -- byte of its data from q on. d is what past was before the line: the line's entries, and what it adds to past, are at most 4 n.
 record Bounded (r : List ℕ) (n q : ℕ) (ls : List (List ℕ)) (d : ℕ) (o : Out State) : Type 0 where
   past : ℕ
-  closing : closingMost r (o .state .section) ≤ past + 2 * bytesIn (dataIn (o .state .noting) q ls)
+  closing : closingMost r (o .state .section) ≤ past + 2 * bytesIn (dataIn (o .state .commentary) q ls)
   few : length (o .entries) + past ≤ 4 * n + d
 
 -- A line that leaves the section as it is.
 pub record Keeps (s : State) (l : List ℕ) (o : Out State) : Type 0 where
   pub section-kept : o .state .section ≡ s .section
-  pub noting-is : o .state .noting ≡ noteAfter (s .noting) l
+  pub commentary-is : o .state .commentary ≡ commentaryAfter (s .commentary) l
   pub few : length (o .entries) ≤ 1
 
 keeps-bounded : (r : List ℕ) (s : State) (p : ℕ) (l : List ℕ) (ls : List (List ℕ)) (d : ℕ) {o : Out State}
-    → closingMost r (s .section) ≤ d + 2 * bytesIn (dataIn (s .noting) p (l ∷ ls)) → 0 < length l → Keeps s l o → Bounded r (length l) (p + length l) ls d o
+    → closingMost r (s .section) ≤ d + 2 * bytesIn (dataIn (s .commentary) p (l ∷ ls)) → 0 < length l → Keeps s l o → Bounded r (length l) (p + length l) ls d o
 keeps-bounded r s p l ls d h f k =
     record {
       past = d + 2 * length l;
-      closing = rw (k .section-kept, k .noting-is) (omega (arith, h, data-step (s .noting) p l ls));
+      closing = rw (k .section-kept, k .commentary-is) (omega (arith, h, data-step (s .commentary) p l ls));
       few = omega (arith, k .few);
     }
 
-note-keeps : (r : List ℕ) (s : State) (p : ℕ) (l : List ℕ) → s .noting ≡ true → Keeps s l (inNote r s p l)
-unfolding inNote blocked noteAfter
-note-keeps r s p l e =
+commentary-keeps : (r : List ℕ) (s : State) (p : ℕ) (l : List ℕ) → s .commentary ≡ true → Keeps s l (inCommentary r s p l)
+unfolding inCommentary blocked commentaryAfter
+commentary-keeps r s p l e =
     by-cases (hasBrace l)
-    (λ b. rw b (record { section-kept = refl; noting-is = rw (e, b); few = few-if (isAllWhite r (s .block) (p + lastBrace l)) _ }))
-    (λ b. rw b (record { section-kept = refl; noting-is = rw (e, b); few = omega arith }))
+    (λ b. rw b (record { section-kept = refl; commentary-is = rw (e, b); few = few-if (isAllWhite r (s .block) (p + lastBrace l)) _ }))
+    (λ b. rw b (record { section-kept = refl; commentary-is = rw (e, b); few = omega arith }))
 
-brace-keeps : (r : List ℕ) (s : State) (p : ℕ) (l : List ℕ) → s .noting ≡ false → lineKind l ≡ Brace → Keeps s l (braced r s p l)
-unfolding braced blocked noteAfter
+brace-keeps : (r : List ℕ) (s : State) (p : ℕ) (l : List ℕ) → s .commentary ≡ false → lineKind l ≡ Brace → Keeps s l (braced r s p l)
+unfolding braced blocked commentaryAfter
 brace-keeps r s p l e k =
     by-cases (hasBrace l)
-    (λ b. rw b (record { section-kept = refl; noting-is = rw (e, k, b); few = few-if (isAllWhite r (p + length (lead l) + 1) (p + lastBrace l)) _ }))
-    (λ b. rw b (record { section-kept = refl; noting-is = rw (e, k, b); few = omega arith }))
+    (λ b. rw b (record { section-kept = refl; commentary-is = rw (e, k, b); few = few-if (isAllWhite r (p + length (lead l) + 1) (p + lastBrace l)) _ }))
+    (λ b. rw b (record { section-kept = refl; commentary-is = rw (e, k, b); few = omega arith }))
 
 -- So do all lines but tags.
-kind-keeps : (c : Conventions) (r : List ℕ) (s : State) (p : ℕ) (l : List ℕ) (k : Line) → lineKind l ≡ k → s .noting ≡ false → opensBoard k ≡ false → Keeps s l (lineBy c r s p l k)
-unfolding noteAfter
-kind-keeps c r s p l Blank e z n = record { section-kept = refl; noting-is = rw (z, e); few = omega arith }
+kind-keeps : (c : Conventions) (r : List ℕ) (s : State) (p : ℕ) (l : List ℕ) (k : Line) → lineKind l ≡ k → s .commentary ≡ false → opensBoard k ≡ false → Keeps s l (lineBy c r s p l k)
+unfolding commentaryAfter
+kind-keeps c r s p l Blank e z n = record { section-kept = refl; commentary-is = rw (z, e); few = omega arith }
 kind-keeps c r s p l Brace e z n = brace-keeps r s p l z e
-kind-keeps c r s p l (Directive g) e z n = record { section-kept = refl; noting-is = rw (z, e); few = omega arith }
+kind-keeps c r s p l (Directive g) e z n = record { section-kept = refl; commentary-is = rw (z, e); few = omega arith }
 kind-keeps c r s p l (TagOn t) e z n = clash (sym n)
-kind-keeps c r s p l Bracket e z n = record { section-kept = refl; noting-is = rw (z, e); few = omega arith }
-kind-keeps c r s p l (Data g) e z n = record { section-kept = refl; noting-is = rw (z, e); few = dated-few s p g }
+kind-keeps c r s p l Bracket e z n = record { section-kept = refl; commentary-is = rw (z, e); few = omega arith }
+kind-keeps c r s p l (Data g) e z n = record { section-kept = refl; commentary-is = rw (z, e); few = added-few s p g }
 
-pub line-keeps : (c : Conventions) (r : List ℕ) (s : State) (p : ℕ) (l : List ℕ) → stopsAt (s .noting) l ≡ false → Keeps s l (lineOut c r s p l)
+pub line-keeps : (c : Conventions) (r : List ℕ) (s : State) (p : ℕ) (l : List ℕ) → stopsAt (s .commentary) l ≡ false → Keeps s l (lineOut c r s p l)
 unfolding lineOut stopsAt
 line-keeps c r s p l h =
-    chosen (λ (o : Out State). Keeps s l o) (s .noting) (inNote r s p l) (lineBy c r s p l (lineKind l))
-    (λ e. note-keeps r s p l e)
+    chosen (λ (o : Out State). Keeps s l o) (s .commentary) (inCommentary r s p l) (lineBy c r s p l (lineKind l))
+    (λ e. commentary-keeps r s p l e)
     (λ e. kind-keeps c r s p l (lineKind l) refl e (no-tag (lineKind l) (rw e at h)))
   where
     no-tag : (k : Line) → closesSection k ≡ false → opensBoard k ≡ false
@@ -266,8 +266,8 @@ unfolding stopsAt
 closes-tag l t k = rw k
 
 module _ (c : Conventions) (r : List ℕ) (s : State) (p : ℕ) (l : List ℕ) (ls : List (List ℕ)) (d : ℕ) (f : 0 < length l) (n : rawLines (drop (p + length l) r) ≡ ls) where
-  tag-bounded : (t : TagReading) → closingMost r (s .section) ≤ d → readingPlaced t (length l) → readingLate t → Bounded r (length l) (p + length l) ls d (readTag c r s p l t)
-  unfolding readTag tagged
+  tag-bounded : (t : TagReading) → closingMost r (s .section) ≤ d → readingPlaced t (length l) → readingLate t → Bounded r (length l) (p + length l) ls d (tagLineOut c r s p l t)
+  unfolding tagLineOut tagged
   tag-bounded (Plain t) h i j =
       record {
         past = 1;
@@ -286,13 +286,13 @@ module _ (c : Conventions) (r : List ℕ) (s : State) (p : ℕ) (l : List ℕ) (
         closing = rw (← n) (omega (arith, open-most c r (tagNumber (cut (t .name) l)) (cut (t .value) l) (p + length l) (at p g)));
         few =
             rw length-append
-            (omega (arith, ClosedFew c r s, i .1, j .0, dated-few (tagged c (closed c r s .state) p l (p + length l) t (at p g) .state) p g));
+            (omega (arith, ClosedFew c r s, i .1, j .0, added-few (tagged c (closed c r s .state) p l (p + length l) t (at p g) .state) p g));
       }
 
-  kind-bounded : (k : Line) → lineKind l ≡ k → s .noting ≡ false → closingMost r (s .section) ≤ d + 2 * bytesIn (dataIn (s .noting) p (l ∷ ls))
+  kind-bounded : (k : Line) → lineKind l ≡ k → s .commentary ≡ false → closingMost r (s .section) ≤ d + 2 * bytesIn (dataIn (s .commentary) p (l ∷ ls))
       → linePlaced k (length l) → lineLate k → Bounded r (length l) (p + length l) ls d (lineBy c r s p l k)
   kind-bounded (TagOn t) e z h i j =
-      let g : dataIn (s .noting) p (l ∷ ls) ≡ [] = rw (z, closes-tag l t e) in
+      let g : dataIn (s .commentary) p (l ∷ ls) ≡ [] = rw (z, closes-tag l t e) in
       tag-bounded t (omega (arith, rw g at h)) i j
   kind-bounded Blank e z h i j = keeps-bounded r s p l ls d h f (kind-keeps c r s p l Blank e z refl)
   kind-bounded Brace e z h i j = keeps-bounded r s p l ls d h f (kind-keeps c r s p l Brace e z refl)
@@ -300,11 +300,11 @@ module _ (c : Conventions) (r : List ℕ) (s : State) (p : ℕ) (l : List ℕ) (
   kind-bounded Bracket e z h i j = keeps-bounded r s p l ls d h f (kind-keeps c r s p l Bracket e z refl)
   kind-bounded (Data g) e z h i j = keeps-bounded r s p l ls d h f (kind-keeps c r s p l (Data g) e z refl)
 
-  line-bounded : closingMost r (s .section) ≤ d + 2 * bytesIn (dataIn (s .noting) p (l ∷ ls)) → Bounded r (length l) (p + length l) ls d (lineOut c r s p l)
+  line-bounded : closingMost r (s .section) ≤ d + 2 * bytesIn (dataIn (s .commentary) p (l ∷ ls)) → Bounded r (length l) (p + length l) ls d (lineOut c r s p l)
   unfolding lineOut
   line-bounded h =
-      chosen (λ o. Bounded r (length l) (p + length l) ls d o) (s .noting) (inNote r s p l) (lineBy c r s p l (lineKind l))
-      (λ e. keeps-bounded r s p l ls d h f (note-keeps r s p l e))
+      chosen (λ o. Bounded r (length l) (p + length l) ls d o) (s .commentary) (inCommentary r s p l) (lineBy c r s p l (lineKind l))
+      (λ e. keeps-bounded r s p l ls d h f (commentary-keeps r s p l e))
       (λ e. kind-bounded (lineKind l) refl e h (LineInside l) (line-late l))
 
 -- ---- the lines of a record
@@ -334,7 +334,7 @@ next-line r p l ls e =
         record { filled = rw a at (k .filled); inside = rw a at (k .inside); rest = rw a at b }
 
 lines-few : (c : Conventions) (r : List ℕ) (ls : List (List ℕ)) (s : State) (p d : ℕ) → p ≤ length r → rawLines (drop p r) ≡ ls
-    → closingMost r (s .section) ≤ d + 2 * bytesIn (dataIn (s .noting) p ls) → length (linesOut c r s p ls .entries) + 4 * p ≤ 4 * length r + d
+    → closingMost r (s .section) ≤ d + 2 * bytesIn (dataIn (s .commentary) p ls) → length (linesOut c r s p ls .entries) + 4 * p ≤ 4 * length r + d
 lines-few c r [] s p d i e h = omega (arith, ClosedFew c r s)
 lines-few c r (l ∷ ls) s p d i e h =
     let n = next-line r p l ls e in

@@ -18,7 +18,7 @@ use Rattle.tables.proofs.Digits.{at-each}
 use Rattle.tables.proofs.RowLaws.{plain-word}
 use Rattle.reader.specs.declared.deal.Hands.{Hands}
 use Rattle.reader.specs.declared.deal.DealRead.the-variants.{Dealt}
-use Rattle.reader.specs.Deals.{has, cardCount, withCard, cardsIn, isDash, cardsNamed, startsWhite, handsAfter, cardText, onward, turned, dealIn, dealOf, Proper, ranksText, suitText, handText, back, clockwise, handsText, dealText}
+use Rattle.reader.specs.Deals.{has, cardCount, cardBefore, cardsFromSuit, isDash, cardsNamed, startsWhite, handsAfter, cardText, onward, turned, dealIn, dealOf, Proper, ranksText, suitText, handText, back, clockwise, handsText, dealText}
 use Rattle.reader.proofs.DealLaws.{DealProper}
 use Rattle.reader.proofs.CardSets.{down, down-none, down-more, down-zero, total-deck, times-deck, times-append, times-distinct, count-down}
 
@@ -173,7 +173,7 @@ down-suit s (suc r) x =
 
 abbrev withCards : List ℕ → Option (List ℕ) → Option (List ℕ)
 withCards [] o = o
-withCards (k ∷ ks) o = withCard k (withCards ks o)
+withCards (k ∷ ks) o = cardBefore k (withCards ks o)
 
 with-some : (ks ds : List ℕ) → withCards ks (some ds) ≡ some (ks ++ ds)
 with-some [] ds = refl
@@ -188,7 +188,7 @@ module _ (c : Conventions) (ok : Accepted c) where
   rank-no-dot : (r : ℕ) → r < 13 → eqb (rankLetter c r) 46 ≡ false
   rank-no-dot r h = not-true (eqb (rankLetter c r) 46) (rank-every c ok (λ b. not (eqb b 46)) (λ b e. rw (plain-facts b e .4)) (λ n k. at-each (λ m. not (eqb (50 + m) 46)) 8 refl n k) r h)
 
-  cards-ranks : (s r x : ℕ) (rest : List ℕ) → r ≤ 13 → cardsIn c (ranksText c s r x ++ rest) s ≡ withCards (suitDown s r x) (cardsIn c rest s)
+  cards-ranks : (s r x : ℕ) (rest : List ℕ) → r ≤ 13 → cardsFromSuit c (ranksText c s r x ++ rest) s ≡ withCards (suitDown s r x) (cardsFromSuit c rest s)
   unfolding ranksText cardText suitDown
   cards-ranks s zero x rest h = refl
   cards-ranks s (suc r) x rest h =
@@ -198,7 +198,7 @@ module _ (c : Conventions) (ok : Accepted c) where
       (λ t. rw (t, rank-no-dot r (omega arith), rank-back c ok r (omega arith), n, i))
       (λ t. rw t i)
 
-  cards-suit : (s x : ℕ) (rest : List ℕ) → cardsIn c (suitText c s x ++ rest) s ≡ withCards (suitDown s 13 x) (cardsIn c rest s)
+  cards-suit : (s x : ℕ) (rest : List ℕ) → cardsFromSuit c (suitText c s x ++ rest) s ≡ withCards (suitDown s 13 x) (cardsFromSuit c rest s)
   unfolding suitText
   cards-suit s x rest = cards-ranks s 13 x rest (omega arith)
 
@@ -206,7 +206,7 @@ module _ (c : Conventions) (ok : Accepted c) where
   abbrev full : ℕ → List ℕ
   full x = suitText c 3 x ++ (46 ∷ (suitText c 2 x ++ (46 ∷ (suitText c 1 x ++ (46 ∷ (suitText c 0 x ++ []))))))
 
-  full-cards : (x : ℕ) → cardsIn c (full x) 3 ≡ some (down 52 x)
+  full-cards : (x : ℕ) → cardsFromSuit c (full x) 3 ≡ some (down 52 x)
   full-cards x =
       let d3 : down 52 x ≡ suitDown 3 13 x ++ down 39 x = down-suit 3 13 x in
       let d2 : down 39 x ≡ suitDown 2 13 x ++ down 26 x = down-suit 2 13 x in

@@ -6,7 +6,7 @@ use Rattle.tables.specs.Letters.{every, honourOf, honourLetters, indexIn, capit
 use Rattle.tables.specs.Text.{trimmed, isWhite, trimStart, word, pastWord, fields}
 use Rattle.tables.proofs.Laws.{both, by-cases, step, stop}
 use Rattle.reader.proofs.CardSets.{inPack, distinct-front, distinct-back, distinct-times, times-append, bit-total, total-below, count-total, place-all, place-sum, place-append}
-use Rattle.reader.specs.Deals.{onward, cardCount, wholeHands, Proper, dealOf, handWords, handsOfWords, fromWords, has, total, withCard, cardsIn, atMost, isDash, cardsNamed, withHand, allNamed, dealt, fourHands, startsWhite, handsAfter, turned, turnedDeal, dealIn, InDeck, place, placed, handInto, addCard, stepOf, endOf, runFrom, dealWords, grown}
+use Rattle.reader.specs.Deals.{onward, cardCount, wholeHands, Proper, dealOf, handWords, handsOfWords, fromWords, has, handBits, cardBefore, cardsFromSuit, atMost, isDash, cardsNamed, handBefore, allNamed, dealt, fourHands, startsWhite, handsAfter, turned, turnedDeal, dealIn, InDeck, place, cardsPlaced, handInto, addCard, stepOf, endOf, runFrom, dealWords, grown}
 use mathlib.Core.Path.{_≡_, refl, sym, ap, _∙_}
 use mathlib.Core.List.{List, [], _∷_, _++_}
 use mathlib.Core.Option.{Option, none, some}
@@ -24,7 +24,7 @@ use Rattle.reader.specs.declared.deal.PartHand.{PartHand}
 
 -- ---- a hand
 
-placed-card : (x k n : ℕ) (o : Option (List ℕ)) → placed x (atMost n (withCard k o)) ≡ cond (eqb n 0) NoHand (cond (has k x) NoHand (placed (x + 2 ^ k) (atMost (n - 1) o)))
+placed-card : (x k n : ℕ) (o : Option (List ℕ)) → cardsPlaced x (atMost n (cardBefore k o)) ≡ cond (eqb n 0) NoHand (cond (has k x) NoHand (cardsPlaced (x + 2 ^ k) (atMost (n - 1) o)))
 placed-card x k n none = by-cases (eqb n 0) (λ e. rw e) (λ e. rw e (by-cases (has k x) (λ t. rw t) (λ t. rw t)))
 placed-card x k n (some ks) =
     by-cases (eqb n 0)
@@ -35,7 +35,7 @@ placed-card x k n (some ks) =
     (λ t. rw (e, t, le-leb (suc (length ks)) n (omega (arith, leb-true (length ks) (n - 1) t))))
     (λ t. rw (e, t, lt-leb (suc (length ks)) n (omega (arith, leb-false (length ks) (n - 1) t))) (by-cases (has k x) (λ u. rw u) (λ u. rw u))))
 
-run-is : (c : Conventions) (t : List ℕ) (x s n : ℕ) → runFrom c t (record { cards = x; suit = s; room = n }) ≡ placed x (atMost n (cardsIn c t s))
+run-is : (c : Conventions) (t : List ℕ) (x s n : ℕ) → runFrom c t (record { cards = x; suit = s; room = n }) ≡ cardsPlaced x (atMost n (cardsFromSuit c t s))
 unfolding stepOf addCard endOf
 run-is c [] x s n = by-cases (eqb s 0) (λ e. rw (e, le-leb 0 n (omega arith))) (λ e. rw e)
 run-is c (b ∷ bs) x s n =
@@ -45,7 +45,7 @@ run-is c (b ∷ bs) x s n =
     by-cases (eqb (rankOf c b) 13)
     (λ f. rw (e, f) (by-cases (eqb n 0) (λ g. rw g) (λ g. rw g)))
     (λ f.
-    rw (e, f, placed-card x (13 * s + rankOf c b) n (cardsIn c bs s))
+    rw (e, f, placed-card x (13 * s + rankOf c b) n (cardsFromSuit c bs s))
     (by-cases (eqb n 0) (λ g. rw g)
     (λ g. rw g (by-cases (has (13 * s + rankOf c b) x) (λ u. rw u) (λ u. rw u (run-is c bs (x + 2 ^ (13 * s + rankOf c b)) s (n - 1))))))))
 
@@ -101,7 +101,7 @@ all-dealt : (ks : List ℕ) {y : ℕ} → place 0 ks ≡ Held y → distinct ks 
 all-dealt ks h = by-cases (distinct ks) (λ t. t) (λ t. never-held (rw (place-all ks, t) at h))
 
 abbrev four : Option (List ℕ) → Option (List ℕ) → Option (List ℕ) → Option (List ℕ) → DealRead
-four A B C D = fourHands (withHand A (withHand B (withHand C (withHand D (some [])))))
+four A B C D = fourHands (handBefore A (handBefore B (handBefore C (handBefore D (some [])))))
 
 -- Each of the four can be read, or there is no deal.
 pieces : (A B C D : Option (List ℕ)) → ((a b d e : List ℕ) → A ≡ some a → B ≡ some b → C ≡ some d → D ≡ some e → NoDeal ≡ dealt a b d e) → NoDeal ≡ four A B C D
@@ -112,23 +112,23 @@ pieces (some a) (some b) (some d) none h = refl
 pieces (some a) (some b) (some d) (some e) h = h a b d e refl refl refl refl
 
 module _ (A B C D : Option (List ℕ)) where
-  bad-first : placed 0 A ≡ NoHand → NoDeal ≡ four A B C D
+  bad-first : cardsPlaced 0 A ≡ NoHand → NoDeal ≡ four A B C D
   bad-first h = pieces A B C D (λ a b d e ea eb ed ee. undealt a b d e (place-append 0 a (b ++ (d ++ e)) ∙ rw (rw ea at h)))
 
-  bad-second : {x : ℕ} → placed 0 A ≡ Held x → placed x B ≡ NoHand → NoDeal ≡ four A B C D
+  bad-second : {x : ℕ} → cardsPlaced 0 A ≡ Held x → cardsPlaced x B ≡ NoHand → NoDeal ≡ four A B C D
   bad-second {x} g h =
       pieces A B C D
       (λ a b d e ea eb ed ee.
       undealt a b d e (place-append 0 a (b ++ (d ++ e)) ∙ rw (rw ea at g) (place-append x b (d ++ e) ∙ rw (rw eb at h))))
 
-  bad-third : {x y : ℕ} → placed 0 A ≡ Held x → placed x B ≡ Held y → placed y C ≡ NoHand → NoDeal ≡ four A B C D
+  bad-third : {x y : ℕ} → cardsPlaced 0 A ≡ Held x → cardsPlaced x B ≡ Held y → cardsPlaced y C ≡ NoHand → NoDeal ≡ four A B C D
   bad-third {x} {y} f g h =
       pieces A B C D
       (λ a b d e ea eb ed ee.
       undealt a b d e
       (place-append 0 a (b ++ (d ++ e)) ∙ rw (rw ea at f) (place-append x b (d ++ e) ∙ rw (rw eb at g) (place-append y d e ∙ rw (rw ed at h)))))
 
-  bad-fourth : {x y z : ℕ} → placed 0 A ≡ Held x → placed x B ≡ Held y → placed y C ≡ Held z → placed z D ≡ NoHand → NoDeal ≡ four A B C D
+  bad-fourth : {x y z : ℕ} → cardsPlaced 0 A ≡ Held x → cardsPlaced x B ≡ Held y → cardsPlaced y C ≡ Held z → cardsPlaced z D ≡ NoHand → NoDeal ≡ four A B C D
   bad-fourth {x} {y} {z} f g h k =
       pieces A B C D
       (λ a b d e ea eb ed ee.
@@ -143,13 +143,13 @@ all-four a b d e x y z q f g h k =
     let sb = place-sum x b g in
     let sd = place-sum y d h in
     let se = place-sum z e k in
-    let eb : y - x ≡ total b = omega arith in
-    let ed : z - y ≡ total d = omega arith in
-    let ee : q - z ≡ total e = omega arith in
-    let ea : x ≡ total a = omega arith in
+    let eb : y - x ≡ handBits b = omega arith in
+    let ed : z - y ≡ handBits d = omega arith in
+    let ee : q - z ≡ handBits e = omega arith in
+    let ea : x ≡ handBits a = omega arith in
     rw (all-dealt (a ++ (b ++ (d ++ e))) w, eb, ed, ee, ea)
 
-good-four : (A B C D : Option (List ℕ)) (x y z q : ℕ) → placed 0 A ≡ Held x → placed x B ≡ Held y → placed y C ≡ Held z → placed z D ≡ Held q
+good-four : (A B C D : Option (List ℕ)) (x y z q : ℕ) → cardsPlaced 0 A ≡ Held x → cardsPlaced x B ≡ Held y → cardsPlaced y C ≡ Held z → cardsPlaced z D ≡ Held q
     → Dealt (record { north = x; east = y - x; south = z - y; west = q - z }) ≡ four A B C D
 good-four none B C D x y z q f g h k = never-held f
 good-four (some a) none C D x y z q f g h k = never-held g
@@ -164,16 +164,16 @@ words-dealt c s t u v =
     let B = cardsNamed c t in
     let C = cardsNamed c u in
     let D = cardsNamed c v in
-    read-cases (placed 0 A)
+    read-cases (cardsPlaced 0 A)
     (λ f. rw f (bad-first A B C D f))
     (λ x f. rw f
-    (read-cases (placed x B)
+    (read-cases (cardsPlaced x B)
     (λ g. rw g (bad-second A B C D f g))
     (λ y g. rw g
-    (read-cases (placed y C)
+    (read-cases (cardsPlaced y C)
     (λ h. rw h (bad-third A B C D f g h))
     (λ z h. rw h
-    (read-cases (placed z D)
+    (read-cases (cardsPlaced z D)
     (λ k. rw k (bad-fourth A B C D f g h k))
     (λ q k. rw k (good-four A B C D x y z q f g h k))))))))
 
@@ -183,7 +183,7 @@ named-length : (c : Conventions) (ts : List (List ℕ)) {hs : List (List ℕ)} �
 named-length c [] {hs} e = let h : [] ≡ hs = cc in rw (sym h)
 named-length c (t ∷ ts) {hs} e = pick (cardsNamed c t) (allNamed c ts) (λ gs q. named-length c ts q) e
   where
-    pick : (o : Option (List ℕ)) (p : Option (List (List ℕ))) → ((gs : List (List ℕ)) → p ≡ some gs → length gs ≡ length ts) → withHand o p ≡ some hs → length hs ≡ suc (length ts)
+    pick : (o : Option (List ℕ)) (p : Option (List (List ℕ))) → ((gs : List (List ℕ)) → p ≡ some gs → length gs ≡ length ts) → handBefore o p ≡ some hs → length hs ≡ suc (length ts)
     pick none p i f = absurd (let z : _≡_ {A = ℕ} 0 1 = cc in omega arith)
     pick (some ks) none i f = absurd (let z : _≡_ {A = ℕ} 0 1 = cc in omega arith)
     pick (some ks) (some gs) i f =
@@ -319,11 +319,11 @@ abbrev fitAll : Option (List (List ℕ)) → Bool
 fitAll none = true
 fitAll (some hs) = allFit hs
 
-packed-card : (k : ℕ) (o : Option (List ℕ)) → k < 52 → packed o ≡ true → packed (withCard k o) ≡ true
+packed-card : (k : ℕ) (o : Option (List ℕ)) → k < 52 → packed o ≡ true → packed (cardBefore k o) ≡ true
 packed-card k none h e = refl
 packed-card k (some ks) h e = rw (lt-ltb k 52 h) e
 
-packed-cards : (c : Conventions) (t : List ℕ) (s : ℕ) → s ≤ 3 → packed (cardsIn c t s) ≡ true
+packed-cards : (c : Conventions) (t : List ℕ) (s : ℕ) → s ≤ 3 → packed (cardsFromSuit c t s) ≡ true
 packed-cards c [] s h = by-cases (eqb s 0) (λ e. rw e) (λ e. rw e)
 packed-cards c (b ∷ bs) s h =
     by-cases (eqb b 46)
@@ -331,7 +331,7 @@ packed-cards c (b ∷ bs) s h =
     (λ e.
     by-cases (eqb (rankOf c b) 13)
     (λ f. rw (e, f))
-    (λ f. rw (e, f) (packed-card (13 * s + rankOf c b) (cardsIn c bs s) (omega (arith, rank-most c b, eqb-false (rankOf c b) 13 f)) (packed-cards c bs s h))))
+    (λ f. rw (e, f) (packed-card (13 * s + rankOf c b) (cardsFromSuit c bs s) (omega (arith, rank-most c b, eqb-false (rankOf c b) 13 f)) (packed-cards c bs s h))))
 
 most-fits : (o : Option (List ℕ)) → packed o ≡ true → fits (atMost 13 o) ≡ true
 most-fits none e = refl
@@ -339,9 +339,9 @@ most-fits (some ks) e = by-cases (leb (length ks) 13) (λ t. rw t (rw t e)) (λ 
 
 named-fits : (c : Conventions) (t : List ℕ) → fits (cardsNamed c t) ≡ true
 unfolding cardsNamed
-named-fits c t = by-cases (isDash t) (λ e. rw e) (λ e. rw e (most-fits (cardsIn c t 3) (packed-cards c t 3 (omega arith))))
+named-fits c t = by-cases (isDash t) (λ e. rw e) (λ e. rw e (most-fits (cardsFromSuit c t 3) (packed-cards c t 3 (omega arith))))
 
-hand-fits : (o : Option (List ℕ)) (p : Option (List (List ℕ))) → fits o ≡ true → fitAll p ≡ true → fitAll (withHand o p) ≡ true
+hand-fits : (o : Option (List ℕ)) (p : Option (List (List ℕ))) → fits o ≡ true → fitAll p ≡ true → fitAll (handBefore o p) ≡ true
 hand-fits none p e f = refl
 hand-fits (some ks) none e f = refl
 hand-fits (some ks) (some hs) e f = rw e f
@@ -350,19 +350,19 @@ all-fit : (c : Conventions) (ts : List (List ℕ)) → fitAll (allNamed c ts) �
 all-fit c [] = refl
 all-fit c (t ∷ ts) = hand-fits (cardsNamed c t) (allNamed c ts) (named-fits c t) (all-fit c ts)
 
-count-few : (ks : List ℕ) → distinct ks ≡ true → fitting ks ≡ true → cardCount (total ks) ≤ 13
+count-few : (ks : List ℕ) → distinct ks ≡ true → fitting ks ≡ true → cardCount (handBits ks) ≤ 13
 count-few ks d f =
     let h = both (leb (length ks) 13) (every inPack ks) f in
     rw (count-total ks d (h .1)) (leb-true (length ks) 13 (h .0))
 
-low-total : (ks : List ℕ) → distinct ks ≡ true → fitting ks ≡ true → total ks < 2 ^ 52
+low-total : (ks : List ℕ) → distinct ks ≡ true → fitting ks ≡ true → handBits ks < 2 ^ 52
 low-total ks d f = total-below ks d (both (leb (length ks) 13) (every inPack ks) f .1)
 
 never-dealt : {P : Type 0} {h : Hands} → NoDeal ≡ Dealt h → P
 never-dealt e = let z : _≡_ {A = ℕ} 0 1 = cc in absurd (omega arith)
 
 totals-proper : (n e s w : List ℕ) → distinct (n ++ (e ++ (s ++ w))) ≡ true → fitting n ≡ true → fitting e ≡ true → fitting s ≡ true → fitting w ≡ true
-    → Proper (record { north = total n; east = total e; south = total s; west = total w })
+    → Proper (record { north = handBits n; east = handBits e; south = handBits s; west = handBits w })
 totals-proper n e s w d fn fe fs fw =
     let dn = distinct-front n (e ++ (s ++ w)) d in
     let d1 = distinct-back n (e ++ (s ++ w)) d in
@@ -387,8 +387,8 @@ dealt-proper n e s w {h} f q =
     let fw = both (fitting w) true (fs .1) in
     by-cases (distinct (n ++ (e ++ (s ++ w))))
     (λ t.
-    let g : Dealt (record { north = total n; east = total e; south = total s; west = total w }) ≡ Dealt h = rw t at q in
-    let k : record { north = total n; east = total e; south = total s; west = total w } ≡ h = cc in
+    let g : Dealt (record { north = handBits n; east = handBits e; south = handBits s; west = handBits w }) ≡ Dealt h = rw t at q in
+    let k : record { north = handBits n; east = handBits e; south = handBits s; west = handBits w } ≡ h = cc in
     rw (sym k) (totals-proper n e s w t (fn .0) (fe .0) (fs .0) (fw .0)))
     (λ t. never-dealt (rw t at q))
 

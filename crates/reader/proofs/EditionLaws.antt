@@ -18,12 +18,12 @@ use Rattle.reader.specs.declared.record.RecordEnd.{RecordEnd}
 use Rattle.reader.specs.declared.edition.ReadRefusal.the-variants.{Overlong, BoxFull, ListFull}
 use Rattle.reader.specs.declared.edition.Reading.{Reading}
 use Rattle.reader.specs.declared.edition.Reading.the-variants.{Taken, Refused}
-use Rattle.reader.specs.declared.edition.Totals.{Totals}
+use Rattle.reader.specs.declared.edition.Counts.{Counts}
 use Rattle.reader.specs.Store.{zeros, put, putAll, lent, entryWords}
 use Rattle.reader.specs.Pieces.{Emits}
 use Rattle.reader.specs.Records.{recordsOf, EndsAt}
 use Rattle.reader.specs.Boards.{recordOut}
-use Rattle.reader.specs.Editions.{isTaken, headWords, backWords, cardWords, cardOf, cardsFrom, entriesFrom, cardsOf, entriesOf, verdict, readingOf, RecordIn, Whole, none, one, AllIn, Finished, IsRead}
+use Rattle.reader.specs.Editions.{isTaken, headWords, backWords, cardWords, cardOf, cardsFrom, entriesFrom, cardsOf, entriesOf, countsAnswer, readingOf, RecordIn, FullCards, none, one, AllIn, ReadingEnded, IsRead}
 use Rattle.reader.proofs.Seams.{no-records}
 use Rattle.reader.proofs.StoreLaws.{putAll-append, Blocks, blocks-append, blocks-map, put-zeros}
 use Rattle.reader.proofs.BoardLaws.{record-counts}
@@ -108,7 +108,7 @@ pub record Left (c : Conventions) (text cards₀ entries₀ : List ℕ) (rest : 
   pub entries-in : n + length (entriesFrom c a rest) ≡ length (entriesOf c text)
   pub card-words : putAll 64 cards boards (cardsFrom c a n rest) ≡ putAll 64 cards₀ 0 (cardsOf c text)
   pub entry-words : putAll 4 entries n (entriesFrom c a rest) ≡ putAll 4 entries₀ 0 (entriesOf c text)
-  pub all-whole : Whole (cardsFrom c a n rest) → Whole (cardsOf c text)
+  pub all-whole : FullCards (cardsFrom c a n rest) → FullCards (cardsOf c text)
 
 pub left-all : (c : Conventions) (text cards entries : List ℕ) → Left c text cards entries (recordsOf text) 0 cards entries 0 0
 unfolding cardsOf entriesOf
@@ -197,7 +197,7 @@ module _ {c : Conventions} {text cards₀ entries₀ cards entries : List ℕ} {
 
 -- ---- the whole
 
-pub card-blocks : {xs : List (List ℕ)} → Whole xs → Blocks 64 xs
+pub card-blocks : {xs : List (List ℕ)} → FullCards xs → Blocks 64 xs
 card-blocks none = store.none
 card-blocks (one e w) = store.one e (card-blocks w)
 
@@ -214,7 +214,7 @@ unfolding entriesOf
 all-blocks c text = entry-blocks c 0 (recordsOf text)
 
 -- Where the answer is no refusal, everything fits.
-taken-fits : (lc le b n : ℕ) → isTaken (verdict lc le b n) ≡ true → (64 * b ≤ lc) × (4 * n ≤ le)
+taken-fits : (lc le b n : ℕ) → isTaken (countsAnswer lc le b n) ≡ true → (64 * b ≤ lc) × (4 * n ≤ le)
 taken-fits lc le b n e = go (ltb (lc / 64) b) refl (ltb (le / 4) n) refl e
   where
     go : (f : Bool) → ltb (lc / 64) b ≡ f → (g : Bool) → ltb (le / 4) n ≡ g → isTaken (cond f (Refused (BoxFull b)) (cond g (Refused (ListFull n)) (Taken b n))) ≡ true
@@ -229,9 +229,9 @@ pub ended : (w L : ℕ) {xs : List (List ℕ)} {d d′ : List ℕ} (f : Bool) �
 ended w L true b h el e e′ = e′ ∙ e ∙ put-zeros w L b (h refl)
 ended w L false b h el e e′ = e′ ∙ rw el
 
-pub read-all : {c : Conventions} {t cs es zc ze : List ℕ} {r : Totals} {a : Reading} (cards entries cards′ entries′ : List ℕ) → length t ≤ 16777215
+pub read-all : {c : Conventions} {t cs es zc ze : List ℕ} {r : Counts} {a : Reading} (cards entries cards′ entries′ : List ℕ) → length t ≤ 16777215
     → zc ≡ zeros cs → ze ≡ zeros es → length cards ≡ length zc → length entries ≡ length ze
-    → AllIn c t zc ze r cards entries → Finished cards entries (r .boards) (r .entries) a cards′ entries′
+    → AllIn c t zc ze r cards entries → ReadingEnded cards entries (r .boards) (r .entries) a cards′ entries′
     → IsRead c t cs es a cards′ entries′
 unfolding readingOf
 read-all {c} {t} {cs} {es} {zc} {ze} {r} {a} cards entries cards′ entries′ short zc-is ze-is kc ke s f =
@@ -239,7 +239,7 @@ read-all {c} {t} {cs} {es} {zc} {ze} {r} {a} cards entries cards′ entries′ s
     let le = length es in
     let ec : length cards ≡ lc = kc ∙ rw zc-is (length-replicate lc 0) in
     let ee : length entries ≡ le = ke ∙ rw ze-is (length-replicate le 0) in
-    let ans : a ≡ verdict lc le (length (cardsOf c t)) (length (entriesOf c t)) = rw (ec, ee, s .boards, s .count) at (f .answer) in
+    let ans : a ≡ countsAnswer lc le (length (cardsOf c t)) (length (entriesOf c t)) = rw (ec, ee, s .boards, s .count) at (f .answer) in
     let fits : isTaken a ≡ true → (64 * length (cardsOf c t) ≤ lc) × (4 * length (entriesOf c t) ≤ le) = λ h. taken-fits lc le (length (cardsOf c t)) (length (entriesOf c t)) (rw ans at h) in
     record {
       answer = ans ∙ rw (le-ltb _ _ short);

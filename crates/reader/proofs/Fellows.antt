@@ -15,7 +15,7 @@ use Rattle.reader.specs.Records.{fresh, recordsOf, leftOver, spansFrom, 
 use Rattle.reader.specs.Editions.{cardsFrom, entriesFrom, cardsOf, entriesOf}
 use Rattle.reader.specs.Fellows.{Stands, spanAt, RecordAt, BoardAt, Fellow, AnyBoard, HaveFellows, Part, in-front, inside, in-back}
 use Rattle.reader.proofs.Counts.{cards-few}
-use Rattle.reader.proofs.Seams.{Whole, Around, SpansAround, RecordsFilled, records-fit}
+use Rattle.reader.proofs.Seams.{RecordsCover, Around, SpansAround, RecordsFilled, records-fit}
 use Rattle.reader.proofs.Alike.{entriesIn, cards-append, entries-append}
 use Rattle.reader.proofs.StandLaws.{stands-left, stands-right, stands-map, stands-same, element-at, Side, first, second, stands-side}
 
@@ -60,7 +60,7 @@ board-behind c text k a n xs ys r e ek ea en =
       bytes-are = record {
         before = flat xs;
         after = flat ys ++ left;
-        whole = sym (Whole text) ∙ ap (λ (l : List (List ℕ)). flat l ++ left) e ∙ ap (λ (l : List ℕ). l ++ left) (flat-at xs ys r) ∙ append-assoc (flat xs) (r ++ flat ys) left ∙ ap (λ (l : List ℕ). flat xs ++ l) (append-assoc r (flat ys) left);
+        whole = sym (RecordsCover text) ∙ ap (λ (l : List (List ℕ)). flat l ++ left) e ∙ ap (λ (l : List ℕ). l ++ left) (flat-at xs ys r) ∙ append-assoc (flat xs) (r ++ flat ys) left ∙ ap (λ (l : List ℕ). flat xs ++ l) (append-assoc r (flat ys) left);
         count = ea;
       };
       card-is = record {

@@ -10,7 +10,7 @@ use borrow.Author.Tests.{eqb-false, ne-eqb}
 use Rattle.tables.specs.declared.letters.Conventions.{Conventions}
 use Rattle.tables.specs.Text.{lead, firstCharacter}
 use Rattle.tables.specs.Letters.{seatOf}
-use Rattle.tables.specs.Tables.{Reading, holds, refuses, gathered}
+use Rattle.tables.specs.Tables.{TableReading, holds, refuses, gathered}
 use Rattle.tables.proofs.Laws.{by-cases}
 use Rattle.reader.specs.declared.tag.Span.{Span}
 use Rattle.reader.specs.declared.line.Line.{Line}
@@ -27,12 +27,12 @@ use Rattle.reader.specs.declared.section.Open.{Open}
 use Rattle.reader.specs.Names.{tagNumber}
 use Rattle.reader.specs.Lines.{hasBrace, lastBrace, lineKind}
 use Rattle.reader.specs.Pieces.{Out, rawLines}
-use Rattle.reader.specs.Sections.{noteAfter, walkedAll}
-use Rattle.reader.specs.Boards.{identityBy, dealBy, tableBy, applied, openBy, seatOpen, noOpen, withSections, auctionClosed, playClosed, rowsClosed, tableClosed, closedBy, closed, tagged, splitIn, readBy, readTag, noted, blocked, braced, inNote, lineBy, lineOut, linesOut, noBoard, noState, recordOut}
+use Rattle.reader.specs.Sections.{commentaryAfter, walkedAll}
+use Rattle.reader.specs.Boards.{identityBy, dealBy, tableBy, applied, openBy, seatOpen, noOpen, withSections, auctionClosed, playClosed, rowsClosed, tableClosed, closedBy, closed, tagged, splitIn, readBy, tagLineOut, withCommentary, blocked, braced, inCommentary, lineBy, lineOut, linesOut, noBoard, noState, recordOut}
 use Rattle.reader.specs.Plain.{TagPair, plainOf}
 use Rattle.reader.proofs.EntryLaws.{All, none, one}
 use Rattle.reader.proofs.Counts.{chosen}
-use Rattle.reader.proofs.LineTags.{pairOn, tagsOn, lineTags, tagsOfLines, line-noting, TagsOfLines}
+use Rattle.reader.proofs.LineTags.{pairOn, tagsOn, lineTags, tagsOfLines, line-commentary, TagsOfLines}
 
 -- ---- folds over tags
 
@@ -89,7 +89,7 @@ closed-board c r s P same other =
     high : (k : ℕ) → k ≤ 2 → (k ≡ 0 → ⊥) → (k ≡ 1 → ⊥) → (k ≡ 2 → ⊥) → ⊥
     high k h x y z = omega (arith, x, y, z)
 
-    rows : (g : Reading) → (s .section .kind ≡ 0 → ⊥) → (s .section .kind ≡ 1 → ⊥) → (s .section .kind ≡ 2 → ⊥) → P (rowsClosed (s .board) g)
+    rows : (g : TableReading) → (s .section .kind ≡ 0 → ⊥) → (s .section .kind ≡ 1 → ⊥) → (s .section .kind ≡ 2 → ⊥) → P (rowsClosed (s .board) g)
     rows (holds cells) x y z = other (record { kind = 2; cells = cells }) (s .board .auction) (s .board .play) (s .board .trump) (λ h. absurd (high (s .section .kind) h x y z))
     rows (refuses f) x y z = same
 
@@ -121,8 +121,8 @@ module _ {A : Type 0} (c : Conventions) (r : List ℕ) (g : Board → A) (f : �
     folded : g (t .board) ≡ foldTags f (g (s .board)) ts
     still : Kept (t .section)
 
-  tag-step : (p : ℕ) (l : List ℕ) (s : State) (t : TagReading) → Kept (s .section) → All (Numbered Fine) (pairOn t l ∷ []) → Step s (pairOn t l ∷ []) (readTag c r s p l t .state)
-  unfolding readTag
+  tag-step : (p : ℕ) (l : List ℕ) (s : State) (t : TagReading) → Kept (s .section) → All (Numbered Fine) (pairOn t l ∷ []) → Step s (pairOn t l ∷ []) (tagLineOut c r s p l t .state)
+  unfolding tagLineOut
   tag-step p l s t k (one n none) =
       let o = closed c r s .state in
       let e = reading-state c o p l (p + length l) t in
@@ -137,34 +137,34 @@ module _ {A : Type 0} (c : Conventions) (r : List ℕ) (g : Board → A) (f : �
   kind-step p l s Blank k a = record { folded = refl; still = k }
   kind-step p l s Brace k a =
       chosen (λ (o : Out State). Step s [] (o .state)) (hasBrace l) (blocked r s (p + length (lead l) + 1) (p + lastBrace l))
-      (record { state = noted s true (p + length (lead l) + 1); entries = [] }) (λ e. record { folded = refl; still = k }) (λ e. record { folded = refl; still = k })
+      (record { state = withCommentary s true (p + length (lead l) + 1); entries = [] }) (λ e. record { folded = refl; still = k }) (λ e. record { folded = refl; still = k })
   kind-step p l s (Directive d) k a = record { folded = refl; still = k }
   kind-step p l s (TagOn t) k a = tag-step p l s t k a
   kind-step p l s Bracket k a = record { folded = refl; still = k }
   kind-step p l s (Data d) k a = record { folded = refl; still = k }
 
-  line-step : (p : ℕ) (l : List ℕ) (s : State) → Kept (s .section) → All (Numbered Fine) (lineTags (s .noting) l) → Step s (lineTags (s .noting) l) (lineOut c r s p l .state)
-  unfolding lineOut lineTags inNote blocked
-  line-step p l s k = by-noting (s .noting)
+  line-step : (p : ℕ) (l : List ℕ) (s : State) → Kept (s .section) → All (Numbered Fine) (lineTags (s .commentary) l) → Step s (lineTags (s .commentary) l) (lineOut c r s p l .state)
+  unfolding lineOut lineTags inCommentary blocked
+  line-step p l s k = by-commentary (s .commentary)
     where
-      by-noting : (b : Bool) → All (Numbered Fine) (cond b [] (tagsOn (lineKind l) l)) → Step s (cond b [] (tagsOn (lineKind l) l)) (cond b (inNote r s p l) (lineBy c r s p l (lineKind l)) .state)
-      by-noting true a =
+      by-commentary : (b : Bool) → All (Numbered Fine) (cond b [] (tagsOn (lineKind l) l)) → Step s (cond b [] (tagsOn (lineKind l) l)) (cond b (inCommentary r s p l) (lineBy c r s p l (lineKind l)) .state)
+      by-commentary true a =
           chosen (λ (o : Out State). Step s [] (o .state)) (hasBrace l) (blocked r s (s .block) (p + lastBrace l)) (record { state = s; entries = [] })
           (λ e. record { folded = refl; still = k })
           (λ e. record { folded = refl; still = k })
-      by-noting false a = kind-step p l s (lineKind l) k a
+      by-commentary false a = kind-step p l s (lineKind l) k a
 
-  lines-fold : (p : ℕ) (s : State) (ls : List (List ℕ)) → Kept (s .section) → All (Numbered Fine) (tagsOfLines (s .noting) ls)
-      → g (linesOut c r s p ls .state .board) ≡ foldTags f (g (s .board)) (tagsOfLines (s .noting) ls)
+  lines-fold : (p : ℕ) (s : State) (ls : List (List ℕ)) → Kept (s .section) → All (Numbered Fine) (tagsOfLines (s .commentary) ls)
+      → g (linesOut c r s p ls .state .board) ≡ foldTags f (g (s .board)) (tagsOfLines (s .commentary) ls)
   lines-fold p s [] k a = h .kept s k
   lines-fold p s (l ∷ ls) k a =
       let o = lineOut c r s p l .state in
-      let n = line-noting c r p l s in
-      let parts = all-parts (lineTags (s .noting) l) (tagsOfLines (noteAfter (s .noting) l) ls) a in
+      let n = line-commentary c r p l s in
+      let parts = all-parts (lineTags (s .commentary) l) (tagsOfLines (commentaryAfter (s .commentary) l) ls) a in
       let x = line-step p l s k (parts .0) in
-      let y : g (linesOut c r o (p + length l) ls .state .board) ≡ foldTags f (g (o .board)) (tagsOfLines (noteAfter (s .noting) l) ls)
+      let y : g (linesOut c r o (p + length l) ls .state .board) ≡ foldTags f (g (o .board)) (tagsOfLines (commentaryAfter (s .commentary) l) ls)
       = on (g (o .board)) n (parts .1) (lines-fold (p + length l) o ls (x .still)) in
-      y ∙ rw (x .folded) (sym (fold-append f (g (s .board)) (lineTags (s .noting) l) (tagsOfLines (noteAfter (s .noting) l) ls)))
+      y ∙ rw (x .folded) (sym (fold-append f (g (s .board)) (lineTags (s .commentary) l) (tagsOfLines (commentaryAfter (s .commentary) l) ls)))
     where
       on : {x : A} (b : A) {m n : Bool} → m ≡ n → All (Numbered Fine) (tagsOfLines n ls) → (All (Numbered Fine) (tagsOfLines m ls) → x ≡ foldTags f b (tagsOfLines m ls)) → x ≡ foldTags f b (tagsOfLines n ls)
       on b e a y = (rw e at y) a

@@ -25,8 +25,8 @@ use Rattle.reader.specs.declared.board.State.{State}
 use Rattle.reader.specs.Tag.{cut, TagInside, spanInside}
 use Rattle.reader.specs.Lines.{isBlank, hasBrace, lastBrace, lineKind, tagOf, linePlaced, readingPlaced}
 use Rattle.reader.specs.Pieces.{Out, andThen, entry, rawLines}
-use Rattle.reader.specs.Sections.{opensNote, noteAfter}
-use Rattle.reader.specs.Boards.{closed, noSpan, at, tagged, adding, directed, dated, readBy, readTag, noted, isAllWhite, blocked, braced, inNote, lineBy, lineOut, linesOut, noState, recordOut}
+use Rattle.reader.specs.Sections.{opensCommentary, commentaryAfter}
+use Rattle.reader.specs.Boards.{closed, noSpan, at, tagged, adding, directed, dataAdded, readBy, tagLineOut, withCommentary, isAllWhite, blocked, braced, inCommentary, lineBy, lineOut, linesOut, noState, recordOut}
 use Rattle.reader.specs.Plain.{Item, itemOf, itemsOf, TagPair, Remark, tagsIn, remarksIn, blockValue, plainBy, plainOf}
 use Rattle.reader.proofs.EntryLaws.{All, none, one}
 use Rattle.reader.proofs.LineLaws.{blank-is}
@@ -52,12 +52,12 @@ tagsOn (Data d) l = []
 
 -- Where commentary is open a line holds no tag.
 unfoldable pub lineTags : Bool → List ℕ → List TagPair
-lineTags noting l = cond noting [] (tagsOn (lineKind l) l)
+lineTags commentary l = cond commentary [] (tagsOn (lineKind l) l)
 
 -- The tags of lines; noting tells whether commentary is open before them.
 abbrev pub tagsOfLines : Bool → List (List ℕ) → List TagPair
-tagsOfLines noting [] = []
-tagsOfLines noting (l ∷ ls) = lineTags noting l ++ tagsOfLines (noteAfter noting l) ls
+tagsOfLines commentary [] = []
+tagsOfLines commentary (l ∷ ls) = lineTags commentary l ++ tagsOfLines (commentaryAfter commentary l) ls
 
 -- The comment behind a tag, which counts its own tag; n tags stand before the line.
 abbrev pub commentOn : TagReading → List ℕ → ℕ → List Remark
@@ -74,12 +74,12 @@ directivesOn Bracket l n = []
 directivesOn (Data d) l n = []
 
 unfoldable pub lineDirectives : Bool → List ℕ → ℕ → List Remark
-lineDirectives noting l n = cond noting [] (directivesOn (lineKind l) l n)
+lineDirectives commentary l n = cond commentary [] (directivesOn (lineKind l) l n)
 
 -- The directives of lines with n tags before them.
 abbrev pub directivesOfLines : Bool → ℕ → List (List ℕ) → List Remark
-directivesOfLines noting n [] = []
-directivesOfLines noting n (l ∷ ls) = lineDirectives noting l n ++ directivesOfLines (noteAfter noting l) (n + length (lineTags noting l)) ls
+directivesOfLines commentary n [] = []
+directivesOfLines commentary n (l ∷ ls) = lineDirectives commentary l n ++ directivesOfLines (commentaryAfter commentary l) (n + length (lineTags commentary l)) ls
 
 -- ---- commentary of lines
 
@@ -101,56 +101,56 @@ blocksOn (Data d) l n = []
 
 -- Where commentary is open, g is its text up to the line.
 unfoldable pub lineBlocks : Bool → List ℕ → List ℕ → ℕ → List Remark
-lineBlocks noting g l n = cond noting (cond (hasBrace l) (blockOn (g ++ take (lastBrace l) l) n) []) (blocksOn (lineKind l) l n)
+lineBlocks commentary g l n = cond commentary (cond (hasBrace l) (blockOn (g ++ take (lastBrace l) l) n) []) (blocksOn (lineKind l) l n)
 
 -- The text of commentary up to the end of a line that leaves it open.
 unfoldable pub blockAfter : Bool → List ℕ → List ℕ → List ℕ
-blockAfter noting g l = cond noting (g ++ l) (drop (length (lead l) + 1) l)
+blockAfter commentary g l = cond commentary (g ++ l) (drop (length (lead l) + 1) l)
 
 -- The blocks of lines, with their CRs.
 abbrev pub blocksOfLines : Bool → List ℕ → ℕ → List (List ℕ) → List Remark
-blocksOfLines noting g n [] = []
-blocksOfLines noting g n (l ∷ ls) = lineBlocks noting g l n ++ blocksOfLines (noteAfter noting l) (blockAfter noting g l) (n + length (lineTags noting l)) ls
+blocksOfLines commentary g n [] = []
+blocksOfLines commentary g n (l ∷ ls) = lineBlocks commentary g l n ++ blocksOfLines (commentaryAfter commentary l) (blockAfter commentary g l) (n + length (lineTags commentary l)) ls
 
 -- ---- whether commentary is open
 
 -- After a line of a kind, and after any line.
 module _ (c : Conventions) (r : List ℕ) (p : ℕ) (l : List ℕ) where
-  kind-noting : (s : State) (k : Line) → s .noting ≡ false → lineBy c r s p l k .state .noting ≡ opensNote k l
-  unfolding braced blocked readTag tagged
-  kind-noting s Blank n = n
-  kind-noting s Brace n = by-brace (hasBrace l)
+  kind-commentary : (s : State) (k : Line) → s .commentary ≡ false → lineBy c r s p l k .state .commentary ≡ opensCommentary k l
+  unfolding braced blocked tagLineOut tagged
+  kind-commentary s Blank n = n
+  kind-commentary s Brace n = by-brace (hasBrace l)
     where
-      by-brace : (b : Bool) → cond b (blocked r s (p + length (lead l) + 1) (p + lastBrace l)) (record { state = noted s true (p + length (lead l) + 1); entries = [] }) .state .noting ≡ not b
+      by-brace : (b : Bool) → cond b (blocked r s (p + length (lead l) + 1) (p + lastBrace l)) (record { state = withCommentary s true (p + length (lead l) + 1); entries = [] }) .state .commentary ≡ not b
       by-brace true = refl
       by-brace false = refl
-  kind-noting s (Directive d) n = n
-  kind-noting s (TagOn (Plain t)) n = refl
-  kind-noting s (TagOn (WithComment t d)) n = refl
-  kind-noting s (TagOn (WithData t d)) n = refl
-  kind-noting s Bracket n = n
-  kind-noting s (Data d) n = n
+  kind-commentary s (Directive d) n = n
+  kind-commentary s (TagOn (Plain t)) n = refl
+  kind-commentary s (TagOn (WithComment t d)) n = refl
+  kind-commentary s (TagOn (WithData t d)) n = refl
+  kind-commentary s Bracket n = n
+  kind-commentary s (Data d) n = n
 
-  pub line-noting : (s : State) → lineOut c r s p l .state .noting ≡ noteAfter (s .noting) l
-  unfolding lineOut noteAfter inNote blocked
-  line-noting s = by-noting (s .noting) refl
+  pub line-commentary : (s : State) → lineOut c r s p l .state .commentary ≡ commentaryAfter (s .commentary) l
+  unfolding lineOut commentaryAfter inCommentary blocked
+  line-commentary s = by-commentary (s .commentary) refl
     where
-      by-brace : (b : Bool) → s .noting ≡ true → cond b (blocked r s (s .block) (p + lastBrace l)) (record { state = s; entries = [] }) .state .noting ≡ not b
+      by-brace : (b : Bool) → s .commentary ≡ true → cond b (blocked r s (s .block) (p + lastBrace l)) (record { state = s; entries = [] }) .state .commentary ≡ not b
       by-brace true n = refl
       by-brace false n = n
 
-      by-noting : (b : Bool) → s .noting ≡ b → cond b (inNote r s p l) (lineBy c r s p l (lineKind l)) .state .noting ≡ cond b (not (hasBrace l)) (opensNote (lineKind l) l)
-      by-noting true n = by-brace (hasBrace l) n
-      by-noting false n = kind-noting s (lineKind l) n
+      by-commentary : (b : Bool) → s .commentary ≡ b → cond b (inCommentary r s p l) (lineBy c r s p l (lineKind l)) .state .commentary ≡ cond b (not (hasBrace l)) (opensCommentary (lineKind l) l)
+      by-commentary true n = by-brace (hasBrace l) n
+      by-commentary false n = kind-commentary s (lineKind l) n
 
 -- ---- the text of open commentary
 
 -- Where commentary is open at the place p, g stands from its block's start up to p.
 record Gathered (r : List ℕ) (p : ℕ) (s : State) (g : List ℕ) : Type 0 where
-  placed : s .noting ≡ true → s .block + length g ≡ p
-  held : s .noting ≡ true → drop (s .block) r ≡ g ++ drop p r
+  placed : s .commentary ≡ true → s .block + length g ≡ p
+  held : s .commentary ≡ true → drop (s .block) r ≡ g ++ drop p r
 
-not-open : {r : List ℕ} {p : ℕ} {s : State} {g : List ℕ} → s .noting ≡ false → Gathered r p s g
+not-open : {r : List ℕ} {p : ℕ} {s : State} {g : List ℕ} → s .commentary ≡ false → Gathered r p s g
 not-open n = record { placed = λ e. clash (sym n ∙ e); held = λ e. clash (sym n ∙ e) }
 
 -- A line that opens commentary has a byte behind its white space.
@@ -170,15 +170,15 @@ module _ (c : Conventions) (r : List ℕ) (p : ℕ) (l : List ℕ) (i : LineAt r
   line-rest = sym (take-append-drop (length l) (drop p r)) ∙ rw (drop-drop (length l) p r, ← i .bytes)
 
   -- The text up to the byte k of the line.
-  gathered-more : (s : State) (g : List ℕ) (k : ℕ) → k ≤ length l → s .noting ≡ true → Gathered r p s g → take (p + k - s .block) (drop (s .block) r) ≡ g ++ take k l
+  gathered-more : (s : State) (g : List ℕ) (k : ℕ) → k ≤ length l → s .commentary ≡ true → Gathered r p s g → take (p + k - s .block) (drop (s .block) r) ≡ g ++ take k l
   gathered-more s g k h n a =
       let z = a .placed n in
       let m : p + k - s .block ≡ length g + k = omega arith in
       rw (m, a .held n, take-append-add g (drop p r) k, line-rest, take-append-le k l (drop (p + length l) r) h)
 
-  note-gathered : (s : State) (g : List ℕ) → s .noting ≡ true → Gathered r p s g → Gathered r (p + length l) (inNote r s p l .state) (g ++ l)
-  unfolding inNote blocked
-  note-gathered s g n a =
+  commentary-gathered : (s : State) (g : List ℕ) → s .commentary ≡ true → Gathered r p s g → Gathered r (p + length l) (inCommentary r s p l .state) (g ++ l)
+  unfolding inCommentary blocked
+  commentary-gathered s g n a =
       chosen (λ (o : Out State). Gathered r (p + length l) (o .state) (g ++ l)) (hasBrace l) (blocked r s (s .block) (p + lastBrace l)) (record { state = s; entries = [] })
       (λ e. not-open refl)
       (λ e.
@@ -194,7 +194,7 @@ module _ (c : Conventions) (r : List ℕ) (p : ℕ) (l : List ℕ) (i : LineAt r
       let h = brace-room l k in
       let b : p + length (lead l) + 1 ≡ p + n = omega arith in
       chosen (λ (o : Out State). Gathered r (p + length l) (o .state) (drop n l)) (hasBrace l) (blocked r s (p + length (lead l) + 1) (p + lastBrace l))
-      (record { state = noted s true (p + length (lead l) + 1); entries = [] })
+      (record { state = withCommentary s true (p + length (lead l) + 1); entries = [] })
       (λ e. not-open refl)
       (λ e.
       record {
@@ -202,21 +202,21 @@ module _ (c : Conventions) (r : List ℕ) (p : ℕ) (l : List ℕ) (i : LineAt r
         held = λ m. rw (b, ← drop-drop n p r, line-rest) (drop-append-le n l (drop (p + length l) r) h);
       })
 
-  kind-gathered : (s : State) (k : Line) → s .noting ≡ false → lineKind l ≡ k → Gathered r (p + length l) (lineBy c r s p l k .state) (drop (length (lead l) + 1) l)
-  kind-gathered s Blank n e = not-open (kind-noting c r p l s Blank n)
+  kind-gathered : (s : State) (k : Line) → s .commentary ≡ false → lineKind l ≡ k → Gathered r (p + length l) (lineBy c r s p l k .state) (drop (length (lead l) + 1) l)
+  kind-gathered s Blank n e = not-open (kind-commentary c r p l s Blank n)
   kind-gathered s Brace n e = brace-gathered s e
-  kind-gathered s (Directive d) n e = not-open (kind-noting c r p l s (Directive d) n)
-  kind-gathered s (TagOn t) n e = not-open (kind-noting c r p l s (TagOn t) n)
-  kind-gathered s Bracket n e = not-open (kind-noting c r p l s Bracket n)
-  kind-gathered s (Data d) n e = not-open (kind-noting c r p l s (Data d) n)
+  kind-gathered s (Directive d) n e = not-open (kind-commentary c r p l s (Directive d) n)
+  kind-gathered s (TagOn t) n e = not-open (kind-commentary c r p l s (TagOn t) n)
+  kind-gathered s Bracket n e = not-open (kind-commentary c r p l s Bracket n)
+  kind-gathered s (Data d) n e = not-open (kind-commentary c r p l s (Data d) n)
 
-  line-gathered : (s : State) (g : List ℕ) → Gathered r p s g → Gathered r (p + length l) (lineOut c r s p l .state) (blockAfter (s .noting) g l)
+  line-gathered : (s : State) (g : List ℕ) → Gathered r p s g → Gathered r (p + length l) (lineOut c r s p l .state) (blockAfter (s .commentary) g l)
   unfolding lineOut blockAfter
-  line-gathered s g a = by-noting (s .noting) refl
+  line-gathered s g a = by-commentary (s .commentary) refl
     where
-      by-noting : (b : Bool) → s .noting ≡ b → Gathered r (p + length l) (cond b (inNote r s p l) (lineBy c r s p l (lineKind l)) .state) (cond b (g ++ l) (drop (length (lead l) + 1) l))
-      by-noting true n = note-gathered s g n a
-      by-noting false n = kind-gathered s (lineKind l) n refl
+      by-commentary : (b : Bool) → s .commentary ≡ b → Gathered r (p + length l) (cond b (inCommentary r s p l) (lineBy c r s p l (lineKind l)) .state) (cond b (g ++ l) (drop (length (lead l) + 1) l))
+      by-commentary true n = commentary-gathered s g n a
+      by-commentary false n = kind-gathered s (lineKind l) n refl
 
 -- ---- steps
 
@@ -268,9 +268,9 @@ closed-adds c r s =
 idle-adds : (r : List ℕ) (s s′ : State) → s′ .tags ≡ s .tags → Adds r s [] [] [] (record { state = s′; entries = [] })
 idle-adds r s s′ e = record { tags-added = λ is. refl; directives-added = λ is. refl; blocks-added = λ is. refl; counted = e ∙ sym (add-zero (s .tags)) }
 
-dated-adds : (r : List ℕ) (s : State) (p : ℕ) (d : Span) → Adds r s [] [] [] (dated s p d)
+data-adds : (r : List ℕ) (s : State) (p : ℕ) (d : Span) → Adds r s [] [] [] (dataAdded s p d)
 unfolding itemOf
-dated-adds r s p d = maybe (eqb (s .section .kind) 0)
+data-adds r s p d = maybe (eqb (s .section .kind) 0)
   where
     maybe : (b : Bool) → Adds r s [] [] [] (adding s (cond b [] (entry 5 (p + d .start) (d .len) (s .section .kind) ∷ [])))
     maybe true = idle-adds r s (adding s [] .state) refl
@@ -281,8 +281,8 @@ blocked-adds : (r : List ℕ) (s : State) (i j : ℕ) (g : List ℕ) → take (j
 unfolding blocked itemOf
 blocked-adds r s i j g e = rw (← e) (maybe (isAllWhite r i j))
   where
-    maybe : (b : Bool) → Adds r s [] [] (cond b [] (record { bytes = take (j - i) (drop i r); before = s .tags } ∷ [])) (adding (noted s false 0) (cond b [] (entry 4 i (j - i) (s .tags) ∷ [])))
-    maybe true = idle-adds r s (adding (noted s false 0) [] .state) refl
+    maybe : (b : Bool) → Adds r s [] [] (cond b [] (record { bytes = take (j - i) (drop i r); before = s .tags } ∷ [])) (adding (withCommentary s false 0) (cond b [] (entry 4 i (j - i) (s .tags) ∷ [])))
+    maybe true = idle-adds r s (adding (withCommentary s false 0) [] .state) refl
     maybe false = record { tags-added = λ is. refl; directives-added = λ is. refl; blocks-added = λ is. refl; counted = sym (add-zero (s .tags)) }
 
 -- ---- one line
@@ -310,10 +310,10 @@ module _ (c : Conventions) (r : List ℕ) (p : ℕ) (l : List ℕ) (i : LineAt r
       then-adds r s (pairOn (Plain t) l ∷ []) [] [] (commentOn (WithComment t d) l (s .tags)) [] [] o (directed (o .state) p d) (tagged-adds s q t noSpan (j .0)) (directed-adds (o .state) d (j .1))
   reading-adds s q (WithData t d) j =
       let o = tagged c s p l q t (at p d) in
-      then-adds r s (pairOn (Plain t) l ∷ []) [] [] [] [] [] o (dated (o .state) p d) (tagged-adds s q t (at p d) (j .0)) (dated-adds r (o .state) p d)
+      then-adds r s (pairOn (Plain t) l ∷ []) [] [] [] [] [] o (dataAdded (o .state) p d) (tagged-adds s q t (at p d) (j .0)) (data-adds r (o .state) p d)
 
-  tag-adds : (s : State) (t : TagReading) → readingPlaced t (length l) → Adds r s (pairOn t l ∷ []) (commentOn t l (s .tags)) [] (readTag c r s p l t)
-  unfolding readTag
+  tag-adds : (s : State) (t : TagReading) → readingPlaced t (length l) → Adds r s (pairOn t l ∷ []) (commentOn t l (s .tags)) [] (tagLineOut c r s p l t)
+  unfolding tagLineOut
   tag-adds s t j =
       let o = closed c r s in
       let k : Adds r (o .state) (pairOn t l ∷ []) (commentOn t l (s .tags)) [] (readBy c (o .state) p l (p + length l) t)
@@ -331,13 +331,13 @@ module _ (c : Conventions) (r : List ℕ) (p : ℕ) (l : List ℕ) (i : LineAt r
           let b : p + length (lead l) + 1 ≡ p + n = omega arith in
           rw (m, b) (PartPlaced r l p n (lastBrace l - n) (i .bytes) (omega (arith, brace-room l k, brace-few l)))
 
-      by-brace : (b : Bool) → Adds r s [] [] (cond b (blockOn (innerBlock l) (s .tags)) []) (cond b (blocked r s (p + length (lead l) + 1) (p + lastBrace l)) (record { state = noted s true (p + length (lead l) + 1); entries = [] }))
+      by-brace : (b : Bool) → Adds r s [] [] (cond b (blockOn (innerBlock l) (s .tags)) []) (cond b (blocked r s (p + length (lead l) + 1) (p + lastBrace l)) (record { state = withCommentary s true (p + length (lead l) + 1); entries = [] }))
       by-brace true = blocked-adds r s (p + length (lead l) + 1) (p + lastBrace l) (innerBlock l) inner
-      by-brace false = idle-adds r s (noted s true (p + length (lead l) + 1)) refl
+      by-brace false = idle-adds r s (withCommentary s true (p + length (lead l) + 1)) refl
 
-  note-adds : (s : State) (g : List ℕ) → s .noting ≡ true → Gathered r p s g → Adds r s [] [] (cond (hasBrace l) (blockOn (g ++ take (lastBrace l) l) (s .tags)) []) (inNote r s p l)
-  unfolding inNote
-  note-adds s g n a = by-brace (hasBrace l)
+  commentary-adds : (s : State) (g : List ℕ) → s .commentary ≡ true → Gathered r p s g → Adds r s [] [] (cond (hasBrace l) (blockOn (g ++ take (lastBrace l) l) (s .tags)) []) (inCommentary r s p l)
+  unfolding inCommentary
+  commentary-adds s g n a = by-brace (hasBrace l)
     where
       by-brace : (b : Bool) → Adds r s [] [] (cond b (blockOn (g ++ take (lastBrace l) l) (s .tags)) []) (cond b (blocked r s (s .block) (p + lastBrace l)) (record { state = s; entries = [] }))
       by-brace true = blocked-adds r s (s .block) (p + lastBrace l) (g ++ take (lastBrace l) l) (gathered-more c r p l i s g (lastBrace l) (brace-few l) n a)
@@ -349,34 +349,34 @@ module _ (c : Conventions) (r : List ℕ) (p : ℕ) (l : List ℕ) (i : LineAt r
   kind-adds s (Directive d) e j = directed-adds s d j
   kind-adds s (TagOn t) e j = tag-adds s t j
   kind-adds s Bracket e j = idle-adds r s s refl
-  kind-adds s (Data d) e j = dated-adds r s p d
+  kind-adds s (Data d) e j = data-adds r s p d
 
-  line-adds : (s : State) (g : List ℕ) → Gathered r p s g → Adds r s (lineTags (s .noting) l) (lineDirectives (s .noting) l (s .tags)) (lineBlocks (s .noting) g l (s .tags)) (lineOut c r s p l)
+  line-adds : (s : State) (g : List ℕ) → Gathered r p s g → Adds r s (lineTags (s .commentary) l) (lineDirectives (s .commentary) l (s .tags)) (lineBlocks (s .commentary) g l (s .tags)) (lineOut c r s p l)
   unfolding lineOut lineTags lineDirectives lineBlocks
-  line-adds s g a = by-noting (s .noting) refl
+  line-adds s g a = by-commentary (s .commentary) refl
     where
-      by-noting : (b : Bool) → s .noting ≡ b
+      by-commentary : (b : Bool) → s .commentary ≡ b
           → Adds r s (cond b [] (tagsOn (lineKind l) l)) (cond b [] (directivesOn (lineKind l) l (s .tags)))
-          (cond b (cond (hasBrace l) (blockOn (g ++ take (lastBrace l) l) (s .tags)) []) (blocksOn (lineKind l) l (s .tags))) (cond b (inNote r s p l) (lineBy c r s p l (lineKind l)))
-      by-noting true n = note-adds s g n a
-      by-noting false n = kind-adds s (lineKind l) refl (LineInside l)
+          (cond b (cond (hasBrace l) (blockOn (g ++ take (lastBrace l) l) (s .tags)) []) (blocksOn (lineKind l) l (s .tags))) (cond b (inCommentary r s p l) (lineBy c r s p l (lineKind l)))
+      by-commentary true n = commentary-adds s g n a
+      by-commentary false n = kind-adds s (lineKind l) refl (LineInside l)
 
 -- ---- all lines
 
 lines-add : (c : Conventions) (r : List ℕ) (p : ℕ) (s : State) (g : List ℕ) (ls : List (List ℕ)) → rawLines (drop p r) ≡ ls → Gathered r p s g
-    → Adds r s (tagsOfLines (s .noting) ls) (directivesOfLines (s .noting) (s .tags) ls) (blocksOfLines (s .noting) g (s .tags) ls) (linesOut c r s p ls)
+    → Adds r s (tagsOfLines (s .commentary) ls) (directivesOfLines (s .commentary) (s .tags) ls) (blocksOfLines (s .commentary) g (s .tags) ls) (linesOut c r s p ls)
 lines-add c r p s g [] e a = closed-adds c r s
 lines-add c r p s g (l ∷ ls) e a =
     let o = lineOut c r s p l in
     let k = linesOut c r (o .state) (p + length l) ls in
     let i = first-line r p l ls e in
-    let n = noteAfter (s .noting) l in
-    let h = blockAfter (s .noting) g l in
-    let m = s .tags + length (lineTags (s .noting) l) in
+    let n = commentaryAfter (s .commentary) l in
+    let h = blockAfter (s .commentary) g l in
+    let m = s .tags + length (lineTags (s .commentary) l) in
     let x = line-adds c r p l i s g a in
     let y : Adds r (o .state) (tagsOfLines n ls) (directivesOfLines n m ls) (blocksOfLines n h m ls) k
-    = rw (line-noting c r p l s, x .counted) at (lines-add c r (p + length l) (o .state) h ls (next-line r p l ls e .rest) (line-gathered c r p l i s g a)) in
-    then-adds r s (lineTags (s .noting) l) _ (lineDirectives (s .noting) l (s .tags)) _ (lineBlocks (s .noting) g l (s .tags)) _ o k x y
+    = rw (line-commentary c r p l s, x .counted) at (lines-add c r (p + length l) (o .state) h ls (next-line r p l ls e .rest) (line-gathered c r p l i s g a)) in
+    then-adds r s (lineTags (s .commentary) l) _ (lineDirectives (s .commentary) l (s .tags)) _ (lineBlocks (s .commentary) g l (s .tags)) _ o k x y
 
 record-adds : (c : Conventions) (r : List ℕ) → Adds r noState (tagsOfLines false (rawLines r)) (directivesOfLines false 0 (rawLines r)) (blocksOfLines false [] 0 (rawLines r)) (recordOut c r)
 unfolding recordOut

@@ -21,7 +21,7 @@ use Rattle.reader.specs.declared.section.Visit.the-variants.{Stop, Pass,
 use Rattle.reader.specs.Tag.{tagLine, splitOf, cut, spanInside}
 use Rattle.reader.specs.Lines.{isBlank, hasBrace, splitAs, splitLine, bracketAs, bracketLine, kindBy, lineKind, linePlaced}
 use Rattle.reader.specs.Pieces.{Piece, piece, rawLines}
-use Rattle.reader.specs.Sections.{opensNote, noteAfter, closesSection, stopsAt, dataPiece, pieceOf, dataIn, visitKind, visitOf, noPiece, NextPiece}
+use Rattle.reader.specs.Sections.{opensCommentary, commentaryAfter, closesSection, stopsAt, dataPiece, pieceOf, dataIn, visitKind, visitOf, noPiece, NextPiece}
 use Rattle.reader.proofs.Inside.{LineInside}
 use Rattle.reader.proofs.LineLaws.{blank-span}
 use Rattle.reader.proofs.SectionLaws.{LineAt}
@@ -30,12 +30,12 @@ use Rattle.reader.proofs.SectionLaws.{LineAt}
 
 -- The data from the line l on, at the place p, by the visit of l; ls are the lines after it.
 abbrev visitData : Bool → ℕ → List ℕ → List (List ℕ) → Visit → List Piece
-visitData note p l ls Stop = []
-visitData note p l ls Pass = dataIn note (p + length l) ls
-visitData note p l ls (PieceOn s) = piece (p + s .start) (cut s l) ∷ dataIn false (p + length l) ls
+visitData commentary p l ls Stop = []
+visitData commentary p l ls Pass = dataIn commentary (p + length l) ls
+visitData commentary p l ls (PieceOn s) = piece (p + s .start) (cut s l) ∷ dataIn false (p + length l) ls
 
-kind-visit : (noting : Bool) (k : Line) (p : ℕ) (l : List ℕ) (ls : List (List ℕ))
-    → cond (not noting && closesSection k) [] (cond noting [] (dataPiece p l k) ++ dataIn (cond noting (not (hasBrace l)) (opensNote k l)) (p + length l) ls) ≡ visitData (cond noting (not (hasBrace l)) (opensNote k l)) p l ls (cond noting Pass (visitKind k))
+kind-visit : (commentary : Bool) (k : Line) (p : ℕ) (l : List ℕ) (ls : List (List ℕ))
+    → cond (not commentary && closesSection k) [] (cond commentary [] (dataPiece p l k) ++ dataIn (cond commentary (not (hasBrace l)) (opensCommentary k l)) (p + length l) ls) ≡ visitData (cond commentary (not (hasBrace l)) (opensCommentary k l)) p l ls (cond commentary Pass (visitKind k))
 kind-visit true k p l ls = refl
 kind-visit false Blank p l ls = refl
 kind-visit false Brace p l ls = refl
@@ -44,11 +44,11 @@ kind-visit false (TagOn t) p l ls = refl
 kind-visit false Bracket p l ls = refl
 kind-visit false (Data s) p l ls = refl
 
-visit-data : (noting : Bool) (p : ℕ) (l : List ℕ) (ls : List (List ℕ)) (v : Visit) → visitOf noting l ≡ v → dataIn noting p (l ∷ ls) ≡ visitData (noteAfter noting l) p l ls v
-unfolding stopsAt pieceOf noteAfter visitOf
-visit-data noting p l ls v e =
-    kind-visit noting (lineKind l) p l ls
-    ∙ ap (visitData (cond noting (not (hasBrace l)) (opensNote (lineKind l) l)) p l ls) e
+visit-data : (commentary : Bool) (p : ℕ) (l : List ℕ) (ls : List (List ℕ)) (v : Visit) → visitOf commentary l ≡ v → dataIn commentary p (l ∷ ls) ≡ visitData (commentaryAfter commentary l) p l ls v
+unfolding stopsAt pieceOf commentaryAfter visitOf
+visit-data commentary p l ls v e =
+    kind-visit commentary (lineKind l) p l ls
+    ∙ ap (visitData (cond commentary (not (hasBrace l)) (opensCommentary (lineKind l) l)) p l ls) e
 
 -- ---- the piece of a data line is not empty
 
@@ -81,7 +81,7 @@ some-kind : (l : List ℕ) → some (visitKind (lineKind l)) ≡ true
 unfolding lineKind
 some-kind l = by-cases (isBlank l) (λ e. rw e) (λ e. rw e (some-by (getD (trimStart l) 0 0) l e))
 
-some-visit : (noting : Bool) (l : List ℕ) → some (visitOf noting l) ≡ true
+some-visit : (commentary : Bool) (l : List ℕ) → some (visitOf commentary l) ≡ true
 unfolding visitOf
 some-visit true l = refl
 some-visit false l = some-kind l
@@ -90,8 +90,8 @@ not-false : (b : Bool) → not b ≡ true → b ≡ false
 not-false false e = refl
 not-false true e = sym e
 
-piece-some : (noting : Bool) (l : List ℕ) (s : Span) → visitOf noting l ≡ PieceOn s → eqb (s .len) 0 ≡ false
-piece-some noting l s e = not-false (eqb (s .len) 0) (sym (ap some e) ∙ some-visit noting l)
+piece-some : (commentary : Bool) (l : List ℕ) (s : Span) → visitOf commentary l ≡ PieceOn s → eqb (s .len) 0 ≡ false
+piece-some commentary l s e = not-false (eqb (s .len) 0) (sym (ap some e) ∙ some-visit commentary l)
 
 -- ---- and it lies inside the line
 
@@ -108,13 +108,13 @@ kind-placed (TagOn t) n h = tt
 kind-placed Bracket n h = tt
 kind-placed (Data s) n h = h
 
-visit-placed : (noting : Bool) (l : List ℕ) → placed (visitOf noting l) (length l)
+visit-placed : (commentary : Bool) (l : List ℕ) → placed (visitOf commentary l) (length l)
 unfolding visitOf
 visit-placed true l = tt
 visit-placed false l = kind-placed (lineKind l) (length l) (LineInside l)
 
-pub piece-placed : (noting : Bool) (l : List ℕ) (s : Span) → visitOf noting l ≡ PieceOn s → s .start + s .len ≤ length l
-piece-placed noting l s e = rw e at (visit-placed noting l)
+pub piece-placed : (commentary : Bool) (l : List ℕ) (s : Span) → visitOf commentary l ≡ PieceOn s → s .start + s .len ≤ length l
+piece-placed commentary l s e = rw e at (visit-placed commentary l)
 
 -- A part of a line is a part of the text that the line stands in.
 take-less : (n m : ℕ) (s : List ℕ) → n ≤ m → take n (take m s) ≡ take n s
@@ -138,8 +138,8 @@ line-cut r e l s q h =
 -- ---- the loop
 
 -- The search began at p and goes on at the place e.
-pub record Seeking (r : List ℕ) (p : ℕ) (noting : Bool) (e : ℕ) : Type 0 where
-  pub lines : dataIn false p (rawLines (drop p r)) ≡ dataIn noting e (rawLines (drop e r))
+pub record Seeking (r : List ℕ) (p : ℕ) (commentary : Bool) (e : ℕ) : Type 0 where
+  pub lines : dataIn false p (rawLines (drop p r)) ≡ dataIn commentary e (rawLines (drop e r))
   pub from-p : p ≤ e
   pub inside : e ≤ length r
 
@@ -147,28 +147,28 @@ pub seeking : (r : List ℕ) (p : ℕ) → p ≤ length r → Seeking r p false 
 seeking r p h = record { lines = refl; from-p = omega arith; inside = h }
 
 module _ (r : List ℕ) (p : ℕ) where
-  seek-line : (noting : Bool) (e : ℕ) (l : List ℕ) (v : Visit) → Seeking r p noting e → LineAt r e l → visitOf noting l ≡ v
-      → dataIn false p (rawLines (drop p r)) ≡ visitData (noteAfter noting l) e l (rawLines (drop (e + length l) r)) v
-  seek-line noting e l v k q h = k .lines ∙ (ap (dataIn noting e) (q .lines) ∙ visit-data noting e l (rawLines (drop (e + length l) r)) v h)
+  seek-line : (commentary : Bool) (e : ℕ) (l : List ℕ) (v : Visit) → Seeking r p commentary e → LineAt r e l → visitOf commentary l ≡ v
+      → dataIn false p (rawLines (drop p r)) ≡ visitData (commentaryAfter commentary l) e l (rawLines (drop (e + length l) r)) v
+  seek-line commentary e l v k q h = k .lines ∙ (ap (dataIn commentary e) (q .lines) ∙ visit-data commentary e l (rawLines (drop (e + length l) r)) v h)
 
-  pub seek-pass : (noting : Bool) (e : ℕ) (l : List ℕ) → Seeking r p noting e → LineAt r e l → visitOf noting l ≡ Pass → Seeking r p (noteAfter noting l) (e + length l)
-  seek-pass noting e l k q h = record { lines = seek-line noting e l Pass k q h; from-p = omega (arith, k .from-p); inside = q .inside }
+  pub seek-pass : (commentary : Bool) (e : ℕ) (l : List ℕ) → Seeking r p commentary e → LineAt r e l → visitOf commentary l ≡ Pass → Seeking r p (commentaryAfter commentary l) (e + length l)
+  seek-pass commentary e l k q h = record { lines = seek-line commentary e l Pass k q h; from-p = omega (arith, k .from-p); inside = q .inside }
 
   no-next : (e : ℕ) → dataIn false p (rawLines (drop p r)) ≡ [] → p ≤ e → e ≤ length r → NextPiece r p (noPiece e)
   no-next e d h i = record { data-lines = d; piece-inside = omega arith; inside = i; past = omega (arith, h); later = clash }
 
-  pub seek-stop : (noting : Bool) (e : ℕ) (l : List ℕ) → Seeking r p noting e → LineAt r e l → visitOf noting l ≡ Stop → NextPiece r p (noPiece e)
-  seek-stop noting e l k q h = no-next e (seek-line noting e l Stop k q h) (k .from-p) (k .inside)
+  pub seek-stop : (commentary : Bool) (e : ℕ) (l : List ℕ) → Seeking r p commentary e → LineAt r e l → visitOf commentary l ≡ Stop → NextPiece r p (noPiece e)
+  seek-stop commentary e l k q h = no-next e (seek-line commentary e l Stop k q h) (k .from-p) (k .inside)
 
-  pub seek-end : (noting : Bool) (e : ℕ) → Seeking r p noting e → length r ≤ e → NextPiece r p (noPiece e)
-  seek-end noting e k h = no-next e (k .lines ∙ ap (λ (x : List ℕ). dataIn noting e (rawLines x)) (stop r e h)) (k .from-p) (k .inside)
+  pub seek-end : (commentary : Bool) (e : ℕ) → Seeking r p commentary e → length r ≤ e → NextPiece r p (noPiece e)
+  seek-end commentary e k h = no-next e (k .lines ∙ ap (λ (x : List ℕ). dataIn commentary e (rawLines x)) (stop r e h)) (k .from-p) (k .inside)
 
-  pub seek-piece : (noting : Bool) (e : ℕ) (l : List ℕ) (s : Span) → Seeking r p noting e → LineAt r e l → visitOf noting l ≡ PieceOn s
+  pub seek-piece : (commentary : Bool) (e : ℕ) (l : List ℕ) (s : Span) → Seeking r p commentary e → LineAt r e l → visitOf commentary l ≡ PieceOn s
       → NextPiece r p (record { more = true; piece = record { start = e + s .start; len = s .len }; at = e + length l })
-  seek-piece noting e l s k q h =
-      let i = piece-placed noting l s h in
+  seek-piece commentary e l s k q h =
+      let i = piece-placed commentary l s h in
       record {
-        data-lines = rw (piece-some noting l s h, ← line-cut r e l s q i) (seek-line noting e l (PieceOn s) k q h);
+        data-lines = rw (piece-some commentary l s h, ← line-cut r e l s q i) (seek-line commentary e l (PieceOn s) k q h);
         piece-inside = omega (arith, q .inside, i);
         inside = q .inside;
         past = omega (arith, k .from-p, i);

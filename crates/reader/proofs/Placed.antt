@@ -21,13 +21,13 @@ use Rattle.reader.specs.declared.line.TagReading.the-variants.{Plain, Wi
 use Rattle.reader.specs.declared.section.Open.{Open}
 use Rattle.reader.specs.declared.section.Walk.{Walk}
 use Rattle.reader.specs.declared.board.State.{State}
-use Rattle.reader.specs.Store.{word, flat, entryWords}
+use Rattle.reader.specs.Store.{lowWord, flat, entryWords}
 use Rattle.reader.specs.Tag.{cut, spanInside, TagInside}
 use Rattle.reader.specs.Names.{tagNumber}
 use Rattle.reader.specs.Lines.{hasBrace, lastBrace, lineKind, linePlaced, readingPlaced}
 use Rattle.reader.specs.Pieces.{Piece, Out, entry, rawLines}
-use Rattle.reader.specs.Sections.{noteAfter, stopsAt, dataPiece, pieceOf, dataIn, splitPiece, sectionData, walked, noWalk, walkedAll}
-use Rattle.reader.specs.Boards.{lastEntries, closed, closedBy, noSpan, noOpen, at, seatOpen, openBy, tagged, dated, readBy, readTag, noted, blocked, braced, inNote, lineBy, lineOut, linesOut, noState, recordOut, isAllWhite}
+use Rattle.reader.specs.Sections.{commentaryAfter, stopsAt, dataPiece, pieceOf, dataIn, splitPiece, sectionData, walked, noWalk, walkedAll}
+use Rattle.reader.specs.Boards.{lastEntries, closed, closedBy, noSpan, noOpen, at, seatOpen, openBy, tagged, dataAdded, readBy, tagLineOut, withCommentary, blocked, braced, inCommentary, lineBy, lineOut, linesOut, noState, recordOut, isAllWhite}
 use Rattle.reader.specs.Records.{recordsOf}
 use Rattle.reader.specs.Editions.{entriesFrom, entriesOf}
 use Rattle.reader.proofs.EntryLaws.{All, none, one, all-append, all-map, Inside, Trick, out-all}
@@ -78,18 +78,18 @@ data-within r p l (TagOn t) h i = none
 data-within r p l Bracket h i = none
 data-within r p l (Data s) h i = one {x = record { at = p + s .start; bytes = cut s l }} (record { ends = omega (arith, cut-len s l) }) none
 
-piece-within : (r : List ℕ) (noting : Bool) (p : ℕ) (l : List ℕ) → p + length l ≤ length r → All (Within (length r)) (pieceOf noting p l)
+piece-within : (r : List ℕ) (commentary : Bool) (p : ℕ) (l : List ℕ) → p + length l ≤ length r → All (Within (length r)) (pieceOf commentary p l)
 unfolding pieceOf
 piece-within r true p l h = none
 piece-within r false p l h = data-within r p l (lineKind l) h (LineInside l)
 
-lines-within : (r : List ℕ) (noting : Bool) (p : ℕ) (ls : List (List ℕ)) → rawLines (drop p r) ≡ ls → All (Within (length r)) (dataIn noting p ls)
-lines-within r noting p [] e = none
-lines-within r noting p (l ∷ ls) e =
+lines-within : (r : List ℕ) (commentary : Bool) (p : ℕ) (ls : List (List ℕ)) → rawLines (drop p r) ≡ ls → All (Within (length r)) (dataIn commentary p ls)
+lines-within r commentary p [] e = none
+lines-within r commentary p (l ∷ ls) e =
     let n = next-line r p l ls e in
-    let a = piece-within r noting p l (n .inside) in
-    let b = lines-within r (noteAfter noting l) (p + length l) ls (n .rest) in
-    by-cases (stopsAt noting l) (λ t. rw t none) (λ t. rw t (all-append a b))
+    let a = piece-within r commentary p l (n .inside) in
+    let b = lines-within r (commentaryAfter commentary l) (p + length l) ls (n .rest) in
+    by-cases (stopsAt commentary l) (λ t. rw t none) (λ t. rw t (all-append a b))
 
 split-within : (r : List ℕ) (s : Span) → spanInside s (length r) → All (Within (length r)) (splitPiece r s)
 split-within r s h = by-cases (eqb (s .len) 0) (λ e. rw e none) (λ e. rw e (one {x = record { at = s .start; bytes = cut s r }} (record { ends = omega (arith, cut-len s r) }) none))
@@ -149,8 +149,8 @@ tagged-stays c s p l q n t split h i j =
       split = open-split c (tagNumber (cut (t .name) l)) (cut (t .value) l) q n split j;
     }
 
-dated-placed : (s : State) (p n m : ℕ) (d : Span) → p + m ≤ n → spanInside d m → All (Placed n) (dated s p d .entries)
-dated-placed s p n m d h i =
+data-placed : (s : State) (p n m : ℕ) (d : Span) → p + m ≤ n → spanInside d m → All (Placed n) (dataAdded s p d .entries)
+data-placed s p n m d h i =
     chosen (λ es. All (Placed n) es) (eqb (s .section .kind) 0) [] (entry 5 (p + d .start) (d .len) (s .section .kind) ∷ []) (λ e. none)
     (λ e. one (at-placed n 5 p m (s .section .kind) d (omega arith) (omega arith) h i) none)
 
@@ -162,7 +162,7 @@ reading-stays c s p l q n (WithComment t d) h i =
     record { placed = all-append (a .placed) (one (at-placed n 3 p (length l) z d (omega arith) (omega arith) h (i .1)) none); split = a .split }
 reading-stays c s p l q n (WithData t d) h i =
     let a = tagged-stays c s p l q n t (at p d) h (i .0) (omega (arith, i .1)) in
-    record { placed = all-append (a .placed) (dated-placed (tagged c s p l q t (at p d) .state) p n (length l) d h (i .1)); split = a .split }
+    record { placed = all-append (a .placed) (data-placed (tagged c s p l q t (at p d) .state) p n (length l) d h (i .1)); split = a .split }
 
 last-brace : (l : List ℕ) → lastBrace l ≤ length l
 last-brace [] = omega arith
@@ -186,9 +186,9 @@ blocked-stays r s i j h k =
     }
 
 module _ (c : Conventions) (r : List ℕ) (s : State) (p : ℕ) (l : List ℕ) (h : p + length l ≤ length r) (k : spanInside (s .section .split) (length r)) where
-  note-stays : Stays (length r) (inNote r s p l)
-  unfolding inNote
-  note-stays =
+  commentary-stays : Stays (length r) (inCommentary r s p l)
+  unfolding inCommentary
+  commentary-stays =
       chosen (λ o. Stays (length r) o) (hasBrace l) (blocked r s (s .block) (p + lastBrace l)) (record { state = s; entries = [] })
       (λ e. blocked-stays r s (s .block) (p + lastBrace l) (omega (arith, last-brace l)) k)
       (λ e. record { placed = none; split = k })
@@ -196,12 +196,12 @@ module _ (c : Conventions) (r : List ℕ) (s : State) (p : ℕ) (l : List ℕ) (
   brace-stays : Stays (length r) (braced r s p l)
   unfolding braced
   brace-stays =
-      chosen (λ o. Stays (length r) o) (hasBrace l) (blocked r s (p + length (lead l) + 1) (p + lastBrace l)) (record { state = noted s true (p + length (lead l) + 1); entries = [] })
+      chosen (λ o. Stays (length r) o) (hasBrace l) (blocked r s (p + length (lead l) + 1) (p + lastBrace l)) (record { state = withCommentary s true (p + length (lead l) + 1); entries = [] })
       (λ e. blocked-stays r s (p + length (lead l) + 1) (p + lastBrace l) (omega (arith, last-brace l)) k)
       (λ e. record { placed = none; split = k })
 
-  tag-stays : (t : TagReading) → readingPlaced t (length l) → Stays (length r) (readTag c r s p l t)
-  unfolding readTag
+  tag-stays : (t : TagReading) → readingPlaced t (length l) → Stays (length r) (tagLineOut c r s p l t)
+  unfolding tagLineOut
   tag-stays t i =
       let a = closed-stays c r s k in
       let b = reading-stays c (closed c r s .state) p l (p + length l) (length r) t h i in
@@ -213,12 +213,12 @@ module _ (c : Conventions) (r : List ℕ) (s : State) (p : ℕ) (l : List ℕ) (
   kind-stays (Directive d) i = record { placed = one (at-placed (length r) 3 p (length l) (s .tags) d (omega arith) (omega arith) h i) none; split = k }
   kind-stays (TagOn t) i = tag-stays t i
   kind-stays Bracket i = record { placed = none; split = k }
-  kind-stays (Data d) i = record { placed = dated-placed s p (length r) (length l) d h i; split = k }
+  kind-stays (Data d) i = record { placed = data-placed s p (length r) (length l) d h i; split = k }
 
   line-stays : Stays (length r) (lineOut c r s p l)
   unfolding lineOut
   line-stays =
-      chosen (λ o. Stays (length r) o) (s .noting) (inNote r s p l) (lineBy c r s p l (lineKind l)) (λ e. note-stays) (λ e. kind-stays (lineKind l) (LineInside l))
+      chosen (λ o. Stays (length r) o) (s .commentary) (inCommentary r s p l) (lineBy c r s p l (lineKind l)) (λ e. commentary-stays) (λ e. kind-stays (lineKind l) (LineInside l))
 
 -- ---- the lines of a record
 
@@ -246,7 +246,7 @@ pub record WordsPlaced (n : ℕ) (ws : List ℕ) : Type 0 where
 words-placed : (a n m : ℕ) (e : Entry) → a + n ≤ m → Placed n e → WordsPlaced m (entryWords a e)
 unfolding entryWords
 words-placed a n m e h i =
-    let k : word (e .kind) ≡ e .kind = omega (arith, i .kind-low) in
+    let k : lowWord (e .kind) ≡ e .kind = omega (arith, i .kind-low) in
     record {
       kind-some = rw k (i .kind-some);
       kind-low = rw k (i .kind-low);

@@ -20,15 +20,15 @@ use Rattle.reader.specs.declared.line.TagReading.the-variants.{Plain, Wi
 use Rattle.reader.specs.declared.board.State.{State}
 use Rattle.reader.specs.Lines.{lastBrace}
 use Rattle.reader.specs.Pieces.{Out, andThen, entry}
-use Rattle.reader.specs.Boards.{closed, noSpan, at, tagged, adding, directed, dated, readBy, noted, isAllWhite, blocked, noState, recordOut}
-use Rattle.reader.specs.Plain.{Item, bytesOf, itemOf, itemsOf, Remark, PlainAuction, tagsIn, remarksIn, blockValue, plainAuction, plainBy, plainOf, tagOne, tagCount, Marked, Anchored, free, next}
+use Rattle.reader.specs.Boards.{closed, noSpan, at, tagged, adding, directed, dataAdded, readBy, withCommentary, isAllWhite, blocked, noState, recordOut}
+use Rattle.reader.specs.Plain.{Item, bytesOf, itemOf, itemsOf, Remark, PlainAuction, tagsIn, remarksIn, blockValue, plainAuction, plainBy, plainOf, tagOne, tagCount, Marked, AnchoredEntries, free, next}
 use Rattle.reader.proofs.EntryLaws.{All, none, one, all-map}
 use Rattle.reader.proofs.PlainLaws.{force-is}
-use Rattle.reader.proofs.PlainSteps.{Late, closed-late, closed-keeps, RecordSteps}
+use Rattle.reader.proofs.PlainSteps.{Late, closed-late, closed-keeps, HoldsOfRecord}
 
 -- ---- entries in a row
 
-anchored-append : {n m : ℕ} {es fs : List Entry} → Anchored n es → m ≡ n + tagCount es → Anchored m fs → Anchored n (es ++ fs)
+anchored-append : {n m : ℕ} {es fs : List Entry} → AnchoredEntries n es → m ≡ n + tagCount es → AnchoredEntries m fs → AnchoredEntries n (es ++ fs)
 anchored-append {n = n} free e b = rw (e ∙ add-zero n) at b
 anchored-append {n = n} {m = m} (next {e = x} {es = es} k a) e b = next k (anchored-append a (count-next n m x es e) b)
   where
@@ -57,7 +57,7 @@ late-count : {es : List Entry} → All Late es → tagCount es ≡ 0
 late-count none = refl
 late-count (one {x = e} {xs = es} l a) = omega (arith, late-none e l, late-count a)
 
-late-anchored : (n : ℕ) {es : List Entry} → All Late es → Anchored n es
+late-anchored : (n : ℕ) {es : List Entry} → All Late es → AnchoredEntries n es
 late-anchored n none = free
 late-anchored n (one {x = e} {xs = es} l a) = next (late-marked n e l) (late-anchored (n + tagOne e) a)
 
@@ -65,7 +65,7 @@ late-anchored n (one {x = e} {xs = es} l a) = next (late-marked n e l) (late-anc
 
 -- A step's directives and blocks have the number of tags before them, and the state counts its tags.
 record Counted (s : State) (o : Out State) : Type 0 where
-  anchored : Anchored (s .tags) (o .entries)
+  anchored : AnchoredEntries (s .tags) (o .entries)
   counted : o .state .tags ≡ s .tags + tagCount (o .entries)
 
 then-counted : (s : State) (o p : Out State) → Counted s o → Counted (o .state) p → Counted s (andThen o p)
@@ -96,8 +96,8 @@ maybe-counted : (s s′ : State) (b : Bool) (e : Entry) → s′ .tags ≡ s .ta
 maybe-counted s s′ true e h m z = record { anchored = free; counted = omega (arith, h) }
 maybe-counted s s′ false e h m z = record { anchored = next m free; counted = omega (arith, h, z) }
 
-dated-counted : (s : State) (p : ℕ) (d : Span) → Counted s (dated s p d)
-dated-counted s p d = maybe-counted s s (eqb (s .section .kind) 0) (entry 5 (p + d .start) (d .len) (s .section .kind)) refl (record { marked = λ u. clash u }) refl
+data-counted : (s : State) (p : ℕ) (d : Span) → Counted s (dataAdded s p d)
+data-counted s p d = maybe-counted s s (eqb (s .section .kind) 0) (entry 5 (p + d .start) (d .len) (s .section .kind)) refl (record { marked = λ u. clash u }) refl
 
 reading-counted : (c : Conventions) (s : State) (p : ℕ) (l : List ℕ) (q : ℕ) (t : TagReading) → Counted s (readBy c s p l q t)
 reading-counted c s p l q (Plain t) = tagged-counted c s p l q t noSpan
@@ -106,17 +106,17 @@ reading-counted c s p l q (WithComment t d) =
     then-counted s o (directed (o .state) p d) (tagged-counted c s p l q t noSpan) (directed-counted (o .state) p d)
 reading-counted c s p l q (WithData t d) =
     let o = tagged c s p l q t (at p d) in
-    then-counted s o (dated (o .state) p d) (tagged-counted c s p l q t (at p d)) (dated-counted (o .state) p d)
+    then-counted s o (dataAdded (o .state) p d) (tagged-counted c s p l q t (at p d)) (data-counted (o .state) p d)
 
 blocked-counted : (r : List ℕ) (s : State) (i j : ℕ) → Counted s (blocked r s i j)
 unfolding blocked
-blocked-counted r s i j = maybe-counted s (noted s false 0) (isAllWhite r i j) (entry 4 i (j - i) (s .tags)) refl (record { marked = λ u. refl }) refl
+blocked-counted r s i j = maybe-counted s (withCommentary s false 0) (isAllWhite r i j) (entry 4 i (j - i) (s .tags)) refl (record { marked = λ u. refl }) refl
 
 -- ---- a record
 
 record-counted : (c : Conventions) (r : List ℕ) → Counted noState (recordOut c r)
 record-counted c r =
-    RecordSteps c r (λ p s q o. Counted s o)
+    HoldsOfRecord c r (λ p s q o. Counted s o)
     record {
       together = λ p q z s o k a b. then-counted s o k a b;
       closing = λ p s. closed-counted c r s;
@@ -124,14 +124,14 @@ record-counted c r =
       quiet = λ p s l i n k. record { anchored = free; counted = sym (add-zero (s .tags)) };
       opening = λ p s l i n k b. record { anchored = free; counted = sym (add-zero (s .tags)) };
       bracing = λ p s l i n k b. blocked-counted r s (p + length (lead l) + 1) (p + lastBrace l);
-      noting = λ p s l i n k. blocked-counted r s (s .block) (p + lastBrace l);
+      commentary = λ p s l i n k. blocked-counted r s (s .block) (p + lastBrace l);
       directing = λ p s l d i n k. directed-counted s p d;
-      dating = λ p s l d i n k. dated-counted s p d;
+      dating = λ p s l d i n k. data-counted s p d;
       tagging = λ p s l t i k. reading-counted c s p l (p + length l) t;
     }
 
 -- THEOREM. Each directive and each block of a record has the number of the record's tags before it.
-pub TagsBefore : (c : Conventions) (r : List ℕ) → Anchored 0 (recordOut c r .entries)
+pub TagsBefore : (c : Conventions) (r : List ℕ) → AnchoredEntries 0 (recordOut c r .entries)
 TagsBefore c r = record-counted c r .anchored
 
 -- The state counts the tags.
@@ -154,7 +154,7 @@ PlainTags c r = items-tags r (recordOut c r .entries) ∙ sym (TagsCounted c r)
 pub record Reached (n : ℕ) (k : Remark) : Type 0 where
   pub reached : k .before ≤ n
 
-remarks-reached : (r : List ℕ) (k n : ℕ) {es : List Entry} → (eqb k 3 || eqb k 4) ≡ true → Anchored n es → All (Reached (n + tagCount es)) (remarksIn k (itemsOf r es))
+remarks-reached : (r : List ℕ) (k n : ℕ) {es : List Entry} → (eqb k 3 || eqb k 4) ≡ true → AnchoredEntries n es → All (Reached (n + tagCount es)) (remarksIn k (itemsOf r es))
 unfolding itemOf
 remarks-reached r k n h free = none
 remarks-reached r k n h (next {e = e} {es = es} m a) =

@@ -38,7 +38,7 @@ use Rattle.reader.specs.Plain.{PlainBoard, plainBy, plainOf}
 use Rattle.reader.specs.Kept.{TableKept}
 use Rattle.reader.proofs.ApplyBounds.{IdentityLow, DealSized, Bounded, no-board-bounded, applied-bounded}
 use Rattle.reader.proofs.Counts.{chosen}
-use Rattle.reader.proofs.PlainSteps.{board-cases, closed-leaves, RecordSteps}
+use Rattle.reader.proofs.PlainSteps.{board-cases, closed-leaves, HoldsOfRecord}
 
 -- ---- rows
 
@@ -179,7 +179,7 @@ RecordBounded c r = steps .keeps no-board-bounded
   where
     steps : Keeps noState (recordOut c r)
     steps =
-        RecordSteps c r (λ p s q o. Keeps s o)
+        HoldsOfRecord c r (λ p s q o. Keeps s o)
         record {
           together = λ p q z s o k a b. record { keeps = λ h. b .keeps (a .keeps h) };
           closing = λ p s. record { keeps = closed-bounded c r s };
@@ -187,7 +187,7 @@ RecordBounded c r = steps .keeps no-board-bounded
           quiet = λ p s l i n b. record { keeps = λ h. h };
           opening = λ p s l i n k b. record { keeps = λ h. h };
           bracing = λ p s l i n k b. record { keeps = blocked-board r s _ _ };
-          noting = λ p s l i n b. record { keeps = blocked-board r s _ _ };
+          commentary = λ p s l i n b. record { keeps = blocked-board r s _ _ };
           directing = λ p s l d i n k. record { keeps = λ h. h };
           dating = λ p s l d i n k. record { keeps = λ h. h };
           tagging = λ p s l t i k. record { keeps = reading-bounded c s p l (p + length l) t };

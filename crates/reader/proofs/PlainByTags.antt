@@ -22,7 +22,7 @@ use Rattle.reader.specs.Tag.{cut, TagInside}
 use Rattle.reader.specs.Names.{tagNumber}
 use Rattle.reader.specs.Lines.{lastBrace, lineKind, linePlaced, readingPlaced}
 use Rattle.reader.specs.Pieces.{Out, andThen, entry}
-use Rattle.reader.specs.Boards.{applied, closed, noSpan, at, tagged, directed, dated, readBy, isAllWhite, blocked, noBoard, noState, recordOut}
+use Rattle.reader.specs.Boards.{applied, closed, noSpan, at, tagged, directed, dataAdded, readBy, isAllWhite, blocked, noBoard, noState, recordOut}
 use Rattle.reader.specs.Plain.{bytesOf, Item, itemOf, itemsOf, TagPair, tagsIn, plainBy, plainOf}
 use Rattle.reader.specs.Kept.{after}
 use Rattle.reader.proofs.EntryLaws.{All, none, one}
@@ -30,7 +30,7 @@ use Rattle.reader.proofs.Inside.{LineInside}
 use Rattle.reader.proofs.SectionLaws.{LineAt}
 use Rattle.reader.proofs.BoardLaws.{Counts, closed-counts}
 use Rattle.reader.proofs.PlainLaws.{PartPlaced}
-use Rattle.reader.proofs.PlainSteps.{Late, closed-late, Leaves, leaves-all, closed-leaves, RecordSteps}
+use Rattle.reader.proofs.PlainSteps.{Late, closed-late, Leaves, leaves-all, closed-leaves, HoldsOfRecord}
 
 -- ---- what follows from tags
 
@@ -101,9 +101,9 @@ module _ (c : Conventions) (r : List ℕ) {A : Type 0} (R : List Entry → Board
   directed-follows : (s : State) (p : ℕ) (d : Span) → Follows s (directed s p d)
   directed-follows s p d = silent s (directed s p d) refl (maybe-tags false (entry 3 (p + d .start) (d .len) (s .tags)) (λ u. omega arith)) (leaves-all (s .board))
 
-  dated-follows : (s : State) (p : ℕ) (d : Span) → Follows s (dated s p d)
-  dated-follows s p d =
-      silent s (dated s p d) refl (maybe-tags (eqb (s .section .kind) 0) (entry 5 (p + d .start) (d .len) (s .section .kind)) (λ u. omega arith)) (leaves-all (s .board))
+  data-follows : (s : State) (p : ℕ) (d : Span) → Follows s (dataAdded s p d)
+  data-follows s p d =
+      silent s (dataAdded s p d) refl (maybe-tags (eqb (s .section .kind) 0) (entry 5 (p + d .start) (d .len) (s .section .kind)) (λ u. omega arith)) (leaves-all (s .board))
 
   module _ (p : ℕ) (s : State) (l : List ℕ) (i : LineAt r p l) where
     tagged-follows : (q : ℕ) (t : TagPlaces) (split : Span) → TagInside t (length l) → Follows s (tagged c s p l q t split)
@@ -127,7 +127,7 @@ module _ (c : Conventions) (r : List ℕ) {A : Type 0} (R : List Entry → Board
         together-follows s o (directed (o .state) p d) (tagged-follows q t noSpan (j .0)) (directed-follows (o .state) p d)
     reading-follows q (WithData t d) j =
         let o = tagged c s p l q t (at p d) in
-        together-follows s o (dated (o .state) p d) (tagged-follows q t (at p d) (j .0)) (dated-follows (o .state) p d)
+        together-follows s o (dataAdded (o .state) p d) (tagged-follows q t (at p d) (j .0)) (data-follows (o .state) p d)
 
     line-follows : (t : TagReading) → lineKind l ≡ TagOn t → Follows s (readBy c s p l (p + length l) t)
     line-follows t k =
@@ -139,7 +139,7 @@ module _ (c : Conventions) (r : List ℕ) {A : Type 0} (R : List Entry → Board
 
   record-follows : Follows noState (recordOut c r)
   record-follows =
-      RecordSteps c r (λ p s q o. Follows s o)
+      HoldsOfRecord c r (λ p s q o. Follows s o)
       record {
         together = λ p q z s o k a b. together-follows s o k a b;
         closing = λ p s. silent s (closed c r s) (closed-counts c r s) (late-tags (closed-late c r s)) (closed-leaves c r s);
@@ -147,9 +147,9 @@ module _ (c : Conventions) (r : List ℕ) {A : Type 0} (R : List Entry → Board
         quiet = λ p s l i n b. unchanged-follows s s refl (leaves-all (s .board));
         opening = λ p s l i n k b. unchanged-follows s _ refl (leaves-all (s .board));
         bracing = λ p s l i n k b. blocked-follows s (p + length (lead l) + 1) (p + lastBrace l);
-        noting = λ p s l i n b. blocked-follows s (s .block) (p + lastBrace l);
+        commentary = λ p s l i n b. blocked-follows s (s .block) (p + lastBrace l);
         directing = λ p s l d i n k. directed-follows s p d;
-        dating = λ p s l d i n k. dated-follows s p d;
+        dating = λ p s l d i n k. data-follows s p d;
         tagging = λ p s l t i k. line-follows p s l i t k;
       }
 

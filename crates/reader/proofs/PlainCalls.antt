@@ -34,8 +34,8 @@ use Rattle.reader.specs.Tag.{cut}
 use Rattle.reader.specs.Lines.{lastBrace, lineKind, linePlaced}
 use Rattle.reader.specs.Pieces.{Piece, Out, prependToken, joinToken, tokensAt, entry, rawLines}
 use Rattle.reader.specs.Auction.{callTokenOf, annotation, bidding, calledBy, called, calledPiece}
-use Rattle.reader.specs.Sections.{noteAfter, stopsAt, dataPiece, pieceOf, dataIn, splitPiece, sectionData, walked, noWalk, walkedAll}
-use Rattle.reader.specs.Boards.{lastEntries, closedBy, closed, noSpan, at, tagged, dated, readBy, isAllWhite, blocked, recordOut}
+use Rattle.reader.specs.Sections.{commentaryAfter, stopsAt, dataPiece, pieceOf, dataIn, splitPiece, sectionData, walked, noWalk, walkedAll}
+use Rattle.reader.specs.Boards.{lastEntries, closedBy, closed, noSpan, at, tagged, dataAdded, readBy, isAllWhite, blocked, recordOut}
 use Rattle.reader.specs.Plain.{Item, bytesOf, itemOf, itemsOf, PlainCall, PlainAuction, annotationsFirst, itemsWithin, callsIn, plainBy, plainOf}
 use Rattle.reader.proofs.EntryLaws.{All, none, one, all-append, all-map, Trick, out-all}
 use Rattle.reader.proofs.PlayLaws.{cond-low, TricksOnly, LastTrickOnly}
@@ -44,7 +44,7 @@ use Rattle.reader.proofs.SectionLaws.{LineAt, taken-len}
 use Rattle.reader.proofs.Counts.{chosen, cut-len, next-line}
 use Rattle.reader.proofs.PlainLaws.{PartPlaced, force-is}
 use Rattle.reader.proofs.PlainWords.{entriesWithin, within-items}
-use Rattle.reader.proofs.PlainSteps.{first-line, RecordSteps}
+use Rattle.reader.proofs.PlainSteps.{first-line, HoldsOfRecord}
 use Rattle.reader.proofs.WordTokens.{every-take, every-drop}
 
 -- ---- codes
@@ -189,8 +189,8 @@ annotation-good r t k h l m =
     }
 
 module _ (c : Conventions) (r : List ℕ) (t : Piece) (h : Token r t) where
-  noted-good : All (CallGood r) (annotation (t .at + length (callPart (t .bytes))) (length (t .bytes) - length (callPart (t .bytes))))
-  noted-good =
+  annotated-good : All (CallGood r) (annotation (t .at + length (callPart (t .bytes))) (length (t .bytes) - length (callPart (t .bytes))))
+  annotated-good =
       let k = length (callPart (t .bytes)) in
       let n = length (t .bytes) in
       chosen (λ es. All (CallGood r) es) (ltb 0 (n - k)) (entry 7 (t .at + k) (n - k) 0 ∷ []) []
@@ -234,7 +234,7 @@ module _ (c : Conventions) (r : List ℕ) (t : Piece) (h : Token r t) where
       (λ m. none))
       (λ z.
       chosen P (eqb code 47) NoCall (Call code k) (λ q. none)
-      (λ q. one (code-good r (t .at) k code (below code (call-low c (take k (t .bytes))) (eqb-false code 47 q))) noted-good)))))
+      (λ q. one (code-good r (t .at) k code (below code (call-low c (take k (t .bytes))) (eqb-false code 47 q))) annotated-good)))))
     where
       below : (x : ℕ) → x ≤ 47 → (x ≡ 47 → ⊥) → x < 47
       below x h n = by-cases (ltb x 47) (λ t. ltb-true x 47 t) (λ t. let u = ltb-false x 47 t in absurd (n (omega arith)))
@@ -255,18 +255,18 @@ data-stands r p l (Data s) i j =
     let b = PartPlaced r l p (s .start) (length (cut s l)) (i .bytes) (omega (arith, cut-len s l)) in
     one {x = record { at = p + s .start; bytes = cut s l }} (record { stands = sym (b ∙ taken-len (s .len) (drop (s .start) l)) }) none
 
-piece-stands : (r : List ℕ) (noting : Bool) (p : ℕ) (l : List ℕ) → LineAt r p l → All (Stands r) (pieceOf noting p l)
+piece-stands : (r : List ℕ) (commentary : Bool) (p : ℕ) (l : List ℕ) → LineAt r p l → All (Stands r) (pieceOf commentary p l)
 unfolding pieceOf
 piece-stands r true p l i = none
 piece-stands r false p l i = data-stands r p l (lineKind l) i (LineInside l)
 
-lines-stand : (r : List ℕ) (noting : Bool) (p : ℕ) (ls : List (List ℕ)) → rawLines (drop p r) ≡ ls → All (Stands r) (dataIn noting p ls)
-lines-stand r noting p [] e = none
-lines-stand r noting p (l ∷ ls) e =
+lines-stand : (r : List ℕ) (commentary : Bool) (p : ℕ) (ls : List (List ℕ)) → rawLines (drop p r) ≡ ls → All (Stands r) (dataIn commentary p ls)
+lines-stand r commentary p [] e = none
+lines-stand r commentary p (l ∷ ls) e =
     let n = next-line r p l ls e in
-    let a = piece-stands r noting p l (first-line r p l ls e) in
-    let b = lines-stand r (noteAfter noting l) (p + length l) ls (n .rest) in
-    by-cases (stopsAt noting l) (λ t. rw t none) (λ t. rw t (all-append a b))
+    let a = piece-stands r commentary p l (first-line r p l ls e) in
+    let b = lines-stand r (commentaryAfter commentary l) (p + length l) ls (n .rest) in
+    by-cases (stopsAt commentary l) (λ t. rw t none) (λ t. rw t (all-append a b))
 
 split-stands : (r : List ℕ) (s : Span) → All (Stands r) (splitPiece r s)
 split-stands r s =
@@ -321,8 +321,8 @@ blocked-calls : (r : List ℕ) (s : State) (i j : ℕ) → All (CallGood r) (blo
 unfolding blocked
 blocked-calls r s i j = maybe-one r (isAllWhite r i j) 4 i (j - i) (s .tags) (omega arith)
 
-dated-calls : (r : List ℕ) (s : State) (p : ℕ) (d : Span) → All (CallGood r) (dated s p d .entries)
-dated-calls r s p d = maybe-one r (eqb (s .section .kind) 0) 5 (p + d .start) (d .len) (s .section .kind) (omega arith)
+data-calls : (r : List ℕ) (s : State) (p : ℕ) (d : Span) → All (CallGood r) (dataAdded s p d .entries)
+data-calls r s p d = maybe-one r (eqb (s .section .kind) 0) 5 (p + d .start) (d .len) (s .section .kind) (omega arith)
 
 tagged-calls : (c : Conventions) (r : List ℕ) (s : State) (p : ℕ) (l : List ℕ) (q : ℕ) (t : TagPlaces) (split : Span) → All (CallGood r) (tagged c s p l q t split .entries)
 unfolding tagged
@@ -333,12 +333,12 @@ reading-calls : (c : Conventions) (r : List ℕ) (s : State) (p : ℕ) (l : List
 reading-calls c r s p l q (Plain t) = tagged-calls c r s p l q t noSpan
 reading-calls c r s p l q (WithComment t d) =
     all-append (tagged-calls c r s p l q t noSpan) (one (plain-one r 3 (p + d .start) (d .len) (tagged c s p l q t noSpan .state .tags) (omega arith)) none)
-reading-calls c r s p l q (WithData t d) = all-append (tagged-calls c r s p l q t (at p d)) (dated-calls r (tagged c s p l q t (at p d) .state) p d)
+reading-calls c r s p l q (WithData t d) = all-append (tagged-calls c r s p l q t (at p d)) (data-calls r (tagged c s p l q t (at p d) .state) p d)
 
 -- THEOREM. Every call and every annotation of a record can be written.
 pub CallsGood : (c : Conventions) (r : List ℕ) → All (CallGood r) (recordOut c r .entries)
 CallsGood c r =
-    RecordSteps c r (λ p s q o. All (CallGood r) (o .entries))
+    HoldsOfRecord c r (λ p s q o. All (CallGood r) (o .entries))
     record {
       together = λ p q z s o k a b. all-append a b;
       closing = λ p s. closed-good c r s;
@@ -346,9 +346,9 @@ CallsGood c r =
       quiet = λ p s l i n b. none;
       opening = λ p s l i n k b. none;
       bracing = λ p s l i n k b. blocked-calls r s (p + length (lead l) + 1) (p + lastBrace l);
-      noting = λ p s l i n b. blocked-calls r s (s .block) (p + lastBrace l);
+      commentary = λ p s l i n b. blocked-calls r s (s .block) (p + lastBrace l);
       directing = λ p s l d i n k. one (plain-one r 3 (p + d .start) (d .len) (s .tags) (omega arith)) none;
-      dating = λ p s l d i n k. dated-calls r s p d;
+      dating = λ p s l d i n k. data-calls r s p d;
       tagging = λ p s l t i k. reading-calls c r s p l (p + length l) t;
     }
 

@@ -13,7 +13,7 @@ use Rattle.tables.proofs.Laws.{by-cases}
 use Rattle.reader.specs.declared.store.Entry.{Entry}
 use Rattle.reader.specs.declared.board.Section.{Section}
 use Rattle.reader.specs.declared.board.Board.{Board}
-use Rattle.reader.specs.Store.{word, flat, entryWords}
+use Rattle.reader.specs.Store.{lowWord, flat, entryWords}
 use Rattle.reader.specs.Pieces.{rawLines}
 use Rattle.reader.specs.Boards.{recordOut}
 use Rattle.reader.specs.Records.{fresh, recordsOf, leftOver, AlikeBut}
@@ -21,7 +21,7 @@ use Rattle.reader.specs.Editions.{entriesFrom, entriesOf}
 use Rattle.reader.specs.Plain.{bytesOf, itemOf, itemsOf, PlainBoard, inForce, plainBy, plainOf, plainBoards, bytesAt, bytesFrom}
 use Rattle.reader.proofs.EntryLaws.{All, none, one}
 use Rattle.reader.proofs.Placed.{Placed, EntriesPlaced}
-use Rattle.reader.proofs.Seams.{Whole, Edit}
+use Rattle.reader.proofs.Seams.{RecordsCover, Edit}
 
 -- ---- the places are where those bytes stand
 
@@ -40,20 +40,20 @@ PartPlaced text r a x y e h =
     ap (take y) (sym (drop-drop x a text) ∙ ap (drop x) f) ∙ first-part r q x y h
 
 -- A word of 32 bits holds every place of a text that is not overlong.
-pub word-small : (x : ℕ) → x ≤ 16777215 → word x ≡ x
+pub word-small : (x : ℕ) → x ≤ 16777215 → lowWord x ≡ x
 word-small x h = omega arith
 
 entry-holds : (p r q : List ℕ) (e : Entry) → length (p ++ (r ++ q)) ≤ 16777215 → Placed (length r) e → bytesAt (p ++ (r ++ q)) (entryWords (length p) e) ≡ bytesOf r e
 unfolding entryWords
 entry-holds p r q e h i =
-    let k : word (e .kind) ≡ e .kind = word-small (e .kind) (omega (arith, i .kind-low)) in
+    let k : lowWord (e .kind) ≡ e .kind = word-small (e .kind) (omega (arith, i .kind-low)) in
     by-cases (eqb (e .kind) 8)
     (λ t. rw (k, t))
     (λ t.
     let j = i .inside (eqb-false (e .kind) 8 t) in
     let l : length (p ++ (r ++ q)) ≡ length p + (length r + length q) = rw (length-append, length-append) in
-    let x : word (length p + e .x) ≡ length p + e .x = word-small (length p + e .x) (omega arith) in
-    let y : word (e .y) ≡ e .y = word-small (e .y) (omega arith) in
+    let x : lowWord (length p + e .x) ≡ length p + e .x = word-small (length p + e .x) (omega arith) in
+    let y : lowWord (e .y) ≡ e .y = word-small (e .y) (omega arith) in
     rw (k, t, x, y) (inner-part p r q (e .x) (e .y) j))
 
 entries-hold : (p r q : List ℕ) (es : List Entry) → length (p ++ (r ++ q)) ≤ 16777215 → All (Placed (length r)) es
@@ -83,7 +83,7 @@ from-hold c p (r ∷ rs) q h =
 pub PlacesHold : (c : Conventions) (text : List ℕ) → length text ≤ 16777215 → map (bytesAt text) (entriesOf c text) ≡ bytesFrom c (recordsOf text)
 unfolding entriesOf
 PlacesHold c text h =
-    let w = Whole text in
+    let w = RecordsCover text in
     rw w at (from-hold c [] (recordsOf text) (leftOver fresh [] (rawLines text)) (rw w h))
 
 -- ---- one record of a text
@@ -97,7 +97,7 @@ around-record : (text : List ℕ) (pre : List (List ℕ)) (r : List ℕ) (post :
     → text ≡ flat pre ++ (r ++ (flat post ++ leftOver fresh [] (rawLines text)))
 around-record text pre r post e =
     let q = leftOver fresh [] (rawLines text) in
-    sym (Whole text) ∙ ap (λ (l : List ℕ). l ++ q) (ap flat e ∙ flat-append pre (r ∷ post)) ∙ simp append-assoc
+    sym (RecordsCover text) ∙ ap (λ (l : List ℕ). l ++ q) (ap flat e ∙ flat-append pre (r ∷ post)) ∙ simp append-assoc
 
 -- THEOREM. The bytes at the places of one record's entries.
 pub RecordHolds : (c : Conventions) (text : List ℕ) (pre : List (List ℕ)) (r : List ℕ) (post : List (List ℕ)) → length text ≤ 16777215 → recordsOf text ≡ pre ++ r ∷ post

@@ -9,13 +9,13 @@ use Rattle.tables.specs.Letters.{builtIn, capital, seatOf, suitOf, honourOf, ra
 use Rattle.tables.specs.Tables.{digitOf, digitsReading, tableOfDigits}
 use Rattle.reader.specs.Tag.{trimSpan, trimPart, bracketOf, endsQuoted, nameOf, isQuoted, valueOf, isComment, commentOf, tagLine, dataBracket, dataAfter, splitOf}
 use Rattle.reader.specs.Lines.{isBlank, hasBrace, splitLine, bracketLine, lineKind}
-use Rattle.reader.specs.Words.{levelOf, bidCode, isPass, underscoreCode, signCode, callOf, isMark, sectionEnd, isAllPass, cardNumber, cardOf, isDoubling, contractTrump, isNoSide, isBothSides, vulnerabilityOf}
+use Rattle.reader.specs.Words.{levelOf, bidCode, isPass, underscoreCode, signCode, callOf, isMark, sectionEnd, isAllPass, cardNumber, cardNamed, isDoubling, contractTrump, isNoSide, isBothSides, vulnerabilityOf}
 use Rattle.reader.specs.Names.{tagNames, tagNumber}
 use Rattle.reader.specs.Deals.{cardsNamed, handsAfter, dealOf, handWords}
 use Rattle.reader.specs.Auction.{callTokenOf, called, calledPiece}
-use Rattle.reader.specs.Play.{weight, bestSlot, opened, isDash, played, playedBytes, playedPiece, lastTrick}
-use Rattle.reader.specs.Sections.{noteAfter, stopsAt, pieceOf, sectionData, walked, noWalk, walkedAll}
-use Rattle.reader.specs.Boards.{identityBy, dealBy, tableBy, contractBy, isKeptValue, isKept, valuesBy, applied, openBy, closed, tagged, readTag, blocked, braced, inNote, lineOut, recordOut}
+use Rattle.reader.specs.Play.{weight, bestSlot, opened, isGap, played, playedBytes, playedPiece, lastTrick}
+use Rattle.reader.specs.Sections.{commentaryAfter, stopsAt, pieceOf, sectionData, walked, noWalk, walkedAll}
+use Rattle.reader.specs.Boards.{identityBy, dealBy, tableBy, contractBy, isKeptValue, isKept, valuesBy, applied, openBy, closed, tagged, tagLineOut, blocked, braced, inCommentary, lineOut, recordOut}
 use Rattle.reader.specs.Records.{scanned, closesRecord, recordsOf}
 use Rattle.reader.specs.Plain.{TagPair, Remark, PlainCall, PlainBoard, itemOf, withoutReturns, plainBy, plainOf, plainBoards}
 use Rattle.reader.specs.Pieces.{Piece, piece}
@@ -24,7 +24,7 @@ use Rattle.reader.proofs.SectionLines.{dataPieces}
 
 -- The plain board of a record.
 unfoldable plain : String → PlainBoard
-unfolding isWhite isInside trimmed builtIn capital seatOf suitOf honourOf rankOf digitOf digitsReading tableOfDigits trimSpan trimPart bracketOf endsQuoted nameOf isQuoted valueOf isComment commentOf tagLine dataBracket dataAfter splitOf isBlank hasBrace splitLine bracketLine lineKind levelOf bidCode isPass underscoreCode signCode callOf isMark sectionEnd isAllPass cardNumber cardOf isDoubling contractTrump isNoSide isBothSides vulnerabilityOf tagNames tagNumber cardsNamed handsAfter dealOf handWords callTokenOf called calledPiece weight bestSlot opened isDash played playedBytes playedPiece lastTrick noteAfter stopsAt pieceOf sectionData walked noWalk walkedAll identityBy dealBy tableBy contractBy isKeptValue isKept valuesBy applied openBy closed tagged readTag blocked braced inNote lineOut recordOut itemOf plainBy plainOf
+unfolding isWhite isInside trimmed builtIn capital seatOf suitOf honourOf rankOf digitOf digitsReading tableOfDigits trimSpan trimPart bracketOf endsQuoted nameOf isQuoted valueOf isComment commentOf tagLine dataBracket dataAfter splitOf isBlank hasBrace splitLine bracketLine lineKind levelOf bidCode isPass underscoreCode signCode callOf isMark sectionEnd isAllPass cardNumber cardNamed isDoubling contractTrump isNoSide isBothSides vulnerabilityOf tagNames tagNumber cardsNamed handsAfter dealOf handWords callTokenOf called calledPiece weight bestSlot opened isGap played playedBytes playedPiece lastTrick commentaryAfter stopsAt pieceOf sectionData walked noWalk walkedAll identityBy dealBy tableBy contractBy isKeptValue isKept valuesBy applied openBy closed tagged tagLineOut blocked braced inCommentary lineOut recordOut itemOf plainBy plainOf
 plain s = plainOf builtIn (ascii s)
 
 abbrev pair : String → String → TagPair
@@ -106,7 +106,7 @@ pin-play = refl
 -- ---- an edition
 
 pin-boards : plainBoards builtIn (ascii "[A \"b\"]\n\n[A \"c\"]\n") ≡ plainOf builtIn (ascii "[A \"b\"]\n\n") ∷ plainOf builtIn (ascii "[A \"c\"]\n") ∷ []
-unfolding isWhite trimmed trimSpan trimPart bracketOf endsQuoted nameOf isQuoted valueOf isComment commentOf tagLine dataBracket dataAfter splitOf isBlank hasBrace splitLine bracketLine lineKind noteAfter scanned closesRecord recordsOf plainBoards
+unfolding isWhite trimmed trimSpan trimPart bracketOf endsQuoted nameOf isQuoted valueOf isComment commentOf tagLine dataBracket dataAfter splitOf isBlank hasBrace splitLine bracketLine lineKind commentaryAfter scanned closesRecord recordsOf plainBoards
 pin-boards = refl
 
 -- ---- what tags leave
@@ -126,7 +126,7 @@ pin-hands = refl
 -- ---- data lines
 
 unfoldable dataLines : String → List Piece
-unfolding isWhite isInside trimmed builtIn capital seatOf suitOf honourOf rankOf digitOf digitsReading tableOfDigits trimSpan trimPart bracketOf endsQuoted nameOf isQuoted valueOf isComment commentOf tagLine dataBracket dataAfter splitOf isBlank hasBrace splitLine bracketLine lineKind levelOf bidCode isPass underscoreCode signCode callOf isMark sectionEnd isAllPass cardNumber cardOf isDoubling contractTrump isNoSide isBothSides vulnerabilityOf tagNames tagNumber cardsNamed handsAfter dealOf handWords callTokenOf called calledPiece weight bestSlot opened isDash played playedBytes playedPiece lastTrick noteAfter stopsAt pieceOf sectionData walked noWalk walkedAll identityBy dealBy tableBy contractBy isKeptValue isKept valuesBy applied openBy closed tagged readTag blocked braced inNote lineOut recordOut
+unfolding isWhite isInside trimmed builtIn capital seatOf suitOf honourOf rankOf digitOf digitsReading tableOfDigits trimSpan trimPart bracketOf endsQuoted nameOf isQuoted valueOf isComment commentOf tagLine dataBracket dataAfter splitOf isBlank hasBrace splitLine bracketLine lineKind levelOf bidCode isPass underscoreCode signCode callOf isMark sectionEnd isAllPass cardNumber cardNamed isDoubling contractTrump isNoSide isBothSides vulnerabilityOf tagNames tagNumber cardsNamed handsAfter dealOf handWords callTokenOf called calledPiece weight bestSlot opened isGap played playedBytes playedPiece lastTrick commentaryAfter stopsAt pieceOf sectionData walked noWalk walkedAll identityBy dealBy tableBy contractBy isKeptValue isKept valuesBy applied openBy closed tagged tagLineOut blocked braced inCommentary lineOut recordOut
 dataLines s = dataPieces (ascii s) (recordOut builtIn (ascii s) .entries)
 
 -- The entries of kind 5 name the pieces that the play of RecordPins is walked over; behind a tag that opens no section there are none.

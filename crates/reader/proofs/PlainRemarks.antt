@@ -29,7 +29,7 @@ use Rattle.reader.specs.Tag.{cut, trimSpan, isComment, tagLine, splitOf}
 use Rattle.reader.specs.TagBytes.{close, behind, unquote, filled, commentBytes, TagBytes, tagBytes, readTag}
 use Rattle.reader.specs.Lines.{isBlank, hasBrace, lastBrace, splitAs, splitLine, bracketAs, bracketLine, lineKind, linePlaced, readingPlaced}
 use Rattle.reader.specs.Pieces.{Out, entry}
-use Rattle.reader.specs.Boards.{noSpan, at, tagged, dated, readBy, isAllWhite, noted, blocked, noState, recordOut}
+use Rattle.reader.specs.Boards.{noSpan, at, tagged, dataAdded, readBy, isAllWhite, withCommentary, blocked, noState, recordOut}
 use Rattle.reader.specs.Plain.{bytesOf, itemOf, itemsOf, Remark, remarksIn, startsLine, withoutReturns, blockValue, plainBy, plainOf, goodDirective, goodBlock}
 use Rattle.reader.proofs.EntryLaws.{All, none, one, all-append, all-map}
 use Rattle.reader.proofs.Tags.{never, some-inj, bind-some, cond-some, trail, trim-whole, keep-is, close-at, TagStands, TagTrimmed}
@@ -38,7 +38,7 @@ use Rattle.reader.proofs.SectionLaws.{LineAt}
 use Rattle.reader.proofs.Counts.{chosen}
 use Rattle.reader.proofs.PlainLaws.{PartPlaced}
 use Rattle.reader.proofs.PlainTags.{feedLast, line-feed, no-feed}
-use Rattle.reader.proofs.PlainSteps.{Late, closed-late, closed-keeps, RecordSteps}
+use Rattle.reader.proofs.PlainSteps.{Late, closed-late, closed-keeps, HoldsOfRecord}
 use Rattle.reader.proofs.TagsBack.{among-append, among-trimmed}
 
 -- ---- bytes that are not among others
@@ -252,11 +252,11 @@ late-good : (r : List ℕ) {es : List Entry} → All Late es → All (RemarkGood
 late-good r a = all-map (λ e l. neither-good r e (λ u. omega (arith, l .late, u)) (λ u. omega (arith, l .late, u))) a
 
 -- While commentary is open at the place p, no `}` stands between its block's start and p.
-record Clear (r : List ℕ) (p : ℕ) (noting : Bool) (block : ℕ) : Type 0 where
-  starts : noting ≡ true → block ≤ p
-  clear : noting ≡ true → among 125 (take (p - block) (drop block r)) ≡ false
+record Clear (r : List ℕ) (p : ℕ) (commentary : Bool) (block : ℕ) : Type 0 where
+  starts : commentary ≡ true → block ≤ p
+  clear : commentary ≡ true → among 125 (take (p - block) (drop block r)) ≡ false
 
-not-open : (r : List ℕ) (p : ℕ) {noting : Bool} (block : ℕ) → noting ≡ false → Clear r p noting block
+not-open : (r : List ℕ) (p : ℕ) {commentary : Bool} (block : ℕ) → commentary ≡ false → Clear r p commentary block
 not-open r p block e = record { starts = λ t. clash (sym e ∙ t); clear = λ t. clash (sym e ∙ t) }
 
 carried : {r : List ℕ} {p : ℕ} {n m : Bool} {b d : ℕ} → m ≡ n → d ≡ b → Clear r p n b → Clear r p m d
@@ -264,8 +264,8 @@ carried e f h = rw (e, f) h
 
 -- A step: its directives and blocks can be written.
 record Remarked (r : List ℕ) (p : ℕ) (s : State) (q : ℕ) (o : Out State) : Type 0 where
-  good : Clear r p (s .noting) (s .block) → All (RemarkGood r) (o .entries)
-  after : Clear r p (s .noting) (s .block) → Clear r q (o .state .noting) (o .state .block)
+  good : Clear r p (s .commentary) (s .block) → All (RemarkGood r) (o .entries)
+  after : Clear r p (s .commentary) (s .block) → Clear r q (o .state .commentary) (o .state .block)
 
 -- From a place at or before p on to the byte k of the line at p.
 extend : (r : List ℕ) (p : ℕ) (l : List ℕ) (block k : ℕ) → LineAt r p l → block ≤ p → k ≤ length l → take (p + k - block) (drop block r) ≡ take (p - block) (drop block r) ++ take k l
@@ -287,7 +287,7 @@ brace-lead l e =
     some-left (suc n) x y = omega arith
 
 module _ (c : Conventions) (r : List ℕ) (p : ℕ) (s : State) (l : List ℕ) (i : LineAt r p l) where
-  quiet-remarked : s .noting ≡ true → hasBrace l ≡ false → Remarked r p s (p + length l) (record { state = s; entries = [] })
+  quiet-remarked : s .commentary ≡ true → hasBrace l ≡ false → Remarked r p s (p + length l) (record { state = s; entries = [] })
   unfolding hasBrace
   quiet-remarked n b =
       record {
@@ -299,7 +299,7 @@ module _ (c : Conventions) (r : List ℕ) (p : ℕ) (s : State) (l : List ℕ) (
             };
       }
 
-  opening-remarked : lineKind l ≡ Brace → hasBrace l ≡ false → Remarked r p s (p + length l) (record { state = noted s true (p + length (lead l) + 1); entries = [] })
+  opening-remarked : lineKind l ≡ Brace → hasBrace l ≡ false → Remarked r p s (p + length l) (record { state = withCommentary s true (p + length (lead l) + 1); entries = [] })
   unfolding hasBrace
   opening-remarked k b =
       let x = length (lead l) + 1 in
@@ -335,14 +335,14 @@ module _ (c : Conventions) (r : List ℕ) (p : ℕ) (s : State) (l : List ℕ) (
       let v : y ≡ 0 = omega arith in
       rw (e, f, v))
 
-  noting-good : s .noting ≡ true → hasBrace l ≡ true → Clear r p (s .noting) (s .block) → goodBlock (take (p + lastBrace l - s .block) (drop (s .block) r)) ≡ true
+  commentary-good : s .commentary ≡ true → hasBrace l ≡ true → Clear r p (s .commentary) (s .block) → goodBlock (take (p + lastBrace l - s .block) (drop (s .block) r)) ≡ true
   unfolding hasBrace
-  noting-good n b h =
+  commentary-good n b h =
       let w = brace-on l b in
       rw (extend r p l (s .block) (lastBrace l) i (h .starts n) (omega arith))
       (block-append (take (p - s .block) (drop (s .block) r)) (take (lastBrace l) l) (h .clear n) (feed-take l (lastBrace l) (line-feed r p l i) w))
 
-  blocked-remarked : (a j : ℕ) → (Clear r p (s .noting) (s .block) → goodBlock (take (j - a) (drop a r)) ≡ true) → Remarked r p s (p + length l) (blocked r s a j)
+  blocked-remarked : (a j : ℕ) → (Clear r p (s .commentary) (s .block) → goodBlock (take (j - a) (drop a r)) ≡ true) → Remarked r p s (p + length l) (blocked r s a j)
   unfolding blocked
   blocked-remarked a j g =
       record {
@@ -356,8 +356,8 @@ module _ (c : Conventions) (r : List ℕ) (p : ℕ) (s : State) (l : List ℕ) (
   directive-at d z j g =
       record { directive = λ u. ap goodDirective (PartPlaced r l p (d .start) (d .len) (i .bytes) j) ∙ g; block = λ u. wrong (omega arith) }
 
-  dated-good : (t : State) (d : Span) → All (RemarkGood r) (dated t p d .entries)
-  dated-good t d =
+  data-good : (t : State) (d : Span) → All (RemarkGood r) (dataAdded t p d .entries)
+  data-good t d =
       chosen (λ es. All (RemarkGood r) es) (eqb (t .section .kind) 0) [] (entry 5 (p + d .start) (d .len) (t .section .kind) ∷ []) (λ e. none)
       (λ e. one {x = entry 5 (p + d .start) (d .len) (t .section .kind)} (neither-good r _ (λ u. omega arith) (λ u. omega arith)) none)
 
@@ -372,9 +372,9 @@ module _ (c : Conventions) (r : List ℕ) (p : ℕ) (s : State) (l : List ℕ) (
   reading-good q (WithComment t d) k j =
       all-append (tagged-good q t noSpan)
       (one {x = entry 3 (p + d .start) (d .len) (tagged c s p l q t noSpan .state .tags)} (directive-at d (tagged c s p l q t noSpan .state .tags) (j .1) (comment-good l t d (line-feed r p l i) k)) none)
-  reading-good q (WithData t d) k j = all-append (tagged-good q t (at p d)) (dated-good (tagged c s p l q t (at p d) .state) d)
+  reading-good q (WithData t d) k j = all-append (tagged-good q t (at p d)) (data-good (tagged c s p l q t (at p d) .state) d)
 
-  reading-closed : (q : ℕ) (t : TagReading) → readBy c s p l q t .state .noting ≡ false
+  reading-closed : (q : ℕ) (t : TagReading) → readBy c s p l q t .state .commentary ≡ false
   unfolding tagged
   reading-closed q (Plain t) = refl
   reading-closed q (WithComment t d) = refl
@@ -389,21 +389,21 @@ RemarksGood c r = steps .good (not-open r 0 0 refl)
   where
     steps : Remarked r 0 noState (length r) (recordOut c r)
     steps =
-        RecordSteps c r (Remarked r)
+        HoldsOfRecord c r (Remarked r)
         record {
           together = λ p q z s o k a b. record { good = λ h. all-append (a .good h) (b .good (a .after h)); after = λ h. b .after (a .after h) };
-          closing = λ p s. record { good = λ h. late-good r (closed-late c r s); after = λ h. carried (closed-keeps c r s .noting-kept) (closed-keeps c r s .block-kept) h };
+          closing = λ p s. record { good = λ h. late-good r (closed-late c r s); after = λ h. carried (closed-keeps c r s .commentary-kept) (closed-keeps c r s .block-kept) h };
           idle = λ p s l i n. record { good = λ h. none; after = λ h. not-open r (p + length l) (s .block) n };
           quiet = λ p s l i n b. quiet-remarked c r p s l i n b;
           opening = λ p s l i n k b. opening-remarked c r p s l i k b;
           bracing = λ p s l i n k b. blocked-remarked c r p s l i (p + length (lead l) + 1) (p + lastBrace l) (λ h. bracing-good c r p s l i b);
-          noting = λ p s l i n b. blocked-remarked c r p s l i (s .block) (p + lastBrace l) (λ h. noting-good c r p s l i n b h);
+          commentary = λ p s l i n b. blocked-remarked c r p s l i (s .block) (p + lastBrace l) (λ h. commentary-good c r p s l i n b h);
           directing = λ p s l d i n k.
               record {
                 good = λ h. one {x = entry 3 (p + d .start) (d .len) (s .tags)} (directive-at c r p s l i d (s .tags) (inside-of l (Directive d) k) (directive-good l d (line-feed r p l i) k)) none;
                 after = λ h. not-open r (p + length l) (s .block) n;
               };
-          dating = λ p s l d i n k. record { good = λ h. dated-good c r p s l i s d; after = λ h. not-open r (p + length l) (s .block) n };
+          dating = λ p s l d i n k. record { good = λ h. data-good c r p s l i s d; after = λ h. not-open r (p + length l) (s .block) n };
           tagging = λ p s l t i k.
               record {
                 good = λ h. reading-good c r p s l i (p + length l) t k (inside-of l (TagOn t) k);

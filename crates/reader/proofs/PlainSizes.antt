@@ -25,13 +25,13 @@ use Rattle.reader.specs.declared.board.State.{State}
 use Rattle.reader.specs.Lines.{lastBrace, lineKind, linePlaced, readingPlaced}
 use Rattle.reader.specs.Tag.{cut, TagInside}
 use Rattle.reader.specs.Pieces.{Out, entry}
-use Rattle.reader.specs.Boards.{closed, noSpan, at, tagged, directed, dated, readBy, noted, blocked, isAllWhite, noState, recordOut}
+use Rattle.reader.specs.Boards.{closed, noSpan, at, tagged, directed, dataAdded, readBy, withCommentary, blocked, isAllWhite, noState, recordOut}
 use Rattle.reader.specs.Plain.{Item, itemOf, itemsOf, bytesOf, TagPair, Remark, tagsIn, remarksIn, startsLine, withoutReturns, blockValue, callsIn, tricksIn, itemsWithin, PlainAuction, PlainPlay, PlainBoard, plainAuction, plainPlay, plainBy, plainOf}
 use Rattle.reader.proofs.EntryLaws.{All, none, one}
 use Rattle.reader.proofs.Tags.{trim-whole}
 use Rattle.reader.proofs.Inside.{LineInside}
 use Rattle.reader.proofs.Counts.{chosen, cut-len, EntriesFew}
-use Rattle.reader.proofs.PlainSteps.{Late, closed-late, closed-keeps, RecordSteps}
+use Rattle.reader.proofs.PlainSteps.{Late, closed-late, closed-keeps, HoldsOfRecord}
 use Rattle.reader.proofs.PlainTags.{Paired, over, tag, other, TagsPaired}
 use Rattle.reader.proofs.PlainLaws.{force-is}
 
@@ -55,7 +55,7 @@ size-late (one {x = e} l a) = rw (lt-leb (e .kind) 4 (omega (arith, l .late))) (
 
 -- What was read up to the place p: all, or all up to an open block.
 abbrev done : State → ℕ → ℕ
-done s p = cond (s .noting) (s .block - 1) p
+done s p = cond (s .commentary) (s .block - 1) p
 
 -- A step from s at p to o at q: an open block starts at the next byte at the latest; three times the bytes read are enough.
 record Sized (p : ℕ) (s : State) (q : ℕ) (o : Out State) : Type 0 where
@@ -72,23 +72,23 @@ brace-inside (b ∷ bs) = by-cases (eqb b 125 && not (among 125 bs)) (λ e. rw e
 closed-sized : (c : Conventions) (r : List ℕ) (p : ℕ) (s : State) → Sized p s p (closed c r s)
 closed-sized c r p s =
     let k = closed-keeps c r s in
-    let e : done (closed c r s .state) p ≡ done s p = ap (λ (b : Bool). cond b (closed c r s .state .block - 1) p) (k .noting-kept) ∙ ap (λ (x : ℕ). cond (s .noting) (x - 1) p) (k .block-kept) in
+    let e : done (closed c r s .state) p ≡ done s p = ap (λ (b : Bool). cond b (closed c r s .state .block - 1) p) (k .commentary-kept) ∙ ap (λ (x : ℕ). cond (s .commentary) (x - 1) p) (k .block-kept) in
     record { fits = λ h. omega (arith, e, size-late (closed-late c r s)); next = λ h. omega (arith, e) }
 
 idle-sized : (p n : ℕ) (s : State) → Sized p s (p + n) (record { state = s; entries = [] })
 idle-sized p n s =
-    by-cases (s .noting)
+    by-cases (s .commentary)
     (λ e. let a = on (s .block - 1) p e in let b = on (s .block - 1) (p + n) e in record { fits = λ h. omega arith; next = λ h. omega arith })
     (λ e. let a = off (s .block - 1) p e in let b = off (s .block - 1) (p + n) e in record { fits = λ h. omega arith; next = λ h. omega arith })
   where
-    on : (x y : ℕ) → s .noting ≡ true → cond (s .noting) x y ≡ x
+    on : (x y : ℕ) → s .commentary ≡ true → cond (s .commentary) x y ≡ x
     on x y e = ap (λ (b : Bool). cond b x y) e
 
-    off : (x y : ℕ) → s .noting ≡ false → cond (s .noting) x y ≡ y
+    off : (x y : ℕ) → s .commentary ≡ false → cond (s .commentary) x y ≡ y
     off x y e = ap (λ (b : Bool). cond b x y) e
 
 -- Entries of at most three times n bytes on a line of n bytes, after which no block is open.
-flat-sized : (p n : ℕ) (s : State) (o : Out State) → o .state .noting ≡ false → sizeIn (o .entries) ≤ 3 * n → Sized p s (p + n) o
+flat-sized : (p n : ℕ) (s : State) (o : Out State) → o .state .commentary ≡ false → sizeIn (o .entries) ≤ 3 * n → Sized p s (p + n) o
 flat-sized p n s o e h =
     let a : done (o .state) (p + n) ≡ p + n = ap (λ (b : Bool). cond b (o .state .block - 1) (p + n)) e in
     record { fits = λ i. omega arith; next = λ i. omega arith }
@@ -97,9 +97,9 @@ size-maybe : (b : Bool) (e : Entry) (n : ℕ) → e .y ≤ n → sizeIn (cond b 
 size-maybe true e n h = omega arith
 size-maybe false e n h = chosen (λ x. x + 0 ≤ n) (leb (e .kind) 4) (e .y) 0 (λ t. omega arith) (λ t. omega arith)
 
-blocked-noting : (r : List ℕ) (s : State) (i j : ℕ) → blocked r s i j .state .noting ≡ false
+blocked-commentary : (r : List ℕ) (s : State) (i j : ℕ) → blocked r s i j .state .commentary ≡ false
 unfolding blocked
-blocked-noting r s i j = refl
+blocked-commentary r s i j = refl
 
 blocked-size : (r : List ℕ) (s : State) (i j : ℕ) → sizeIn (blocked r s i j .entries) ≤ j - i
 unfolding blocked
@@ -109,48 +109,48 @@ bracing-sized : (r : List ℕ) (p : ℕ) (s : State) (l : List ℕ) → Sized p 
 bracing-sized r p s l =
     let i = p + length (lead l) + 1 in
     let j = p + lastBrace l in
-    flat-sized p (length l) s (blocked r s i j) (blocked-noting r s i j) (omega (arith, blocked-size r s i j, brace-inside l))
+    flat-sized p (length l) s (blocked r s i j) (blocked-commentary r s i j) (omega (arith, blocked-size r s i j, brace-inside l))
 
-noting-sized : (r : List ℕ) (p : ℕ) (s : State) (l : List ℕ) → s .noting ≡ true → Sized p s (p + length l) (blocked r s (s .block) (p + lastBrace l))
-noting-sized r p s l e =
+commentary-sized : (r : List ℕ) (p : ℕ) (s : State) (l : List ℕ) → s .commentary ≡ true → Sized p s (p + length l) (blocked r s (s .block) (p + lastBrace l))
+commentary-sized r p s l e =
     let j = p + lastBrace l in
     let o = blocked r s (s .block) j in
-    let a : done (o .state) (p + length l) ≡ p + length l = ap (λ (b : Bool). cond b (o .state .block - 1) (p + length l)) (blocked-noting r s (s .block) j) in
+    let a : done (o .state) (p + length l) ≡ p + length l = ap (λ (b : Bool). cond b (o .state .block - 1) (p + length l)) (blocked-commentary r s (s .block) j) in
     let b : done s p ≡ s .block - 1 = ap (λ (b : Bool). cond b (s .block - 1) p) e in
     record { fits = λ i. omega (arith, blocked-size r s (s .block) j, brace-inside l); next = λ i. omega arith }
 
-opening-sized : (p : ℕ) (s : State) (l : List ℕ) → Sized p s (p + length l) (record { state = noted s true (p + length (lead l) + 1); entries = [] })
+opening-sized : (p : ℕ) (s : State) (l : List ℕ) → Sized p s (p + length l) (record { state = withCommentary s true (p + length (lead l) + 1); entries = [] })
 opening-sized p s l = record { fits = λ i. omega arith; next = λ i. omega (arith, lead-inside l) }
 
-dated-size : (s : State) (p : ℕ) (d : Span) → sizeIn (dated s p d .entries) ≡ 0
-dated-size s p d = chosen (λ es. sizeIn es ≡ 0) (eqb (s .section .kind) 0) [] (entry 5 (p + d .start) (d .len) (s .section .kind) ∷ []) (λ e. refl) (λ e. refl)
+data-size : (s : State) (p : ℕ) (d : Span) → sizeIn (dataAdded s p d .entries) ≡ 0
+data-size s p d = chosen (λ es. sizeIn es ≡ 0) (eqb (s .section .kind) 0) [] (entry 5 (p + d .start) (d .len) (s .section .kind) ∷ []) (λ e. refl) (λ e. refl)
 
 tagged-size : (c : Conventions) (s : State) (p : ℕ) (l : List ℕ) (q n : ℕ) (t : TagPlaces) (split : Span) → TagInside t n → sizeIn (tagged c s p l q t split .entries) ≤ 2 * n
 unfolding tagged
 tagged-size c s p l q n t split i = omega (arith, i .name-inside, i .value-inside)
 
-tagged-noting : (c : Conventions) (s : State) (p : ℕ) (l : List ℕ) (q : ℕ) (t : TagPlaces) (split : Span) → tagged c s p l q t split .state .noting ≡ false
+tagged-commentary : (c : Conventions) (s : State) (p : ℕ) (l : List ℕ) (q : ℕ) (t : TagPlaces) (split : Span) → tagged c s p l q t split .state .commentary ≡ false
 unfolding tagged
-tagged-noting c s p l q t split = refl
+tagged-commentary c s p l q t split = refl
 
 reading-sized : (c : Conventions) (p : ℕ) (s : State) (l : List ℕ) (q : ℕ) (t : TagReading) → readingPlaced t (length l) → Sized p s (p + length l) (readBy c s p l q t)
 reading-sized c p s l q (Plain t) i =
-    flat-sized p (length l) s (tagged c s p l q t noSpan) (tagged-noting c s p l q t noSpan) (omega (arith, tagged-size c s p l q (length l) t noSpan i))
+    flat-sized p (length l) s (tagged c s p l q t noSpan) (tagged-commentary c s p l q t noSpan) (omega (arith, tagged-size c s p l q (length l) t noSpan i))
 reading-sized c p s l q (WithComment t d) i =
     let o = tagged c s p l q t noSpan in
-    flat-sized p (length l) s (readBy c s p l q (WithComment t d)) (tagged-noting c s p l q t noSpan)
+    flat-sized p (length l) s (readBy c s p l q (WithComment t d)) (tagged-commentary c s p l q t noSpan)
     (rw size-append (omega (arith, tagged-size c s p l q (length l) t noSpan (i .0), i .1)))
 reading-sized c p s l q (WithData t d) i =
     let o = tagged c s p l q t (at p d) in
-    flat-sized p (length l) s (readBy c s p l q (WithData t d)) (tagged-noting c s p l q t (at p d))
-    (rw size-append (omega (arith, tagged-size c s p l q (length l) t (at p d) (i .0), dated-size (o .state) p d)))
+    flat-sized p (length l) s (readBy c s p l q (WithData t d)) (tagged-commentary c s p l q t (at p d))
+    (rw size-append (omega (arith, tagged-size c s p l q (length l) t (at p d) (i .0), data-size (o .state) p d)))
 
 kind-inside : (l : List ℕ) (k : Line) → lineKind l ≡ k → linePlaced k (length l)
 kind-inside l k e = rw e at (LineInside l)
 
 record-sized : (c : Conventions) (r : List ℕ) → Sized 0 noState (length r) (recordOut c r)
 record-sized c r =
-    RecordSteps c r Sized
+    HoldsOfRecord c r Sized
     record {
       together = λ p q z s o k a b.
           record {
@@ -162,9 +162,9 @@ record-sized c r =
       quiet = λ p s l i n k. idle-sized p (length l) s;
       opening = λ p s l i n k b. opening-sized p s l;
       bracing = λ p s l i n k b. bracing-sized r p s l;
-      noting = λ p s l i n k. noting-sized r p s l n;
+      commentary = λ p s l i n k. commentary-sized r p s l n;
       directing = λ p s l d i n k. flat-sized p (length l) s (directed s p d) n (omega (arith, kind-inside l (Directive d) k));
-      dating = λ p s l d i n k. flat-sized p (length l) s (dated s p d) n (omega (arith, dated-size s p d));
+      dating = λ p s l d i n k. flat-sized p (length l) s (dataAdded s p d) n (omega (arith, data-size s p d));
       tagging = λ p s l t i k. reading-sized c p s l (p + length l) t (kind-inside l (TagOn t) k);
     }
 

@@ -10,7 +10,7 @@ use borrow.Author.Tests.{eqb-true}
 use Rattle.tables.specs.declared.letters.Conventions.{Conventions}
 use Rattle.tables.specs.Text.{lead, before}
 use Rattle.tables.proofs.Laws.{by-cases, either}
-use Rattle.tables.specs.Tables.{Reading, holds, refuses, gathered}
+use Rattle.tables.specs.Tables.{TableReading, holds, refuses, gathered}
 use Rattle.reader.specs.declared.store.Entry.{Entry}
 use Rattle.reader.specs.declared.tag.Span.{Span}
 use Rattle.reader.specs.declared.line.Line.{Line}
@@ -24,9 +24,9 @@ use Rattle.reader.specs.declared.board.Board.{Board}
 use Rattle.reader.specs.declared.board.State.{State}
 use Rattle.reader.specs.Play.{lastTrick}
 use Rattle.reader.specs.Lines.{hasBrace, lastBrace, lineKind}
-use Rattle.reader.specs.Pieces.{Piece, Out, andThen, glue, rawLines}
+use Rattle.reader.specs.Pieces.{Piece, Out, andThen, joinLine, rawLines}
 use Rattle.reader.specs.Sections.{sectionData, walked, noWalk, walkedAll}
-use Rattle.reader.specs.Boards.{withSections, rowsClosed, boardClosed, lastEntries, closedBy, closed, directed, dated, readBy, readTag, noted, blocked, braced, inNote, lineBy, lineOut, linesOut, noState, recordOut}
+use Rattle.reader.specs.Boards.{withSections, rowsClosed, boardClosed, lastEntries, closedBy, closed, directed, dataAdded, readBy, tagLineOut, withCommentary, blocked, braced, inCommentary, lineBy, lineOut, linesOut, noState, recordOut}
 use Rattle.reader.proofs.EntryLaws.{All, none, all-append, all-map, Inside, Trick, out-all}
 use Rattle.reader.proofs.AuctionLaws.{CallsInside}
 use Rattle.reader.proofs.PlayLaws.{TricksOnly, LastTrickOnly}
@@ -75,15 +75,15 @@ closed-late c r s =
 -- It leaves the tags and the commentary as they are.
 pub record Keeping (s t : State) : Type 0 where
   pub tags-kept : t .tags ≡ s .tags
-  pub noting-kept : t .noting ≡ s .noting
+  pub commentary-kept : t .commentary ≡ s .commentary
   pub block-kept : t .block ≡ s .block
 
 pub closed-keeps : (c : Conventions) (r : List ℕ) (s : State) → Keeping s (closed c r s .state)
 unfolding closed
 closed-keeps c r s =
     chosen (λ (o : Out State). Keeping s (o .state)) (eqb (s .section .kind) 0) (record { state = s; entries = [] }) (closedBy s (walkedAll c r (s .section) (s .board .contract)))
-    (λ e. record { tags-kept = refl; noting-kept = refl; block-kept = refl })
-    (λ e. record { tags-kept = refl; noting-kept = refl; block-kept = refl })
+    (λ e. record { tags-kept = refl; commentary-kept = refl; block-kept = refl })
+    (λ e. record { tags-kept = refl; commentary-kept = refl; block-kept = refl })
 
 -- It leaves what tags alone change.
 pub record Leaves (b d : Board) : Type 0 where
@@ -98,7 +98,7 @@ leaves-all b = record { id-left = refl; deal-left = refl; values-left = refl; co
 sections-leave : (b : Board) (table : TableCard) (auction play : Section) (trump : ℕ) → Leaves b (withSections b table auction play trump)
 sections-leave b table auction play trump = record { id-left = refl; deal-left = refl; values-left = refl; contract-left = refl }
 
-rows-leave : (b : Board) (x : Reading) → Leaves b (rowsClosed b x)
+rows-leave : (b : Board) (x : TableReading) → Leaves b (rowsClosed b x)
 rows-leave b (holds cells) = sections-leave b (record { kind = 2; cells = cells }) (b .auction) (b .play) (b .trump)
 rows-leave b (refuses f) = leaves-all b
 
@@ -148,36 +148,36 @@ closed-leaves c r s =
 pub record Steps (c : Conventions) (r : List ℕ) (P : ℕ → State → ℕ → Out State → Type 0) : Type 0 where
   pub together : (p q z : ℕ) (s : State) (o k : Out State) → P p s q o → P q (o .state) z k → P p s z (andThen o k)
   pub closing : (p : ℕ) (s : State) → P p s p (closed c r s)
-  pub idle : (p : ℕ) (s : State) (l : List ℕ) → LineAt r p l → s .noting ≡ false → P p s (p + length l) (record { state = s; entries = [] })
-  pub quiet : (p : ℕ) (s : State) (l : List ℕ) → LineAt r p l → s .noting ≡ true → hasBrace l ≡ false → P p s (p + length l) (record { state = s; entries = [] })
-  pub opening : (p : ℕ) (s : State) (l : List ℕ) → LineAt r p l → s .noting ≡ false → lineKind l ≡ Brace → hasBrace l ≡ false → P p s (p + length l) (record { state = noted s true (p + length (lead l) + 1); entries = [] })
-  pub bracing : (p : ℕ) (s : State) (l : List ℕ) → LineAt r p l → s .noting ≡ false → lineKind l ≡ Brace → hasBrace l ≡ true → P p s (p + length l) (blocked r s (p + length (lead l) + 1) (p + lastBrace l))
-  pub noting : (p : ℕ) (s : State) (l : List ℕ) → LineAt r p l → s .noting ≡ true → hasBrace l ≡ true → P p s (p + length l) (blocked r s (s .block) (p + lastBrace l))
-  pub directing : (p : ℕ) (s : State) (l : List ℕ) (d : Span) → LineAt r p l → s .noting ≡ false → lineKind l ≡ Directive d → P p s (p + length l) (directed s p d)
-  pub dating : (p : ℕ) (s : State) (l : List ℕ) (d : Span) → LineAt r p l → s .noting ≡ false → lineKind l ≡ Data d → P p s (p + length l) (dated s p d)
+  pub idle : (p : ℕ) (s : State) (l : List ℕ) → LineAt r p l → s .commentary ≡ false → P p s (p + length l) (record { state = s; entries = [] })
+  pub quiet : (p : ℕ) (s : State) (l : List ℕ) → LineAt r p l → s .commentary ≡ true → hasBrace l ≡ false → P p s (p + length l) (record { state = s; entries = [] })
+  pub opening : (p : ℕ) (s : State) (l : List ℕ) → LineAt r p l → s .commentary ≡ false → lineKind l ≡ Brace → hasBrace l ≡ false → P p s (p + length l) (record { state = withCommentary s true (p + length (lead l) + 1); entries = [] })
+  pub bracing : (p : ℕ) (s : State) (l : List ℕ) → LineAt r p l → s .commentary ≡ false → lineKind l ≡ Brace → hasBrace l ≡ true → P p s (p + length l) (blocked r s (p + length (lead l) + 1) (p + lastBrace l))
+  pub commentary : (p : ℕ) (s : State) (l : List ℕ) → LineAt r p l → s .commentary ≡ true → hasBrace l ≡ true → P p s (p + length l) (blocked r s (s .block) (p + lastBrace l))
+  pub directing : (p : ℕ) (s : State) (l : List ℕ) (d : Span) → LineAt r p l → s .commentary ≡ false → lineKind l ≡ Directive d → P p s (p + length l) (directed s p d)
+  pub dating : (p : ℕ) (s : State) (l : List ℕ) (d : Span) → LineAt r p l → s .commentary ≡ false → lineKind l ≡ Data d → P p s (p + length l) (dataAdded s p d)
   pub tagging : (p : ℕ) (s : State) (l : List ℕ) (t : TagReading) → LineAt r p l → lineKind l ≡ TagOn t → P p s (p + length l) (readBy c s p l (p + length l) t)
 
 module _ (c : Conventions) (r : List ℕ) (P : ℕ → State → ℕ → Out State → Type 0) (h : Steps c r P) where
-  note-step : (p : ℕ) (s : State) (l : List ℕ) → LineAt r p l → s .noting ≡ true → P p s (p + length l) (inNote r s p l)
-  unfolding inNote
-  note-step p s l i n =
+  commentary-step : (p : ℕ) (s : State) (l : List ℕ) → LineAt r p l → s .commentary ≡ true → P p s (p + length l) (inCommentary r s p l)
+  unfolding inCommentary
+  commentary-step p s l i n =
       chosen (λ o. P p s (p + length l) o) (hasBrace l) (blocked r s (s .block) (p + lastBrace l)) (record { state = s; entries = [] })
-      (λ e. h .noting p s l i n e)
+      (λ e. h .commentary p s l i n e)
       (λ e. h .quiet p s l i n e)
 
-  brace-step : (p : ℕ) (s : State) (l : List ℕ) → LineAt r p l → s .noting ≡ false → lineKind l ≡ Brace → P p s (p + length l) (braced r s p l)
+  brace-step : (p : ℕ) (s : State) (l : List ℕ) → LineAt r p l → s .commentary ≡ false → lineKind l ≡ Brace → P p s (p + length l) (braced r s p l)
   unfolding braced
   brace-step p s l i n k =
-      chosen (λ o. P p s (p + length l) o) (hasBrace l) (blocked r s (p + length (lead l) + 1) (p + lastBrace l)) (record { state = noted s true (p + length (lead l) + 1); entries = [] })
+      chosen (λ o. P p s (p + length l) o) (hasBrace l) (blocked r s (p + length (lead l) + 1) (p + lastBrace l)) (record { state = withCommentary s true (p + length (lead l) + 1); entries = [] })
       (λ e. h .bracing p s l i n k e)
       (λ e. h .opening p s l i n k e)
 
-  tag-step : (p : ℕ) (s : State) (l : List ℕ) (t : TagReading) → LineAt r p l → lineKind l ≡ TagOn t → P p s (p + length l) (readTag c r s p l t)
-  unfolding readTag
+  tag-step : (p : ℕ) (s : State) (l : List ℕ) (t : TagReading) → LineAt r p l → lineKind l ≡ TagOn t → P p s (p + length l) (tagLineOut c r s p l t)
+  unfolding tagLineOut
   tag-step p s l t i k =
       h .together p p (p + length l) s (closed c r s) (readBy c (closed c r s .state) p l (p + length l) t) (h .closing p s) (h .tagging p (closed c r s .state) l t i k)
 
-  kind-step : (p : ℕ) (s : State) (l : List ℕ) (m : Line) → LineAt r p l → s .noting ≡ false → lineKind l ≡ m → P p s (p + length l) (lineBy c r s p l m)
+  kind-step : (p : ℕ) (s : State) (l : List ℕ) (m : Line) → LineAt r p l → s .commentary ≡ false → lineKind l ≡ m → P p s (p + length l) (lineBy c r s p l m)
   kind-step p s l Blank i n k = h .idle p s l i n
   kind-step p s l Brace i n k = brace-step p s l i n k
   kind-step p s l (Directive d) i n k = h .directing p s l d i n k
@@ -188,8 +188,8 @@ module _ (c : Conventions) (r : List ℕ) (P : ℕ → State → ℕ → Out Sta
   line-step : (p : ℕ) (s : State) (l : List ℕ) → LineAt r p l → P p s (p + length l) (lineOut c r s p l)
   unfolding lineOut
   line-step p s l i =
-      chosen (λ o. P p s (p + length l) o) (s .noting) (inNote r s p l) (lineBy c r s p l (lineKind l))
-      (λ e. note-step p s l i e)
+      chosen (λ o. P p s (p + length l) o) (s .commentary) (inCommentary r s p l) (lineBy c r s p l (lineKind l))
+      (λ e. commentary-step p s l i e)
       (λ e. kind-step p s l (lineKind l) i e refl)
 
 -- ---- the lines of a record
@@ -198,7 +198,7 @@ raw-none : (s : List ℕ) → rawLines s ≡ [] → s ≡ []
 raw-none [] e = refl
 raw-none (b ∷ bs) e = glued (eqb b 10) (rawLines bs) e
   where
-    glued : (t : Bool) (ls : List (List ℕ)) → glue t b ls ≡ [] → b ∷ bs ≡ []
+    glued : (t : Bool) (ls : List (List ℕ)) → joinLine t b ls ≡ [] → b ∷ bs ≡ []
     glued true ls e = cc
     glued false [] e = cc
     glued false (l ∷ ls) e = cc
@@ -230,6 +230,6 @@ lines-step c r P h p s (l ∷ ls) i e =
     (lines-step c r P h (p + length l) (o .state) ls (n .inside) (n .rest))
 
 -- THEOREM. Such a P holds of a record, from its start to its end.
-pub RecordSteps : (c : Conventions) (r : List ℕ) (P : ℕ → State → ℕ → Out State → Type 0) → Steps c r P → P 0 noState (length r) (recordOut c r)
+pub HoldsOfRecord : (c : Conventions) (r : List ℕ) (P : ℕ → State → ℕ → Out State → Type 0) → Steps c r P → P 0 noState (length r) (recordOut c r)
 unfolding recordOut
-RecordSteps c r P h = lines-step c r P h 0 noState (rawLines r) (omega arith) refl
+HoldsOfRecord c r P h = lines-step c r P h 0 noState (rawLines r) (omega arith) refl

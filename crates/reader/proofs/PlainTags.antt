@@ -25,8 +25,8 @@ use Rattle.reader.specs.declared.board.State.{State}
 use Rattle.reader.specs.Tag.{cut, tagLine, splitOf, TagInside}
 use Rattle.reader.specs.TagBytes.{TagBytes, SplitBytes, tagBytes, splitBytes}
 use Rattle.reader.specs.Lines.{isBlank, lastBrace, splitAs, splitLine, bracketAs, bracketLine, kindBy, lineKind, tagOf, linePlaced, readingPlaced}
-use Rattle.reader.specs.Pieces.{entry, glue, rawLines}
-use Rattle.reader.specs.Boards.{noSpan, at, tagged, dated, readBy, isAllWhite, blocked, recordOut}
+use Rattle.reader.specs.Pieces.{entry, joinLine, rawLines}
+use Rattle.reader.specs.Boards.{noSpan, at, tagged, dataAdded, readBy, isAllWhite, blocked, recordOut}
 use Rattle.reader.specs.Plain.{bytesOf, itemOf, itemsOf, TagPair, tagsIn, plainBy, plainOf}
 use Rattle.reader.proofs.EntryLaws.{All, none, one}
 use Rattle.reader.proofs.Tags.{never, some-inj, trimmed-is, TagStands, SplitStands, TagTrimmed, SplitTrimmed}
@@ -34,7 +34,7 @@ use Rattle.reader.proofs.TagsBack.{Good, TagsGood}
 use Rattle.reader.proofs.Inside.{LineInside}
 use Rattle.reader.proofs.SectionLaws.{LineAt}
 use Rattle.reader.proofs.PlainLaws.{PartPlaced}
-use Rattle.reader.proofs.PlainSteps.{Late, closed-late, RecordSteps}
+use Rattle.reader.proofs.PlainSteps.{Late, closed-late, HoldsOfRecord}
 
 -- ---- a line has no LF but at its end
 
@@ -58,7 +58,7 @@ raw-feed : (s : List ℕ) → All FeedLast (rawLines s)
 raw-feed [] = none
 raw-feed (b ∷ bs) = glued (eqb b 10) (rawLines bs) refl (raw-feed bs)
   where
-    glued : (t : Bool) (ls : List (List ℕ)) → eqb b 10 ≡ t → All FeedLast ls → All FeedLast (glue t b ls)
+    glued : (t : Bool) (ls : List (List ℕ)) → eqb b 10 ≡ t → All FeedLast ls → All FeedLast (joinLine t b ls)
     glued true ls n a = one {x = b ∷ []} (record { feed-last = refl }) a
     glued false [] n a = one {x = b ∷ []} (record { feed-last = refl }) none
     glued false (l ∷ ls) n (one h a) = one {x = b ∷ l} (record { feed-last = feed-more b l n (h .feed-last) }) a
@@ -200,8 +200,8 @@ paired-maybe : {Q : Entry → Entry → Type 0} (b : Bool) (e : Entry) → (e .k
 paired-maybe true e x y = over
 paired-maybe false e x y = other x y over
 
-dated-paired : {Q : Entry → Entry → Type 0} (s : State) (p : ℕ) (d : Span) → Paired Q (dated s p d .entries)
-dated-paired s p d = paired-maybe (eqb (s .section .kind) 0) (entry 5 (p + d .start) (d .len) (s .section .kind)) (λ u. omega arith) (λ u. omega arith)
+data-paired : {Q : Entry → Entry → Type 0} (s : State) (p : ℕ) (d : Span) → Paired Q (dataAdded s p d .entries)
+data-paired s p d = paired-maybe (eqb (s .section .kind) 0) (entry 5 (p + d .start) (d .len) (s .section .kind)) (λ u. omega arith) (λ u. omega arith)
 
 blocked-paired : {Q : Entry → Entry → Type 0} (r : List ℕ) (s : State) (i j : ℕ) → Paired Q (blocked r s i j .entries)
 unfolding blocked
@@ -222,7 +222,7 @@ module _ (c : Conventions) (r : List ℕ) (p : ℕ) (s : State) (l : List ℕ) (
   reading-paired : (q : ℕ) (t : TagReading) → readingPlaced t (length l) → Good (cut (tagOf t .name) l) (cut (tagOf t .value) l) → Paired (GoodTag r) (readBy c s p l q t .entries)
   reading-paired q (Plain t) j g = tagged-paired q t noSpan j g
   reading-paired q (WithComment t d) j g = paired-append (tagged-paired q t noSpan (j .0) g) (other (λ u. omega arith) (λ u. omega arith) over)
-  reading-paired q (WithData t d) j g = paired-append (tagged-paired q t (at p d) (j .0) g) (dated-paired (tagged c s p l q t (at p d) .state) p d)
+  reading-paired q (WithData t d) j g = paired-append (tagged-paired q t (at p d) (j .0) g) (data-paired (tagged c s p l q t (at p d) .state) p d)
 
   line-paired : (t : TagReading) → lineKind l ≡ TagOn t → Paired (GoodTag r) (readBy c s p l (p + length l) t .entries)
   line-paired t k =
@@ -232,7 +232,7 @@ module _ (c : Conventions) (r : List ℕ) (p : ℕ) (s : State) (l : List ℕ) (
 -- THEOREM. Among the entries of a record each name is followed by its value, and both can be written.
 pub TagsPaired : (c : Conventions) (r : List ℕ) → Paired (GoodTag r) (recordOut c r .entries)
 TagsPaired c r =
-    RecordSteps c r (λ p s q o. Paired (GoodTag r) (o .entries))
+    HoldsOfRecord c r (λ p s q o. Paired (GoodTag r) (o .entries))
     record {
       together = λ p q z s o k a b. paired-append a b;
       closing = λ p s. paired-late (closed-late c r s);
@@ -240,9 +240,9 @@ TagsPaired c r =
       quiet = λ p s l i n k. over;
       opening = λ p s l i n k b. over;
       bracing = λ p s l i n k b. blocked-paired r s (p + length (lead l) + 1) (p + lastBrace l);
-      noting = λ p s l i n k. blocked-paired r s (s .block) (p + lastBrace l);
+      commentary = λ p s l i n k. blocked-paired r s (s .block) (p + lastBrace l);
       directing = λ p s l d i n k. other (λ u. omega arith) (λ u. omega arith) over;
-      dating = λ p s l d i n k. dated-paired s p d;
+      dating = λ p s l d i n k. data-paired s p d;
       tagging = λ p s l t i k. line-paired c r p s l i t k;
     }
 

@@ -21,20 +21,20 @@ use Rattle.reader.specs.declared.line.TagReading.the-variants.{Plain, Wi
 use Rattle.reader.specs.declared.section.Open.{Open}
 use Rattle.reader.specs.declared.section.Walk.{Walk}
 use Rattle.reader.specs.declared.board.State.{State}
-use Rattle.reader.specs.Words.{cardOf, sectionEnd}
+use Rattle.reader.specs.Words.{cardNamed, sectionEnd}
 use Rattle.reader.specs.Lines.{lastBrace}
 use Rattle.reader.specs.Pieces.{Piece, Out, outAll, entry, tokensOf}
 use Rattle.reader.specs.Auction.{calledPiece}
-use Rattle.reader.specs.Play.{noSlots, withSlot, trickEntry, newTrick, nextLeader, opened, taking, slotOf, withCard, isDash, played, playedBytes, playedToken, playedPiece, oneMore, lastTrick}
+use Rattle.reader.specs.Play.{noSlots, withSlot, trickEntry, newTrick, nextLeader, opened, taking, slotOf, withCard, isGap, played, playedBytes, playedToken, playedPiece, oneMore, lastTrick}
 use Rattle.reader.specs.Sections.{sectionData, walked, noWalk, walkedAll, rowedPiece}
-use Rattle.reader.specs.Boards.{lastEntries, closedBy, closed, noSpan, at, tagged, dated, readBy, isAllWhite, blocked, recordOut}
+use Rattle.reader.specs.Boards.{lastEntries, closedBy, closed, noSpan, at, tagged, dataAdded, readBy, isAllWhite, blocked, recordOut}
 use Rattle.reader.specs.Plain.{itemOf, itemsOf, PlainTrick, PlainPlay, slotsOf, tricksIn, plainBy, plainOf}
 use Rattle.reader.proofs.EntryLaws.{All, none, one, all-append, all-map, Inside}
 use Rattle.reader.proofs.AuctionLaws.{CallsInside}
 use Rattle.reader.proofs.Counts.{chosen}
 use Rattle.reader.proofs.PlainLaws.{force-is}
 use Rattle.reader.proofs.PlainCalls.{forced-all}
-use Rattle.reader.proofs.PlainSteps.{RecordSteps}
+use Rattle.reader.proofs.PlainSteps.{HoldsOfRecord}
 
 -- Empty, or a card.
 abbrev pub isSlot : ℕ → Bool
@@ -89,16 +89,16 @@ played-cards : (c : Conventions) (lead trump : ℕ) (t : Tricks) (bytes : List �
 unfolding played
 played-cards c lead trump t bytes h =
     let P : Tricks → Type 0 = λ x. Cards (x .slots) in
-    let v = cardOf c bytes in
+    let v = cardNamed c bytes in
     let card = withCard trump t (withSlot (t .slots) (slotOf lead (t .seat) (t .leader)) v) in
     let held = cond (ltb v 52) card t in
-    let dash = cond (isDash bytes) (taking t (t .end) false (t .seat + 1)) held in
+    let dash = cond (isGap bytes) (taking t (t .end) false (t .seat + 1)) held in
     let star = cond (eqb (sectionEnd bytes) 2) (taking t 2 true (t .seat)) dash in
     chosen P (eqb (sectionEnd bytes) 1) (taking t 1 false (t .seat + 1)) star (λ e. h)
     (λ e.
     chosen P (eqb (sectionEnd bytes) 2) (taking t 2 true (t .seat)) dash (λ f. h)
     (λ f.
-    chosen P (isDash bytes) (taking t (t .end) false (t .seat + 1)) held (λ g. h)
+    chosen P (isGap bytes) (taking t (t .end) false (t .seat + 1)) held (λ g. h)
     (λ g. chosen P (ltb v 52) card t (λ k. set-cards (t .slots) (slotOf lead (t .seat) (t .leader)) v (or-second (eqb v 255) (ltb v 52) k) h) (λ k. h))))
 
 -- A trick whose slots are empty or cards; any other entry.
@@ -217,8 +217,8 @@ blocked-tricks : (r : List ℕ) (s : State) (i j : ℕ) → All TrickGood (block
 unfolding blocked
 blocked-tricks r s i j = maybe-one (isAllWhite r i j) 4 i (j - i) (s .tags) (omega arith)
 
-dated-tricks : (s : State) (p : ℕ) (d : Span) → All TrickGood (dated s p d .entries)
-dated-tricks s p d = maybe-one (eqb (s .section .kind) 0) 5 (p + d .start) (d .len) (s .section .kind) (omega arith)
+data-tricks : (s : State) (p : ℕ) (d : Span) → All TrickGood (dataAdded s p d .entries)
+data-tricks s p d = maybe-one (eqb (s .section .kind) 0) 5 (p + d .start) (d .len) (s .section .kind) (omega arith)
 
 tagged-tricks : (c : Conventions) (s : State) (p : ℕ) (l : List ℕ) (q : ℕ) (t : TagPlaces) (split : Span) → All TrickGood (tagged c s p l q t split .entries)
 unfolding tagged
@@ -229,12 +229,12 @@ reading-tricks : (c : Conventions) (s : State) (p : ℕ) (l : List ℕ) (q : ℕ
 reading-tricks c s p l q (Plain t) = tagged-tricks c s p l q t noSpan
 reading-tricks c s p l q (WithComment t d) =
     all-append (tagged-tricks c s p l q t noSpan) (one (low-one 3 (p + d .start) (d .len) (tagged c s p l q t noSpan .state .tags) (omega arith)) none)
-reading-tricks c s p l q (WithData t d) = all-append (tagged-tricks c s p l q t (at p d)) (dated-tricks (tagged c s p l q t (at p d) .state) p d)
+reading-tricks c s p l q (WithData t d) = all-append (tagged-tricks c s p l q t (at p d)) (data-tricks (tagged c s p l q t (at p d) .state) p d)
 
 -- THEOREM. Every slot of every trick of a record is empty or a card.
 pub TricksGood : (c : Conventions) (r : List ℕ) → All TrickGood (recordOut c r .entries)
 TricksGood c r =
-    RecordSteps c r (λ p s q o. All TrickGood (o .entries))
+    HoldsOfRecord c r (λ p s q o. All TrickGood (o .entries))
     record {
       together = λ p q z s o k a b. all-append a b;
       closing = λ p s. closed-tricks c r s;
@@ -242,9 +242,9 @@ TricksGood c r =
       quiet = λ p s l i n b. none;
       opening = λ p s l i n k b. none;
       bracing = λ p s l i n k b. blocked-tricks r s (p + length (lead l) + 1) (p + lastBrace l);
-      noting = λ p s l i n b. blocked-tricks r s (s .block) (p + lastBrace l);
+      commentary = λ p s l i n b. blocked-tricks r s (s .block) (p + lastBrace l);
       directing = λ p s l d i n k. one (low-one 3 (p + d .start) (d .len) (s .tags) (omega arith)) none;
-      dating = λ p s l d i n k. dated-tricks s p d;
+      dating = λ p s l d i n k. data-tricks s p d;
       tagging = λ p s l t i k. reading-tricks c s p l (p + length l) t;
     }
 

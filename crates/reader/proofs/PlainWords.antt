@@ -11,7 +11,7 @@ use lib.Seq.{take-at, drop-at, getD-append-add, take-append-le, drop-append-le, 
 use borrow.Author.Tests.{eqb-true, eqb-false, ne-eqb}
 use Rattle.tables.specs.declared.letters.Conventions.{Conventions}
 use Rattle.tables.specs.Text.{lead}
-use Rattle.tables.specs.Tables.{Reading, holds, refuses, gathered}
+use Rattle.tables.specs.Tables.{TableReading, holds, refuses, gathered}
 use Rattle.tables.proofs.Laws.{by-cases}
 use Rattle.reader.specs.declared.store.Entry.{Entry}
 use Rattle.reader.specs.declared.tag.Span.{Span}
@@ -23,16 +23,16 @@ use Rattle.reader.specs.declared.board.Values.{Values}
 use Rattle.reader.specs.declared.board.Section.{Section}
 use Rattle.reader.specs.declared.board.Board.{Board}
 use Rattle.reader.specs.declared.board.State.{State}
-use Rattle.reader.specs.Store.{word, flat, entryWords}
+use Rattle.reader.specs.Store.{lowWord, flat, entryWords}
 use Rattle.reader.specs.Names.{tagNumber}
 use Rattle.reader.specs.Tag.{cut}
 use Rattle.reader.specs.Lines.{lastBrace}
 use Rattle.reader.specs.Pieces.{Out}
 use Rattle.reader.specs.Play.{lastTrick}
-use Rattle.reader.specs.Sections.{walkedAll, countOf}
+use Rattle.reader.specs.Sections.{walkedAll, walkCount}
 use Rattle.reader.specs.Boards.{valuePut, isKept, valuesBy, applied, withSections, auctionClosed, playClosed, rowsClosed, tableClosed, closedEntries, lastEntries, closedBy, closed, noSpan, at, tagged, readBy, blocked, noState, recordOut}
 use Rattle.reader.specs.Records.{recordsOf}
-use Rattle.reader.specs.Editions.{placed, valueWords, entriesFrom, entriesOf}
+use Rattle.reader.specs.Editions.{entryPlace, valueWords, entriesFrom, entriesOf}
 use Rattle.reader.specs.Plain.{Item, itemOf, itemsOf, bytesOf, bytesAt, valueAt, valueList, plainList, heldValue, itemsWithin, plainBy, plainOf}
 use Rattle.reader.proofs.EntryLaws.{All, none, one, all-map}
 use Rattle.reader.proofs.PlayLaws.{cond-low, last-counted}
@@ -40,7 +40,7 @@ use Rattle.reader.proofs.WalkLaws.{section-count}
 use Rattle.reader.proofs.BoardLaws.{record-counts}
 use Rattle.reader.proofs.Counts.{chosen, TextEntriesFew, EntriesFit}
 use Rattle.reader.proofs.Alike.{entriesIn, entries-append}
-use Rattle.reader.proofs.PlainSteps.{RecordSteps}
+use Rattle.reader.proofs.PlainSteps.{HoldsOfRecord}
 use Rattle.reader.proofs.PlainLaws.{RecordHolds}
 
 -- ---- every word names an entry
@@ -66,7 +66,7 @@ refers-more h i = record { values-in = more h (i .values-in); auction-in = secti
 
 -- ---- a section that closes
 
-module _ (s : State) (w : Walk) (m : ℕ) (k : countOf w ≤ m) (h : Refers (s .n) (s .board)) where
+module _ (s : State) (w : Walk) (m : ℕ) (k : walkCount w ≤ m) (h : Refers (s .n) (s .board)) where
   auction-refers : Refers (s .n + m) (auctionClosed (s .board) (s .section) (s .n) w)
   auction-refers =
       let b = s .board in
@@ -85,7 +85,7 @@ module _ (s : State) (w : Walk) (m : ℕ) (k : countOf w ≤ m) (h : Refers (s .
       (λ e. record { values-in = more (omega arith) (h .values-in); auction-in = section-more (omega arith) (h .auction-in); play-in = record { ends = omega arith } })
       (λ e. refers-more (omega arith) h)
 
-  rows-refers : (g : Reading) → Refers (s .n + m) (rowsClosed (s .board) g)
+  rows-refers : (g : TableReading) → Refers (s .n + m) (rowsClosed (s .board) g)
   rows-refers (holds cells) = record { values-in = more (omega arith) (h .values-in); auction-in = section-more (omega arith) (h .auction-in); play-in = section-more (omega arith) (h .play-in) }
   rows-refers (refuses f) = refers-more (omega arith) h
 
@@ -103,7 +103,7 @@ closed-refers c r s h =
     let m = length (closedEntries (s .section) w) in
     let l = length-append (w .entries) (lastEntries (s .section .kind) v) in
     let n = section-count c r (s .section) (s .board .contract) in
-    let few : countOf v ≤ m = omega arith in
+    let few : walkCount v ≤ m = omega arith in
     chosen (λ o. Refers (o .state .n) (o .state .board)) (eqb (s .section .kind) 0) (record { state = s; entries = [] }) (closedBy s w) (λ e. h)
     (λ e.
     chosen (λ x. Refers (s .n + m) x) (eqb (s .section .kind) 1) (auctionClosed (s .board) (s .section) (s .n) v) (cond (eqb (s .section .kind) 2) (playClosed (s .board) (s .section) (s .n) v) (tableClosed (s .board) v))
@@ -173,7 +173,7 @@ CardRefers c r =
 
     steps : Stays noState (recordOut c r)
     steps =
-        RecordSteps c r (λ p s q o. Stays s o)
+        HoldsOfRecord c r (λ p s q o. Stays s o)
         record {
           together = λ p q z s o k a b. record { stays = λ h. b .stays (a .stays h) };
           closing = λ p s. record { stays = closed-refers c r s };
@@ -181,7 +181,7 @@ CardRefers c r =
           quiet = λ p s l i n k. record { stays = λ h. h };
           opening = λ p s l i n k b. record { stays = λ h. h };
           bracing = λ p s l i n k b. blocked-stays r s (p + length (lead l) + 1) (p + lastBrace l);
-          noting = λ p s l i n k. blocked-stays r s (s .block) (p + lastBrace l);
+          commentary = λ p s l i n k. blocked-stays r s (s .block) (p + lastBrace l);
           directing = λ p s l d i n k. record { stays = λ h. refers-more (omega arith) h };
           dating = λ p s l d i n k. record { stays = λ h. refers-more (omega arith) h };
           tagging = λ p s l t i k. record { stays = reading-refers c s p l (p + length l) t };
@@ -241,7 +241,7 @@ value-some text a r (x ∷ es) F k p h e =
     above (suc (suc k)) p n = omega arith
 
 module _ (c : Conventions) (text : List ℕ) (pre : List (List ℕ)) (r : List ℕ) (post : List (List ℕ)) (h : length text ≤ 16777215) (e : recordsOf text ≡ pre ++ r ∷ post) where
-  value-held : (k : ℕ) → k ≤ length (recordOut c r .entries) → valueAt k (itemsOf r (recordOut c r .entries)) ≡ heldValue text (entriesOf c text) (placed (entriesIn c pre) k)
+  value-held : (k : ℕ) → k ≤ length (recordOut c r .entries) → valueAt k (itemsOf r (recordOut c r .entries)) ≡ heldValue text (entriesOf c text) (entryPlace (entriesIn c pre) k)
   value-held k i =
       let es = recordOut c r .entries in
       let n = entriesIn c pre in
@@ -257,7 +257,7 @@ module _ (c : Conventions) (text : List ℕ) (pre : List (List ℕ)) (r : List �
       let l = ap length s ∙ length-append E G ∙ ap (λ (x : ℕ). length E + x) (length-append (map (entryWords a) es) F ∙ ap (λ (x : ℕ). x + length F) (length-map es (entryWords a))) in
       let g = from-length c 0 pre in
       let p : 0 < k = positive k (eqb-false k 0 t) in
-      let w : word (n + k) ≡ n + k = omega arith in
+      let w : lowWord (n + k) ≡ n + k = omega arith in
       let o : eqb (n + k) 0 ≡ false = ne-eqb (n + k) 0 (λ u. omega arith) in
       let j : n + k - 1 ≡ length E + (k - 1) = omega arith in
       rw (t, w, o, s, j, getD-append-add E G (k - 1) []) (value-some text a r es F k p i (RecordHolds c text pre r post h e)))
@@ -267,7 +267,7 @@ module _ (c : Conventions) (text : List ℕ) (pre : List (List ℕ)) (r : List �
       positive (suc k) n = omega arith
 
   values-held : {ks : List ℕ} → All (λ k. k ≤ length (recordOut c r .entries)) ks
-      → map (λ k. valueAt k (itemsOf r (recordOut c r .entries))) ks ≡ map (λ k. heldValue text (entriesOf c text) (placed (entriesIn c pre) k)) ks
+      → map (λ k. valueAt k (itemsOf r (recordOut c r .entries))) ks ≡ map (λ k. heldValue text (entriesOf c text) (entryPlace (entriesIn c pre) k)) ks
   values-held none = refl
   values-held (one {x = k} i a) = rw (value-held k i, values-held a)
 
@@ -301,7 +301,7 @@ within-items r s es = ap (take (s .count)) (map-drop (itemOf r) (s .first - 1) e
 -- these, and CardRefers says that it lies in the record.
 pub SectionHeld : (c : Conventions) (text : List ℕ) (pre : List (List ℕ)) (r : List ℕ) (post : List (List ℕ)) (s : Section) → length text ≤ 16777215 → recordsOf text ≡ pre ++ r ∷ post
     → SectionIn (length (recordOut c r .entries)) s → 0 < s .first
-    → take (s .count) (drop (placed (entriesIn c pre) (s .first) - 1) (entriesOf c text)) ≡ map (entryWords (length (flat pre))) (entriesWithin s (recordOut c r .entries))
+    → take (s .count) (drop (entryPlace (entriesIn c pre) (s .first) - 1) (entriesOf c text)) ≡ map (entryWords (length (flat pre))) (entriesWithin s (recordOut c r .entries))
 SectionHeld c text pre r post s h e i p =
     let es = recordOut c r .entries in
     let n = entriesIn c pre in
@@ -316,7 +316,7 @@ SectionHeld c text pre r post s h e i p =
     let l = ap length t ∙ length-append E (M ++ F) ∙ ap (λ (x : ℕ). length E + x) (length-append M F) in
     let g = from-length c 0 pre in
     let d = length-drop (k - 1) M in
-    let w : word (n + k) ≡ n + k = omega (arith, TextEntriesFew c text, i .ends) in
+    let w : lowWord (n + k) ≡ n + k = omega (arith, TextEntriesFew c text, i .ends) in
     let j : n + k - 1 ≡ length E + (k - 1) = omega arith in
     rw (ne-eqb k 0 (λ u. omega arith), w, t, j, drop-append-add E (M ++ F) (k - 1), drop-append-le (k - 1) M F (omega (arith, i .ends)), take-append-le (s .count) (drop (k - 1) M) F (omega (arith, i .ends)))
     (ap (take (s .count)) (map-drop f (k - 1) es) ∙ map-take f (s .count) (drop (k - 1) es))

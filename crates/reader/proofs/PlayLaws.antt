@@ -15,9 +15,9 @@ use Rattle.reader.specs.declared.play.Slots.{Slots}
 use Rattle.reader.specs.declared.play.Tricks.{Tricks}
 use Rattle.reader.proofs.EntryLaws.{All, none, one, Trick, TokensInside, tokens-bytes, out-all, out-few, out-count}
 use Rattle.reader.specs.Store.{put, entryWords}
-use Rattle.reader.specs.Words.{cardOf, sectionEnd}
+use Rattle.reader.specs.Words.{cardNamed, sectionEnd}
 use Rattle.reader.specs.Pieces.{Out, Emits, tokensAt, Piece}
-use Rattle.reader.specs.Play.{withCard, withSlot, slotOf, taking, newTrick, nextLeader, trickEntry, opened, isDash, played, playedBytes, oneMore, lastTrick, noTricks, noSlots, weight, bestSlot, winnerOf, Low, Seated, Open, playedToken, playedPiece}
+use Rattle.reader.specs.Play.{withCard, withSlot, slotOf, taking, newTrick, nextLeader, trickEntry, opened, isGap, played, playedBytes, oneMore, lastTrick, noTricks, noSlots, weight, bestSlot, winnerOf, Low, Seated, OpenTrick, playedToken, playedPiece}
 
 pub cond-low : (b : Bool) (x y n : ℕ) → x ≤ n → y ≤ n → cond b x y ≤ n
 cond-low true x y n h k = h
@@ -58,7 +58,7 @@ slotted leader end count s = record { any = true; leader = leader; winner = 4; s
 none-low : Low noSlots
 none-low = record { a-low = omega arith; b-low = omega arith; c-low = omega arith; d-low = omega arith }
 
-pub new-is : (leader end count : ℕ) {s : Slots} → leader ≤ 4 → s ≡ noSlots → (slotted leader end count s ≡ newTrick leader end count) × Open (slotted leader end count s)
+pub new-is : (leader end count : ℕ) {s : Slots} → leader ≤ 4 → s ≡ noSlots → (slotted leader end count s ≡ newTrick leader end count) × OpenTrick (slotted leader end count s)
 new-is leader end count {s} h e = (
   rw e,
   record {
@@ -109,16 +109,16 @@ count-if false x y e f = f
 played-count : (c : Conventions) (lead trump : ℕ) (t : Tricks) (bytes : List ℕ) → played c lead trump t bytes .count ≡ t .count
 unfolding played
 played-count c lead trump t bytes =
-    let card : Tricks = withCard trump t (withSlot (t .slots) (slotOf lead (t .seat) (t .leader)) (cardOf c bytes)) in
-    let none : Tricks = cond (ltb (cardOf c bytes) 52) card t in
-    let dash : Tricks = cond (isDash bytes) (taking t (t .end) false (t .seat + 1)) none in
+    let card : Tricks = withCard trump t (withSlot (t .slots) (slotOf lead (t .seat) (t .leader)) (cardNamed c bytes)) in
+    let none : Tricks = cond (ltb (cardNamed c bytes) 52) card t in
+    let dash : Tricks = cond (isGap bytes) (taking t (t .end) false (t .seat + 1)) none in
     let star : Tricks = cond (eqb (sectionEnd bytes) 2) (taking t 2 true (t .seat)) dash in
     count-if (eqb (sectionEnd bytes) 1)
     (taking t 1 false (t .seat + 1))
     star
     refl
     (count-if (eqb (sectionEnd bytes) 2) (taking t 2 true (t .seat)) dash refl
-    (count-if (isDash bytes) (taking t (t .end) false (t .seat + 1)) none refl (count-if (ltb (cardOf c bytes) 52) card t refl refl)))
+    (count-if (isGap bytes) (taking t (t .end) false (t .seat + 1)) none refl (count-if (ltb (cardNamed c bytes) 52) card t refl refl)))
 
 pub played-grown : (c : Conventions) (lead trump : ℕ) (t : Tricks) (bytes : List ℕ) → Grown (t .count) (playedBytes c lead trump t bytes)
 unfolding playedBytes

@@ -11,7 +11,7 @@ use Rattle.tables.specs.Text.{isWhite, lead}
 use Rattle.tables.specs.Letters.{every}
 use Rattle.tables.specs.declared.dd.TableRead.{TableRead}
 use Rattle.tables.specs.declared.dd.Decoded.the-variants.{Table, Refused}
-use Rattle.tables.specs.Tables.{Reading, holds, refuses, tableRead}
+use Rattle.tables.specs.Tables.{TableReading, holds, refuses, tableRead}
 use Rattle.tables.proofs.Laws.{by-cases}
 use Rattle.tables.specs.declared.letters.Conventions.{Conventions}
 use Rattle.reader.specs.declared.board.Board.{Board}
@@ -27,8 +27,8 @@ use Rattle.reader.specs.declared.play.Tricks.{Tricks}
 use Rattle.reader.specs.Store.{put, putAll, entryWords}
 use Rattle.reader.specs.Pieces.{Out, Emits, entry}
 use Rattle.reader.specs.Play.{lastTrick}
-use Rattle.reader.specs.Sections.{Walks, countOf, walkedAll}
-use Rattle.reader.specs.Boards.{rowsClosed, withSections, boardClosed, lastEntries, LastStored, closedState, closed, isAllWhite, noted, countedState, adding, directed, dated, unchanged, readTag, blocked, braced, inNote, lineBy, lineOut, Sound, Stepped}
+use Rattle.reader.specs.Sections.{Walks, walkCount, walkedAll}
+use Rattle.reader.specs.Boards.{rowsClosed, withSections, boardClosed, lastEntries, LastStored, closedState, closed, isAllWhite, withCommentary, countedState, adding, directed, dataAdded, unchanged, tagLineOut, blocked, braced, inCommentary, lineBy, lineOut, Sound, Stepped}
 use Rattle.reader.proofs.PieceLaws.{put-run}
 use Rattle.reader.proofs.PlayLaws.{last-counted}
 use Rattle.reader.proofs.TagStepLaws.{sound-later}
@@ -40,14 +40,14 @@ white-all [] = refl
 white-all (b ∷ bs) = by-cases (isWhite b) (λ e. rw e (eqb·suc-suc (length (lead bs)) (length bs) ∙ white-all bs)) (λ e. rw e (ne-eqb 0 (suc (length bs)) (λ k. omega arith)))
 
 -- A table that was gathered, and one that was refused.
-pub rows-taken : (b : Board) (g : Reading) (read : TableRead) → read ≡ tableRead g → read .answer ≡ Table → rowsClosed b g ≡ withSections b (record { kind = 2; cells = read .table }) (b .auction) (b .play) (b .trump)
+pub rows-taken : (b : Board) (g : TableReading) (read : TableRead) → read ≡ tableRead g → read .answer ≡ Table → rowsClosed b g ≡ withSections b (record { kind = 2; cells = read .table }) (b .auction) (b .play) (b .trump)
 rows-taken b (holds cells) read e t = rw e
 rows-taken b (refuses f) read e t =
     let k : Refused f ≡ Table = sym (ap (λ (x : TableRead). x .answer) e) ∙ t in
     let z : _≡_ {A = ℕ} 0 1 = cc in
     absurd (omega arith)
 
-pub rows-refused : (b : Board) (g : Reading) (read : TableRead) → read ≡ tableRead g → (read .answer ≡ Table → ⊥) → rowsClosed b g ≡ b
+pub rows-refused : (b : Board) (g : TableReading) (read : TableRead) → read ≡ tableRead g → (read .answer ≡ Table → ⊥) → rowsClosed b g ≡ b
 rows-refused b (holds cells) read e t = absurd (t (ap (λ (x : TableRead). x .answer) e))
 rows-refused b (refuses f) read e t = refl
 
@@ -57,7 +57,7 @@ rows-refused b (refuses f) read e t = refl
 pub last-stored : (a n : ℕ) (w : Walk) (kind : ℕ) (l l′ : List ℕ) (t : Tricks) → eqb kind 2 ≡ true → Emits a (n + w .bidding .count + w .tricks .count) l l′ t (lastTrick (w .tricks))
     → t .count ≤ w .tricks .count + 1 → LastStored a n kind w l l′ (w .bidding .count + t .count)
 last-stored a n w kind l l′ t k e few =
-    let d : n + w .bidding .count + w .tricks .count ≡ n + countOf w = omega arith in
+    let d : n + w .bidding .count + w .tricks .count ≡ n + walkCount w = omega arith in
     let g = last-counted (w .tricks) in
     let f : t .count ≡ w .tricks .count + length (lastTrick (w .tricks) .entries) = rw (e .answer) (g .count) in
     record {
@@ -79,7 +79,7 @@ pub section-closed : (c : Conventions) (r : List ℕ) (s : State) (a base most :
 unfolding closed
 section-closed c r s a base most l l₁ l₂ w k b t z e g eb et h =
     let ws = walkedAll c r (s .section) (s .board .contract) in
-    let en : countOf w ≡ length (ws .entries) = ap countOf (e .emits .answer) ∙ section-count c r (s .section) (s .board .contract) in
+    let en : walkCount w ≡ length (ws .entries) = ap walkCount (e .emits .answer) ∙ section-count c r (s .section) (s .board .contract) in
     let ek : k ≡ length (ws .entries ++ lastEntries (s .section .kind) (ws .state)) =
     g .counted ∙ rw (en, e .emits .answer) (sym (length-append (ws .entries) (lastEntries (s .section .kind) (ws .state)))) in
     let words : l₂ ≡ putAll 4 l (base + s .n) (map (entryWords a) (ws .entries ++ lastEntries (s .section .kind) (ws .state))) =
@@ -95,11 +95,11 @@ section-none c r s a n l z = record { answer = rw z; words = rw z }
 
 -- ---- commentary
 
-pub block-none : (r : List ℕ) (s next t : State) (i j a n : ℕ) (l : List ℕ) → isAllWhite r i j ≡ true → next ≡ noted s false 0 → t ≡ countedState next 0 → Emits a n l l t (blocked r s i j)
+pub block-none : (r : List ℕ) (s next t : State) (i j a n : ℕ) (l : List ℕ) → isAllWhite r i j ≡ true → next ≡ withCommentary s false 0 → t ≡ countedState next 0 → Emits a n l l t (blocked r s i j)
 unfolding blocked
 block-none r s next t i j a n l e en et = record { answer = rw e (et ∙ rw en); words = rw e }
 
-pub block-some : (r : List ℕ) (s next t : State) (i j a n : ℕ) (l l′ : List ℕ) → isAllWhite r i j ≡ false → next ≡ noted s false 0 → t ≡ countedState next 1
+pub block-some : (r : List ℕ) (s next t : State) (i j a n : ℕ) (l l′ : List ℕ) → isAllWhite r i j ≡ false → next ≡ withCommentary s false 0 → t ≡ countedState next 1
     → l′ ≡ put 4 l n (entryWords a (entry 4 i (j - i) (s .tags))) → Emits a n l l′ t (blocked r s i j)
 unfolding blocked
 block-some r s next t i j a n l l′ e en et ew = record { answer = rw e (et ∙ rw en); words = rw e ew }
@@ -110,11 +110,11 @@ unfolding blocked
 block-zero r s t i j a n e = ap (λ (x : State). x .block) (e .answer)
 
 -- A line that holds nothing, and one inside commentary.
-pub quiet-noted : (r : List ℕ) (s : State) (p : ℕ) (l : List ℕ) → s .noting ≡ true → cond (s .noting) (inNote r s p l) (unchanged s) ≡ inNote r s p l
-quiet-noted r s p l e = ap (λ (b : Bool). cond b (inNote r s p l) (unchanged s)) e
+pub quiet-commentary : (r : List ℕ) (s : State) (p : ℕ) (l : List ℕ) → s .commentary ≡ true → cond (s .commentary) (inCommentary r s p l) (unchanged s) ≡ inCommentary r s p l
+quiet-commentary r s p l e = ap (λ (b : Bool). cond b (inCommentary r s p l) (unchanged s)) e
 
-pub quiet-plain : (r : List ℕ) (s : State) (p : ℕ) (l : List ℕ) → s .noting ≡ false → cond (s .noting) (inNote r s p l) (unchanged s) ≡ unchanged s
-quiet-plain r s p l e = ap (λ (b : Bool). cond b (inNote r s p l) (unchanged s)) e
+pub quiet-plain : (r : List ℕ) (s : State) (p : ℕ) (l : List ℕ) → s .commentary ≡ false → cond (s .commentary) (inCommentary r s p l) (unchanged s) ≡ unchanged s
+quiet-plain r s p l e = ap (λ (b : Bool). cond b (inCommentary r s p l) (unchanged s)) e
 
 -- Inside commentary every line counts as blank: one that does not is outside.
 abbrev kindNumber : Line → ℕ
@@ -125,30 +125,30 @@ kindNumber (TagOn t) = 3
 kindNumber Bracket = 4
 kindNumber (Data d) = 5
 
-outside : (noting : Bool) (x k : Line) (n : ℕ) → k ≡ cond noting Blank x → kindNumber k ≡ suc n → (noting ≡ false) × (x ≡ k)
+outside : (commentary : Bool) (x k : Line) (n : ℕ) → k ≡ cond commentary Blank x → kindNumber k ≡ suc n → (commentary ≡ false) × (x ≡ k)
 outside true x k n e h = absurd (omega (arith, sym (ap kindNumber e) ∙ h))
 outside false x k n e h = (refl, sym e)
 
-pub kind-data : {noting : Bool} {x k : Line} {d : Span} → k ≡ cond noting Blank x → k ≡ Data d → (noting ≡ false) × (x ≡ Data d)
-kind-data {noting} {x} {k} e h = let o = outside noting x k 4 e (ap kindNumber h) in (o .0, o .1 ∙ h)
+pub kind-data : {commentary : Bool} {x k : Line} {d : Span} → k ≡ cond commentary Blank x → k ≡ Data d → (commentary ≡ false) × (x ≡ Data d)
+kind-data {commentary} {x} {k} e h = let o = outside commentary x k 4 e (ap kindNumber h) in (o .0, o .1 ∙ h)
 
-pub kind-directive : {noting : Bool} {x k : Line} {d : Span} → k ≡ cond noting Blank x → k ≡ Directive d → (noting ≡ false) × (x ≡ Directive d)
-kind-directive {noting} {x} {k} e h = let o = outside noting x k 1 e (ap kindNumber h) in (o .0, o .1 ∙ h)
+pub kind-directive : {commentary : Bool} {x k : Line} {d : Span} → k ≡ cond commentary Blank x → k ≡ Directive d → (commentary ≡ false) × (x ≡ Directive d)
+kind-directive {commentary} {x} {k} e h = let o = outside commentary x k 1 e (ap kindNumber h) in (o .0, o .1 ∙ h)
 
-pub kind-tag : {noting : Bool} {x k : Line} {t : TagReading} → k ≡ cond noting Blank x → k ≡ TagOn t → (noting ≡ false) × (x ≡ TagOn t)
-kind-tag {noting} {x} {k} e h = let o = outside noting x k 2 e (ap kindNumber h) in (o .0, o .1 ∙ h)
+pub kind-tag : {commentary : Bool} {x k : Line} {t : TagReading} → k ≡ cond commentary Blank x → k ≡ TagOn t → (commentary ≡ false) × (x ≡ TagOn t)
+kind-tag {commentary} {x} {k} e h = let o = outside commentary x k 2 e (ap kindNumber h) in (o .0, o .1 ∙ h)
 
-pub kind-brace : {noting : Bool} {x k : Line} → k ≡ cond noting Blank x → k ≡ Brace → (noting ≡ false) × (x ≡ Brace)
-kind-brace {noting} {x} {k} e h = let o = outside noting x k 0 e (ap kindNumber h) in (o .0, o .1 ∙ h)
+pub kind-brace : {commentary : Bool} {x k : Line} → k ≡ cond commentary Blank x → k ≡ Brace → (commentary ≡ false) × (x ≡ Brace)
+kind-brace {commentary} {x} {k} e h = let o = outside commentary x k 0 e (ap kindNumber h) in (o .0, o .1 ∙ h)
 
-pub kind-bracket : {noting : Bool} {x k : Line} → k ≡ cond noting Blank x → k ≡ Bracket → (noting ≡ false) × (x ≡ Bracket)
-kind-bracket {noting} {x} {k} e h = let o = outside noting x k 3 e (ap kindNumber h) in (o .0, o .1 ∙ h)
+pub kind-bracket : {commentary : Bool} {x k : Line} → k ≡ cond commentary Blank x → k ≡ Bracket → (commentary ≡ false) × (x ≡ Bracket)
+kind-bracket {commentary} {x} {k} e h = let o = outside commentary x k 3 e (ap kindNumber h) in (o .0, o .1 ∙ h)
 
 -- ---- one line
 
 -- Other commentary, and more entries, leave a section as it was.
-pub sound-noted : {p : ℕ} {s : State} (t : State) → Sound p s → (q : ℕ) → p ≤ q → t .section ≡ s .section → t .block ≤ q + 1 → Sound q t
-sound-noted {p} {s} t k q h e g =
+pub sound-commentary : {p : ℕ} {s : State} (t : State) → Sound p s → (q : ℕ) → p ≤ q → t .section ≡ s .section → t .block ≤ q + 1 → Sound q t
+sound-commentary {p} {s} t k q h e g =
     record {
       kind-low = rw e (k .kind-low);
       seat-low = rw e (k .seat-low);
@@ -162,61 +162,61 @@ module _ (c : Conventions) (r : List ℕ) (s : State) (p : ℕ) (l : List ℕ) (
   skipped : {w : List ℕ} {o : Out State} → o ≡ record { state = s; entries = [] } → Stepped a n (p + length l) w w s o
   skipped e = rw e (record { emits = record { answer = refl; words = refl }; sound = sound-later (omega arith) ok })
 
-  out-plain : (k : Line) → s .noting ≡ false → lineKind l ≡ k → lineOut c r s p l ≡ lineBy c r s p l k
+  out-plain : (k : Line) → s .commentary ≡ false → lineKind l ≡ k → lineOut c r s p l ≡ lineBy c r s p l k
   unfolding lineOut
   out-plain k e ek =
-      ap (λ (b : Bool). cond b (inNote r s p l) (lineBy c r s p l (lineKind l))) e ∙ ap (λ (x : Line). lineBy c r s p l x) ek
+      ap (λ (b : Bool). cond b (inCommentary r s p l) (lineBy c r s p l (lineKind l))) e ∙ ap (λ (x : Line). lineBy c r s p l x) ek
 
-  out-noting : s .noting ≡ true → lineOut c r s p l ≡ inNote r s p l
+  out-commentary : s .commentary ≡ true → lineOut c r s p l ≡ inCommentary r s p l
   unfolding lineOut
-  out-noting e = ap (λ (b : Bool). cond b (inNote r s p l) (lineBy c r s p l (lineKind l))) e
+  out-commentary e = ap (λ (b : Bool). cond b (inCommentary r s p l) (lineBy c r s p l (lineKind l))) e
 
   -- `[` lines that are no tags.
-  pub line-bracket : {w : List ℕ} → s .noting ≡ false → lineKind l ≡ Bracket → Stepped a n (p + length l) w w s (lineOut c r s p l)
+  pub line-bracket : {w : List ℕ} → s .commentary ≡ false → lineKind l ≡ Bracket → Stepped a n (p + length l) w w s (lineOut c r s p l)
   line-bracket e k = skipped (out-plain Bracket e k)
 
   added : {w w′ : List ℕ} {t : State} (es : List Entry) → Emits a n w w′ t (adding s es) → Stepped a n (p + length l) w w′ t (adding s es)
   added {w} {w′} {t} es e =
       record {
         emits = e;
-        sound = sound-noted t ok (p + length l) (omega arith) (ap (λ (x : State). x .section) (e .answer)) (omega (arith, ap (λ (x : State). x .block) (e .answer), ok .block-before));
+        sound = sound-commentary t ok (p + length l) (omega arith) (ap (λ (x : State). x .section) (e .answer)) (omega (arith, ap (λ (x : State). x .block) (e .answer), ok .block-before));
       }
 
   -- Directives and data.
-  pub line-directed : {w w′ : List ℕ} {t : State} (d : Span) → s .noting ≡ false → lineKind l ≡ Directive d → Emits a n w w′ t (directed s p d) → Stepped a n (p + length l) w w′ t (lineOut c r s p l)
+  pub line-directed : {w w′ : List ℕ} {t : State} (d : Span) → s .commentary ≡ false → lineKind l ≡ Directive d → Emits a n w w′ t (directed s p d) → Stepped a n (p + length l) w w′ t (lineOut c r s p l)
   line-directed d e k g = rw (out-plain (Directive d) e k) (added _ g)
 
-  pub line-dated : {w w′ : List ℕ} {t : State} (d : Span) → s .noting ≡ false → lineKind l ≡ Data d → Emits a n w w′ t (dated s p d) → Stepped a n (p + length l) w w′ t (lineOut c r s p l)
-  line-dated d e k g = rw (out-plain (Data d) e k) (added _ g)
+  pub line-data : {w w′ : List ℕ} {t : State} (d : Span) → s .commentary ≡ false → lineKind l ≡ Data d → Emits a n w w′ t (dataAdded s p d) → Stepped a n (p + length l) w w′ t (lineOut c r s p l)
+  line-data d e k g = rw (out-plain (Data d) e k) (added _ g)
 
   -- A tag.
-  pub line-tag : {w w′ : List ℕ} {t : State} (x : TagReading) → s .noting ≡ false → lineKind l ≡ TagOn x → Stepped a n (p + length l) w w′ t (readTag c r s p l x) → Stepped a n (p + length l) w w′ t (lineOut c r s p l)
+  pub line-tag : {w w′ : List ℕ} {t : State} (x : TagReading) → s .commentary ≡ false → lineKind l ≡ TagOn x → Stepped a n (p + length l) w w′ t (tagLineOut c r s p l x) → Stepped a n (p + length l) w w′ t (lineOut c r s p l)
   line-tag x e k g = rw (out-plain (TagOn x) e k) g
 
   -- Commentary leaves the section as it was.
-  noted-step : {w w′ : List ℕ} {t : State} {o : Out State} → Emits a n w w′ t o → o .state .section ≡ s .section → t .block ≤ p + length l + 1 → Stepped a n (p + length l) w w′ t o
-  noted-step {w} {w′} {t} e es eb = record { emits = e; sound = sound-noted t ok (p + length l) (omega arith) (rw (e .answer) es) eb }
+  commentary-step : {w w′ : List ℕ} {t : State} {o : Out State} → Emits a n w w′ t o → o .state .section ≡ s .section → t .block ≤ p + length l + 1 → Stepped a n (p + length l) w w′ t o
+  commentary-step {w} {w′} {t} e es eb = record { emits = e; sound = sound-commentary t ok (p + length l) (omega arith) (rw (e .answer) es) eb }
 
   brace-kept : braced r s p l .state .section ≡ s .section
   unfolding braced blocked
   brace-kept = by-cases (hasBrace l) (λ b. rw b) (λ b. rw b)
 
-  pub line-braced : {w w′ : List ℕ} {t : State} → s .noting ≡ false → lineKind l ≡ Brace → Emits a n w w′ t (braced r s p l) → t .block ≤ p + length l + 1 → Stepped a n (p + length l) w w′ t (lineOut c r s p l)
-  line-braced {w} {w′} {t} e k g h = rw (out-plain Brace e k) (noted-step g brace-kept h)
+  pub line-braced : {w w′ : List ℕ} {t : State} → s .commentary ≡ false → lineKind l ≡ Brace → Emits a n w w′ t (braced r s p l) → t .block ≤ p + length l + 1 → Stepped a n (p + length l) w w′ t (lineOut c r s p l)
+  line-braced {w} {w′} {t} e k g h = rw (out-plain Brace e k) (commentary-step g brace-kept h)
 
-  note-kept : inNote r s p l .state .section ≡ s .section
-  unfolding inNote blocked
-  note-kept = by-cases (hasBrace l) (λ b. rw b) (λ b. rw b)
+  commentary-kept : inCommentary r s p l .state .section ≡ s .section
+  unfolding inCommentary blocked
+  commentary-kept = by-cases (hasBrace l) (λ b. rw b) (λ b. rw b)
 
-  pub line-noted : {w w′ : List ℕ} {t : State} → s .noting ≡ true → Emits a n w w′ t (inNote r s p l) → t .block ≤ p + 1 → Stepped a n (p + length l) w w′ t (lineOut c r s p l)
-  line-noted {w} {w′} {t} e g h = rw (out-noting e) (noted-step g note-kept (omega arith))
+  pub line-commentary : {w w′ : List ℕ} {t : State} → s .commentary ≡ true → Emits a n w w′ t (inCommentary r s p l) → t .block ≤ p + 1 → Stepped a n (p + length l) w w′ t (lineOut c r s p l)
+  line-commentary {w} {w′} {t} e g h = rw (out-commentary e) (commentary-step g commentary-kept (omega arith))
 
   -- A line that counts as blank.
-  pub line-quiet : {w w′ : List ℕ} {t : State} {k : Line} → k ≡ cond (s .noting) Blank (lineKind l) → k ≡ Blank
-      → Emits a n w w′ t (cond (s .noting) (inNote r s p l) (unchanged s)) → t .block ≤ p + 1 → Stepped a n (p + length l) w w′ t (lineOut c r s p l)
+  pub line-quiet : {w w′ : List ℕ} {t : State} {k : Line} → k ≡ cond (s .commentary) Blank (lineKind l) → k ≡ Blank
+      → Emits a n w w′ t (cond (s .commentary) (inCommentary r s p l) (unchanged s)) → t .block ≤ p + 1 → Stepped a n (p + length l) w w′ t (lineOut c r s p l)
   line-quiet {w} {w′} {t} {k} e h g b =
-      by-cases (s .noting)
-      (λ z. line-noted z (rw (quiet-noted r s p l z) at g) b)
+      by-cases (s .commentary)
+      (λ z. line-commentary z (rw (quiet-commentary r s p l z) at g) b)
       (λ z.
       let x : lineKind l ≡ Blank = sym (ap (λ (v : Bool). cond v Blank (lineKind l)) z) ∙ (sym e ∙ h) in
-      rw (out-plain Blank z x) (noted-step (rw (quiet-plain r s p l z) at g) refl (omega arith)))
+      rw (out-plain Blank z x) (commentary-step (rw (quiet-plain r s p l z) at g) refl (omega arith)))

@@ -14,19 +14,19 @@ use Rattle.reader.specs.Records.{fresh, scanned, closesRecord, emit, rec
 use Rattle.reader.proofs.SectionLaws.{LineAt}
 
 -- Inside commentary, or once a tag was met, the line's kind does not matter.
-pub kept-met : (noting met opens : Bool) → (noting || met) ≡ true → cond noting met (met || opens) ≡ met
+pub kept-met : (commentary met opens : Bool) → (commentary || met) ≡ true → cond commentary met (met || opens) ≡ met
 kept-met true met opens e = refl
 kept-met false true opens e = refl
 kept-met false false opens e = cc
 
-pub not-met : (noting met opens : Bool) → (noting || met) ≡ false → cond noting met (met || opens) ≡ opens
+pub not-met : (commentary met opens : Bool) → (commentary || met) ≡ false → cond commentary met (met || opens) ≡ opens
 not-met true met opens e = cc
 not-met false true opens e = cc
 not-met false false opens e = refl
 
-pub closing : (s : Scan) (l : List ℕ) → (s .met && not (s .noting)) ≡ true → closesRecord s l ≡ isBlank l
+pub closing : (s : Scan) (l : List ℕ) → (s .met && not (s .commentary)) ≡ true → closesRecord s l ≡ isBlank l
 unfolding closesRecord
-closing s l e = go (s .noting) (s .met) e
+closing s l e = go (s .commentary) (s .met) e
   where
     go : (n m : Bool) → (m && not n) ≡ true → (not n && (m && isBlank l)) ≡ isBlank l
     go true true e = cc
@@ -34,9 +34,9 @@ closing s l e = go (s .noting) (s .met) e
     go false true e = refl
     go false false e = cc
 
-pub not-closing : (s : Scan) (l : List ℕ) → (s .met && not (s .noting)) ≡ false → closesRecord s l ≡ false
+pub not-closing : (s : Scan) (l : List ℕ) → (s .met && not (s .commentary)) ≡ false → closesRecord s l ≡ false
 unfolding closesRecord
-not-closing s l e = go (s .noting) (s .met) e
+not-closing s l e = go (s .commentary) (s .met) e
   where
     go : (n m : Bool) → (m && not n) ≡ false → (not n && (m && isBlank l)) ≡ false
     go true m e = refl

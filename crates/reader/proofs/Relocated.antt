@@ -10,9 +10,9 @@ use Rattle.tables.specs.declared.letters.Conventions.{Conventions}
 use Rattle.tables.proofs.Laws.{by-cases, clash}
 use Rattle.reader.specs.declared.store.Entry.{Entry}
 use Rattle.reader.specs.declared.board.Values.{Values}
-use Rattle.reader.specs.Store.{word, entryWords}
+use Rattle.reader.specs.Store.{lowWord, entryWords}
 use Rattle.reader.specs.Boards.{recordOut}
-use Rattle.reader.specs.Editions.{placed, valueWords, cardOf}
+use Rattle.reader.specs.Editions.{entryPlace, valueWords, cardOf}
 use Rattle.reader.specs.Fellows.{BoardAt, movedBy, CardMoved, movedEntry, Relocated}
 use Rattle.reader.proofs.EntryLaws.{All, none, one}
 use Rattle.reader.proofs.ApplyLaws.{AllPlaces}
@@ -26,13 +26,13 @@ use Rattle.reader.proofs.CardPlaced.{Points, absent, there, RecordPlace
 -- ---- the places of a card
 
 -- A place that is absent, or so low that 32 bits hold it, moved by n.
-place-moved : (n v : ℕ) → n + v < 4294967296 → placed n v ≡ movedBy n (placed 0 v)
+place-moved : (n v : ℕ) → n + v < 4294967296 → entryPlace n v ≡ movedBy n (entryPlace 0 v)
 place-moved n v h =
     by-cases (eqb v 0)
     (λ e. rw e)
     (λ e.
-    let a : word (n + v) ≡ n + v = omega arith in
-    let b : word (0 + v) ≡ v = omega arith in
+    let a : lowWord (n + v) ≡ n + v = omega arith in
+    let b : lowWord (0 + v) ≡ v = omega arith in
     rw (e, a, b) (rw e))
 
 -- A word that points to a run of entries is at most one more than their number.
@@ -40,7 +40,7 @@ points-low : {K : ℕ → Type 0} {es : List Entry} {first count : ℕ} → Poin
 points-low (absent e) = omega arith
 points-low (there j run e s l a) = omega (arith, stands-fit s)
 
-all-places : {P : ℕ → Type 0} (n : ℕ) (v : Values) → ((x : ℕ) → P x → placed n x ≡ movedBy n (placed 0 x)) → AllPlaces P v → valueWords n v ≡ map (movedBy n) (valueWords 0 v)
+all-places : {P : ℕ → Type 0} (n : ℕ) (v : Values) → ((x : ℕ) → P x → entryPlace n x ≡ movedBy n (entryPlace 0 x)) → AllPlaces P v → valueWords n v ≡ map (movedBy n) (valueWords 0 v)
 all-places n v f a =
     rw (
       f _ (a .id-place),
@@ -84,7 +84,7 @@ card-moves c a n r ha hn =
     let same : ℕ → Type 0 = λ i. getD (cardOf c a n r) i 0 ≡ getD (cardOf c 0 0 r) i 0 in
     let back : (i : ℕ) → getD (cardOf c a n r) (38 + i) 0 ≡ _ = word-back c a n r in
     let base : (i : ℕ) → getD (cardOf c 0 0 r) (38 + i) 0 ≡ _ = word-back c 0 0 r in
-    let low : (x : ℕ) → x ≤ length es + 1 → placed n x ≡ movedBy n (placed 0 x) = λ x h. place-moved n x (omega arith) in
+    let low : (x : ℕ) → x ≤ length es + 1 → entryPlace n x ≡ movedBy n (entryPlace 0 x) = λ x h. place-moved n x (omega arith) in
     let vs = all-places n (b .values) (λ x q. low x (points-low q)) (p .values) in
     record {
       first-entry = word-0 c a n r ∙ omega (arith, word-0 c 0 0 r);
@@ -107,13 +107,13 @@ card-moves c a n r ha hn =
 entry-moved : (a n : ℕ) (e : Entry) → a + n < 4294967296 → Placed n e → entryWords a e ≡ movedEntry a (entryWords 0 e)
 unfolding entryWords
 entry-moved a n e h p =
-    let k : word (e .kind) ≡ e .kind = omega (arith, p .kind-low) in
+    let k : lowWord (e .kind) ≡ e .kind = omega (arith, p .kind-low) in
     by-cases (eqb (e .kind) 8)
     (λ t. rw (k, t))
     (λ t.
     let i = p .inside (λ z. clash (sym t ∙ eq-eqb (e .kind) 8 z)) in
-    let x : word (a + e .x) ≡ a + e .x = omega arith in
-    let y : word (0 + e .x) ≡ e .x = omega arith in
+    let x : lowWord (a + e .x) ≡ a + e .x = omega arith in
+    let y : lowWord (0 + e .x) ≡ e .x = omega arith in
     rw (k, t, x, y))
 
 entries-moved : (a n : ℕ) {es : List Entry} → a + n < 4294967296 → All (Placed n) es → map (entryWords a) es ≡ map (movedEntry a) (map (entryWords 0) es)

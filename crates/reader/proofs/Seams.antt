@@ -14,7 +14,7 @@ use Rattle.tables.proofs.TextLaws.{length-zero}
 use Rattle.reader.specs.declared.tag.Span.{Span}
 use Rattle.reader.specs.declared.record.Scan.{Scan}
 use Rattle.reader.specs.Store.{flat}
-use Rattle.reader.specs.Pieces.{glue, rawLines}
+use Rattle.reader.specs.Pieces.{joinLine, rawLines}
 use Rattle.reader.specs.Tag.{cut}
 use Rattle.reader.specs.Records.{fresh, scanned, closesRecord, emit, recordsFrom, recordsOf, leftOver, spansFrom, spansOf, shift, closedLast, endsLine, isSeam, seamAt, AlikeBut, Filled, none, one}
 
@@ -24,7 +24,7 @@ use Rattle.reader.specs.Records.{fresh, scanned, closesRecord, emit, rec
 raw-cons : {P : Type 0} (b : ℕ) (bs : List ℕ) → ((l : List ℕ) (ls : List (List ℕ)) → rawLines (b ∷ bs) ≡ l ∷ ls → P) → P
 raw-cons b bs go = cases (eqb b 10) (rawLines bs) go
   where
-    cases : {P : Type 0} (t : Bool) (ls : List (List ℕ)) → ((m : List ℕ) (ms : List (List ℕ)) → glue t b ls ≡ m ∷ ms → P) → P
+    cases : {P : Type 0} (t : Bool) (ls : List (List ℕ)) → ((m : List ℕ) (ms : List (List ℕ)) → joinLine t b ls ≡ m ∷ ms → P) → P
     cases true ls k = k (b ∷ []) ls refl
     cases false [] k = k (b ∷ []) [] refl
     cases false (l ∷ ls) k = k (b ∷ l) ls refl
@@ -40,7 +40,7 @@ pub flat-raw : (f : List ℕ) → flat (rawLines f) ≡ f
 flat-raw [] = refl
 flat-raw (b ∷ bs) = glued (eqb b 10) (rawLines bs) ∙ ap (λ (l : List ℕ). b ∷ l) (flat-raw bs)
   where
-    glued : (t : Bool) (ls : List (List ℕ)) → flat (glue t b ls) ≡ b ∷ flat ls
+    glued : (t : Bool) (ls : List (List ℕ)) → flat (joinLine t b ls) ≡ b ∷ flat ls
     glued true ls = refl
     glued false [] = refl
     glued false (l ∷ ls) = refl
@@ -80,9 +80,9 @@ records-flat s text (l ∷ ls) =
     emit-flat (closesRecord s l) (text ++ l) _ (flat ls) _ (records-flat (cond (closesRecord s l) fresh (scanned s l)) (cond (closesRecord s l) [] (text ++ l)) ls)
     ∙ append-assoc text l (flat ls)
 
-pub Whole : (text : List ℕ) → flat (recordsOf text) ++ leftOver fresh [] (rawLines text) ≡ text
+pub RecordsCover : (text : List ℕ) → flat (recordsOf text) ++ leftOver fresh [] (rawLines text) ≡ text
 unfolding recordsOf
-Whole f = records-flat fresh [] (rawLines f) ∙ flat-raw f
+RecordsCover f = records-flat fresh [] (rawLines f) ∙ flat-raw f
 
 -- Before a seam nothing is left over.
 left-none : (b : Bool) (s : Scan) (text : List ℕ) (ls : List (List ℕ)) → (b ≡ true → (s ≡ fresh) × (text ≡ [])) → closedLast b s ls ≡ true → leftOver s text ls ≡ []
@@ -94,7 +94,7 @@ pub SeamWhole : (front : List ℕ) → isSeam front ≡ true → flat (recordsOf
 unfolding isSeam
 SeamWhole f h =
     let e = both (endsLine true f) (closedLast true fresh (rawLines f)) h in
-    sym (append-nil (flat (recordsOf f))) ∙ rw (left-none true fresh [] (rawLines f) (λ t. (refl, refl)) (e .1)) at (Whole f)
+    sym (append-nil (flat (recordsOf f))) ∙ rw (left-none true fresh [] (rawLines f) (λ t. (refl, refl)) (e .1)) at (RecordsCover f)
 
 -- ---- places: the first record starts at 0, each other where the one before ended
 
@@ -120,7 +120,7 @@ spans-cut p (x ∷ xs) q =
 -- A record is what its span cuts out of the text.
 pub SpanTexts : (text : List ℕ) → map (λ (s : Span). cut s text) (spansOf text) ≡ recordsOf text
 unfolding spansOf
-SpanTexts f = rw (Whole f) at (spans-cut [] (recordsOf f) (leftOver fresh [] (rawLines f)))
+SpanTexts f = rw (RecordsCover f) at (spans-cut [] (recordsOf f) (leftOver fresh [] (rawLines f)))
 
 -- ---- two seams
 
@@ -225,7 +225,7 @@ raw-filled : (f : List ℕ) → Filled (rawLines f)
 raw-filled [] = none
 raw-filled (b ∷ bs) = glued (eqb b 10) (rawLines bs) (raw-filled bs)
   where
-    glued : (t : Bool) (ls : List (List ℕ)) → Filled ls → Filled (glue t b ls)
+    glued : (t : Bool) (ls : List (List ℕ)) → Filled ls → Filled (joinLine t b ls)
     glued true ls h = one {r = b ∷ []} (omega arith) h
     glued false [] h = one {r = b ∷ []} (omega arith) none
     glued false (l ∷ ls) (one x h) = one {r = b ∷ l} (omega arith) h
@@ -251,7 +251,7 @@ RecordsFilled f = records-filled fresh [] (rawLines f) (raw-filled f) (λ e. cla
 
 -- The records are not longer than the text, and not more than its bytes.
 pub records-fit : (text : List ℕ) → length (flat (recordsOf text)) ≤ length text
-records-fit f = omega (arith, simp length-append at (ap length (Whole f)))
+records-fit f = omega (arith, simp length-append at (ap length (RecordsCover f)))
 
 filled-few : (rs : List (List ℕ)) → Filled rs → length rs ≤ length (flat rs)
 filled-few [] f = omega arith

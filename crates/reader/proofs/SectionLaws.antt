@@ -19,43 +19,43 @@ use Rattle.reader.specs.Tag.{tagLine, splitOf}
 use Rattle.reader.specs.Lines.{isBlank, hasBrace, splitAs, splitLine, bracketAs, bracketLine, kindBy, lineKind}
 use Rattle.reader.specs.LineWalk.{lineAt}
 use Rattle.reader.specs.Pieces.{rawLines}
-use Rattle.reader.specs.Sections.{opensNote, noteAfter}
+use Rattle.reader.specs.Sections.{opensCommentary, commentaryAfter}
 use Rattle.reader.proofs.TagLaws.{byte-front}
 use Rattle.reader.proofs.LineLaws.{blank-is}
 use Rattle.reader.proofs.PieceLaws.{raw-step}
 
 -- ---- commentary
 
-split-no-note : (s : Split) (l : List ℕ) → opensNote (splitAs s) l ≡ false
-split-no-note (DataTag t d) l = refl
-split-no-note NoData l = refl
+split-no-commentary : (s : Split) (l : List ℕ) → opensCommentary (splitAs s) l ≡ false
+split-no-commentary (DataTag t d) l = refl
+split-no-commentary NoData l = refl
 
-tag-no-note : (t : TagLine) (l : List ℕ) → opensNote (bracketAs t l) l ≡ false
+tag-no-commentary : (t : TagLine) (l : List ℕ) → opensCommentary (bracketAs t l) l ≡ false
 unfolding splitLine
-tag-no-note NoTag l = split-no-note (splitOf l) l
-tag-no-note (PlainTag t) l = refl
-tag-no-note (CommentTag t c) l = refl
+tag-no-commentary NoTag l = split-no-commentary (splitOf l) l
+tag-no-commentary (PlainTag t) l = refl
+tag-no-commentary (CommentTag t c) l = refl
 
-by-note : (b : ℕ) (l : List ℕ) → opensNote (kindBy b l) l ≡ cond (eqb b 123) (not (hasBrace l)) false
+by-commentary : (b : ℕ) (l : List ℕ) → opensCommentary (kindBy b l) l ≡ cond (eqb b 123) (not (hasBrace l)) false
 unfolding bracketLine
-by-note b l =
+by-commentary b l =
     by-cases (eqb b 123)
     (λ e. rw e)
     (λ e.
     by-cases (eqb b 59 || eqb b 37)
     (λ f. rw (e, f))
-    (λ f. by-cases (eqb b 91) (λ g. rw (e, f, g) (tag-no-note (tagLine l) l)) (λ g. rw (e, f, g))))
+    (λ f. by-cases (eqb b 91) (λ g. rw (e, f, g) (tag-no-commentary (tagLine l) l)) (λ g. rw (e, f, g))))
 
 -- The byte after the white space at a blank line's start is none.
 blank-byte : (l : List ℕ) → isBlank l ≡ true → getD l (length (lead l)) 0 ≡ 0
 blank-byte l e = List·getD-eq-default l 0 (le-of-eq (sym (eqb-true (length (lead l)) (length l) (blank-is l ∙ e))))
 
-pub note-opens : (l : List ℕ) → noteAfter false l ≡ cond (eqb (getD l (length (lead l)) 0) 123) (not (hasBrace l)) false
-unfolding noteAfter lineKind
-note-opens l =
+pub commentary-opens : (l : List ℕ) → commentaryAfter false l ≡ cond (eqb (getD l (length (lead l)) 0) 123) (not (hasBrace l)) false
+unfolding commentaryAfter lineKind
+commentary-opens l =
     by-cases (isBlank l)
     (λ e. rw (e, blank-byte l e))
-    (λ e. rw (e, byte-front isWhite l) (by-note (getD (trimStart l) 0 0) l))
+    (λ e. rw (e, byte-front isWhite l) (by-commentary (getD (trimStart l) 0 0) l))
 
 -- ---- the next line of a text
 

@@ -24,8 +24,8 @@ use Rattle.reader.specs.Tag.{cut}
 use Rattle.reader.specs.Names.{tagNumber}
 use Rattle.reader.specs.Lines.{lineKind, hasBrace, lastBrace, linePlaced}
 use Rattle.reader.specs.Pieces.{Piece, Out, andThen, rawLines}
-use Rattle.reader.specs.Sections.{noteAfter, stopsAt, dataPiece, pieceOf, dataIn, splitPiece, sectionData}
-use Rattle.reader.specs.Boards.{noOpen, seatOpen, openBy, closed, noSpan, at, tagged, readBy, readTag, isAllWhite, blocked, braced, inNote, unchanged, lineBy, lineOut}
+use Rattle.reader.specs.Sections.{commentaryAfter, stopsAt, dataPiece, pieceOf, dataIn, splitPiece, sectionData}
+use Rattle.reader.specs.Boards.{noOpen, seatOpen, openBy, closed, noSpan, at, tagged, readBy, tagLineOut, isAllWhite, blocked, braced, inCommentary, unchanged, lineBy, lineOut}
 use Rattle.reader.specs.Plain.{bytesOf}
 use Rattle.reader.proofs.EntryLaws.{All, none, one}
 use Rattle.reader.proofs.Inside.{LineInside}
@@ -41,8 +41,8 @@ dataPieces r (e ∷ es) = cond (eqb (e .kind) 5) (record { at = e .x; bytes = by
 
 -- The lines up to the tag or the blank line, outside commentary, that closes a section.
 abbrev pub sectionLines : Bool → List (List ℕ) → List (List ℕ)
-sectionLines noting [] = []
-sectionLines noting (l ∷ ls) = cond (stopsAt noting l) [] (l ∷ sectionLines (noteAfter noting l) ls)
+sectionLines commentary [] = []
+sectionLines commentary (l ∷ ls) = cond (stopsAt commentary l) [] (l ∷ sectionLines (commentaryAfter commentary l) ls)
 
 -- Some lines of the record r, from the place p on, in the state s.
 abbrev pub linesRead : Conventions → List ℕ → State → ℕ → List (List ℕ) → Out State
@@ -74,9 +74,9 @@ blocked-pieces r s i j = by-cases (isAllWhite r i j) (λ t. rw t) (λ t. rw t)
 -- ---- a line of a section
 
 module _ (c : Conventions) (r : List ℕ) (s : State) (p : ℕ) (l : List ℕ) (i : LineAt r p l) (o : eqb (s .section .kind) 0 ≡ false) where
-  note-pieces : dataPieces r (inNote r s p l .entries) ≡ []
-  unfolding inNote
-  note-pieces = by-cases (hasBrace l) (λ t. rw t (blocked-pieces r s (s .block) (p + lastBrace l))) (λ t. rw t)
+  commentary-pieces : dataPieces r (inCommentary r s p l .entries) ≡ []
+  unfolding inCommentary
+  commentary-pieces = by-cases (hasBrace l) (λ t. rw t (blocked-pieces r s (s .block) (p + lastBrace l))) (λ t. rw t)
 
   brace-pieces : dataPieces r (braced r s p l .entries) ≡ []
   unfolding braced
@@ -90,21 +90,21 @@ module _ (c : Conventions) (r : List ℕ) (s : State) (p : ℕ) (l : List ℕ) (
   kind-pieces Bracket e h j = refl
   kind-pieces (Data d) e h j = rw (o, PartPlaced r l p (d .start) (d .len) (i .bytes) j)
 
-  line-pieces : stopsAt (s .noting) l ≡ false → dataPieces r (lineOut c r s p l .entries) ≡ pieceOf (s .noting) p l
+  line-pieces : stopsAt (s .commentary) l ≡ false → dataPieces r (lineOut c r s p l .entries) ≡ pieceOf (s .commentary) p l
   unfolding lineOut pieceOf
   line-pieces h =
-      chosen (λ (x : Out State). dataPieces r (x .entries) ≡ pieceOf (s .noting) p l) (s .noting) (inNote r s p l) (lineBy c r s p l (lineKind l))
-      (λ e. note-pieces ∙ ap (λ (b : Bool). pieceOf b p l) (sym e))
+      chosen (λ (x : Out State). dataPieces r (x .entries) ≡ pieceOf (s .commentary) p l) (s .commentary) (inCommentary r s p l) (lineBy c r s p l (lineKind l))
+      (λ e. commentary-pieces ∙ ap (λ (b : Bool). pieceOf b p l) (sym e))
       (λ e. kind-pieces (lineKind l) refl (rw e at h) (LineInside l) ∙ ap (λ (b : Bool). pieceOf b p l) (sym e))
 
 -- ---- the lines of a section
 
 lines-walked : (c : Conventions) (r : List ℕ) (s : State) (p : ℕ) (ls : List (List ℕ)) → rawLines (drop p r) ≡ ls → eqb (s .section .kind) 0 ≡ false
-    → (linesRead c r s p (sectionLines (s .noting) ls) .state .section ≡ s .section)
-    × (dataPieces r (linesRead c r s p (sectionLines (s .noting) ls) .entries) ≡ dataIn (s .noting) p ls)
+    → (linesRead c r s p (sectionLines (s .commentary) ls) .state .section ≡ s .section)
+    × (dataPieces r (linesRead c r s p (sectionLines (s .commentary) ls) .entries) ≡ dataIn (s .commentary) p ls)
 lines-walked c r s p [] e o = (refl, refl)
 lines-walked c r s p (l ∷ ls) e o =
-    by-cases (stopsAt (s .noting) l)
+    by-cases (stopsAt (s .commentary) l)
     (λ t. rw t (refl, refl))
     (λ t.
     let k = line-keeps c r s p l t in
@@ -112,7 +112,7 @@ lines-walked c r s p (l ∷ ls) e o =
     let q : eqb (x .state .section .kind) 0 ≡ false = rw (k .section-kept) o in
     let z = lines-walked c r (x .state) (p + length l) ls (next-line r p l ls e .rest) q in
     let m = line-pieces c r s p l (first-line r p l ls e) o t in
-    rw (t, ← (k .noting-is))
+    rw (t, ← (k .commentary-is))
     (z .0 ∙ k .section-kept, pieces-append r (x .entries) _ ∙ rw (m, z .1)))
 
 -- ---- the tag's line
@@ -140,7 +140,7 @@ open-starts c k value q split =
 
 -- After a tag's line its section starts behind the line, and the line's data is what was split off.
 record Opened (r : List ℕ) (q : ℕ) (x : Out State) : Type 0 where
-  noting-off : x .state .noting ≡ false
+  commentary-off : x .state .commentary ≡ false
   lines-at : x .state .section .at ≡ q
   split-is : dataPieces r (x .entries) ≡ splitPiece r (x .state .section .split)
 
@@ -149,34 +149,34 @@ module _ (c : Conventions) (r : List ℕ) (s : State) (p : ℕ) (l : List ℕ) (
   unfolding tagged
   reading-opens (Plain t) j o =
       let a = open-starts c (tagNumber (cut (t .name) l)) (cut (t .value) l) q noSpan .starts o in
-      record { noting-off = refl; lines-at = a .0; split-is = ap (splitPiece r) (sym (a .1)) }
+      record { commentary-off = refl; lines-at = a .0; split-is = ap (splitPiece r) (sym (a .1)) }
   reading-opens (WithComment t d) j o =
       let a = open-starts c (tagNumber (cut (t .name) l)) (cut (t .value) l) q noSpan .starts o in
-      record { noting-off = refl; lines-at = a .0; split-is = ap (splitPiece r) (sym (a .1)) }
+      record { commentary-off = refl; lines-at = a .0; split-is = ap (splitPiece r) (sym (a .1)) }
   reading-opens (WithData t d) j o =
       let a = open-starts c (tagNumber (cut (t .name) l)) (cut (t .value) l) q (at p d) .starts o in
       let e : splitPiece r (at p d) ≡ record { at = p + d .start; bytes = cut (at p d) r } ∷ [] = rw (j .1) in
-      record { noting-off = refl; lines-at = a .0; split-is = rw o (sym e) ∙ ap (splitPiece r) (sym (a .1)) }
+      record { commentary-off = refl; lines-at = a .0; split-is = rw o (sym e) ∙ ap (splitPiece r) (sym (a .1)) }
 
   closed-opens : (t : TagReading) → Opened r q (readBy c (closed c r s .state) p l q t) → Opened r q (andThen (closed c r s) (readBy c (closed c r s .state) p l q t))
   closed-opens t h =
       record {
-        noting-off = h .noting-off;
+        commentary-off = h .commentary-off;
         lines-at = h .lines-at;
         split-is = pieces-append r (closed c r s .entries) (readBy c (closed c r s .state) p l q t .entries) ∙ rw (late-pieces r (closed-late c r s)) (h .split-is);
       }
 
-line-tag : (c : Conventions) (r : List ℕ) (s : State) (p : ℕ) (l : List ℕ) (t : TagReading) → s .noting ≡ false → lineKind l ≡ TagOn t
+line-tag : (c : Conventions) (r : List ℕ) (s : State) (p : ℕ) (l : List ℕ) (t : TagReading) → s .commentary ≡ false → lineKind l ≡ TagOn t
     → lineOut c r s p l ≡ andThen (closed c r s) (readBy c (closed c r s .state) p l (p + length l) t)
-unfolding lineOut readTag
+unfolding lineOut tagLineOut
 line-tag c r s p l t n k =
-    chosen (λ (x : Out State). x ≡ andThen (closed c r s) (readBy c (closed c r s .state) p l (p + length l) t)) (s .noting) (inNote r s p l) (lineBy c r s p l (lineKind l))
+    chosen (λ (x : Out State). x ≡ andThen (closed c r s) (readBy c (closed c r s .state) p l (p + length l) t)) (s .commentary) (inCommentary r s p l) (lineBy c r s p l (lineKind l))
     (λ e. clash (sym n ∙ e))
     (λ e. ap (lineBy c r s p l) k)
 
 -- THEOREM. Where a tag, in any state, opens a section, the data over which the section is walked when it closes are the data lines that
 -- the entries of the tag's line, and of the lines of its section, name.
-pub SectionLines : (c : Conventions) (r : List ℕ) (s : State) (p : ℕ) (l : List ℕ) (t : TagReading) → LineAt r p l → s .noting ≡ false → lineKind l ≡ TagOn t
+pub SectionLines : (c : Conventions) (r : List ℕ) (s : State) (p : ℕ) (l : List ℕ) (t : TagReading) → LineAt r p l → s .commentary ≡ false → lineKind l ≡ TagOn t
     → eqb (lineOut c r s p l .state .section .kind) 0 ≡ false
     → Walked r (lineOut c r s p l .state .section) (linesRead c r s p (l ∷ sectionLines false (rawLines (drop (p + length l) r))))
 unfolding sectionData
@@ -195,12 +195,12 @@ SectionLines c r s p l t i n k o =
     walked x h o =
         let q = p + length l in
         let z = lines-walked c r (x .state) q (rawLines (drop q r)) refl o in
-        let w = ap (λ (b : Bool). linesRead c r (x .state) q (sectionLines b (rawLines (drop q r)))) (h .noting-off) in
+        let w = ap (λ (b : Bool). linesRead c r (x .state) q (sectionLines b (rawLines (drop q r)))) (h .commentary-off) in
         record {
           still-open = ap (λ (y : Out State). y .state .section) (sym w) ∙ z .0;
           data-are =
               ap (λ (m : ℕ). splitPiece r (x .state .section .split) ++ dataIn false m (rawLines (drop m r))) (h .lines-at)
-              ∙ ap (λ (b : Bool). splitPiece r (x .state .section .split) ++ dataIn b q (rawLines (drop q r))) (sym (h .noting-off))
+              ∙ ap (λ (b : Bool). splitPiece r (x .state .section .split) ++ dataIn b q (rawLines (drop q r))) (sym (h .commentary-off))
               ∙ ap (λ (qs : List Piece). splitPiece r (x .state .section .split) ++ qs) (sym (z .1) ∙ ap (λ (y : Out State). dataPieces r (y .entries)) w)
               ∙ ap (λ (qs : List Piece). qs ++ dataPieces r (linesRead c r (x .state) q (sectionLines false (rawLines (drop q r))) .entries)) (sym (h .split-is))
               ∙ sym (pieces-append r (x .entries) (linesRead c r (x .state) q (sectionLines false (rawLines (drop q r))) .entries));

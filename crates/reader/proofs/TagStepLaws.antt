@@ -19,7 +19,7 @@ use Rattle.reader.specs.declared.section.Walk.{Walk}
 use Rattle.reader.specs.declared.store.Entry.{Entry}
 use Rattle.reader.specs.declared.tag.Span.{Span}
 use Rattle.reader.specs.declared.tag.Tag.{Tag}
-use Rattle.reader.specs.Boards.{Sound, Stepped, applied, openBy, noSpan, at, adding, countedState, closed, closedBy, tagged, directed, dataEntries, dated, tagIn, splitIn, readBy, readTag, noted, blocked, braced, inNote, lineBy, lineOut}
+use Rattle.reader.specs.Boards.{Sound, Stepped, applied, openBy, noSpan, at, adding, countedState, closed, closedBy, tagged, directed, dataEntries, dataAdded, tagIn, splitIn, readBy, tagLineOut, withCommentary, blocked, braced, inCommentary, lineBy, lineOut}
 use Rattle.reader.specs.Lines.{lineKind, hasBrace, lastBrace, readingPlaced}
 use Rattle.reader.specs.Names.{tagNumber}
 use Rattle.reader.specs.Pieces.{Out, Emits, andThen, entry}
@@ -88,7 +88,7 @@ pub tag-stepped :
     value ≡ cut (t .value) l →
     board ≡ applied c k value (s .n + 2) (s .board) →
     section ≡ openBy c k value q split →
-    Stepped a n q e e″ (record { board = board; section = section; tags = s .tags + 1; n = s .n + 2; noting = false; block = s .block }) (tagged c s p l q t split)
+    Stepped a n q e e″ (record { board = board; section = section; tags = s .tags + 1; n = s .n + 2; commentary = false; block = s .block }) (tagged c s p l q t split)
 unfolding tagged
 tag-stepped c l t split {s} {p} {q} {a} {n} {k} {name} {value} {e} {e′} {e″} {board} {section} h pq sq e1 e2 en ek ev eb es =
     record {
@@ -140,7 +140,7 @@ pub read-data :
     tag ≡ tagIn t →
     split ≡ splitIn p t →
     Stepped a (base + s .n) q e e′ r (tagged c s p l q tag split) →
-    Emits a (base + r .n) e′ e″ r′ (dated r p d) →
+    Emits a (base + r .n) e′ e″ r′ (dataAdded r p d) →
     Stepped a (base + s .n) q e e″ r′ (readBy c s p l q t)
 read-data c base s p l {a} {q} {r} {e = e} {e′ = e′} {x = x} {d = d} et eg es h f =
     let k : Stepped a (base + s .n) q e e′ r (tagged c s p l q x (at p d)) = rw (← ap tagIn et, ← ap (splitIn p) et, ← eg, ← es) h in
@@ -176,8 +176,8 @@ pub read-closed :
     (c : Conventions) (base : ℕ) (s : State) (p : ℕ) (w l : List ℕ) (t : TagReading) {a : ℕ} {r r′ : State} {e e′ e″ : List ℕ} →
     Emits a (base + s .n) e e′ r (closed c w s) →
     Stepped a (base + r .n) (p + length l) e′ e″ r′ (readBy c r p l (p + length l) t) →
-    Stepped a (base + s .n) (p + length l) e e″ r′ (readTag c w s p l t)
-unfolding readTag
+    Stepped a (base + s .n) (p + length l) e e″ r′ (tagLineOut c w s p l t)
+unfolding tagLineOut
 read-closed c base s p w l t {r = r} h k =
     let n : r .n ≡ s .n + length (closed c w s .entries) = rw (h .answer) (closed-counts c w s) in
     record {
@@ -200,24 +200,24 @@ placed-ends d p n e h = rw e (omega (arith, h))
 
 -- ---- the number of tags
 
-pub read-tags : (c : Conventions) (w : List ℕ) (s : State) (p : ℕ) (l : List ℕ) (t : TagReading) → readTag c w s p l t .state .tags ≡ s .tags + 1
-unfolding readTag tagged
+pub read-tags : (c : Conventions) (w : List ℕ) (s : State) (p : ℕ) (l : List ℕ) (t : TagReading) → tagLineOut c w s p l t .state .tags ≡ s .tags + 1
+unfolding tagLineOut tagged
 read-tags c w s p l (Plain t) = ap (λ (k : ℕ). k + 1) (closed-tags c w s)
 read-tags c w s p l (WithComment t d) = ap (λ (k : ℕ). k + 1) (closed-tags c w s)
 read-tags c w s p l (WithData t d) = ap (λ (k : ℕ). k + 1) (closed-tags c w s)
 
 -- A line adds one tag at most.
 pub line-tags : (c : Conventions) (r : List ℕ) (s : State) (p : ℕ) (l : List ℕ) → lineOut c r s p l .state .tags ≤ s .tags + 1
-unfolding lineOut inNote braced blocked
-line-tags c r s p l = go (s .noting)
+unfolding lineOut inCommentary braced blocked
+line-tags c r s p l = go (s .commentary)
   where
-    brace : (t : Bool) (i j : ℕ) → (cond t (blocked r s i j) (record { state = noted s true i; entries = [] })) .state .tags ≤ s .tags + 1
+    brace : (t : Bool) (i j : ℕ) → (cond t (blocked r s i j) (record { state = withCommentary s true i; entries = [] })) .state .tags ≤ s .tags + 1
     brace true i j = omega arith
     brace false i j = omega arith
 
-    note : (t : Bool) (j : ℕ) → (cond t (blocked r s (s .block) j) (record { state = s; entries = [] })) .state .tags ≤ s .tags + 1
-    note true j = omega arith
-    note false j = omega arith
+    in-commentary : (t : Bool) (j : ℕ) → (cond t (blocked r s (s .block) j) (record { state = s; entries = [] })) .state .tags ≤ s .tags + 1
+    in-commentary true j = omega arith
+    in-commentary false j = omega arith
 
     by : (k : Line) → lineBy c r s p l k .state .tags ≤ s .tags + 1
     by Blank = omega arith
@@ -227,6 +227,6 @@ line-tags c r s p l = go (s .noting)
     by Bracket = omega arith
     by (Data d) = omega arith
 
-    go : (t : Bool) → (cond t (inNote r s p l) (lineBy c r s p l (lineKind l))) .state .tags ≤ s .tags + 1
-    go true = note (hasBrace l) (p + lastBrace l)
+    go : (t : Bool) → (cond t (inCommentary r s p l) (lineBy c r s p l (lineKind l))) .state .tags ≤ s .tags + 1
+    go true = in-commentary (hasBrace l) (p + lastBrace l)
     go false = by (lineKind l)

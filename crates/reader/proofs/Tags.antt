@@ -21,7 +21,7 @@ use Rattle.reader.specs.declared.tag.Close.the-variants.{At, Nothing}
 use Rattle.reader.specs.declared.tag.Bracket.the-variants.{Body, NoBracket}
 use Rattle.reader.specs.declared.tag.Value.the-variants.{Text, NoValue}
 use Rattle.reader.specs.declared.tag.Comment.{Comment}
-use Rattle.reader.specs.declared.tag.Comment.the-variants.{Clean, Note, Bad}
+use Rattle.reader.specs.declared.tag.Comment.the-variants.{Clean, Found, Bad}
 use Rattle.reader.specs.Tag.{cut, part, lastAfter, trimPart, bracketOf, endsQuoted, closeAt, nameOf, isQuoted, valueOf, isComment, commentOf, withComment, withName, withClose, tagLine, pairOf, findAt, withData, withPair, dataBracket, dataAfter, splitOf}
 use Rattle.reader.specs.TagBytes.{_>>=_, Cut, push, quoted, close, past, behind, ahead, unquote, filled, commentBytes, TagBytes, readTag, tagBytes, readSplit, splitBytes}
 
@@ -170,7 +170,7 @@ unquote-is t {u} e = value-by t (λ v h q a. rw (h, some-inj (sym a ∙ e))) (λ
 -- ---- the same answers with places as sums of lengths: a is where the body starts
 
 abbrev pub commentAs : List ℕ → ℕ → Comment
-commentAs t s = cond (eqb (length t) 0) Clean (cond (isComment t) (Note (record { start = s; len = length t })) Bad)
+commentAs t s = cond (eqb (length t) 0) Clean (cond (isComment t) (Found (record { start = s; len = length t })) Bad)
 
 abbrev pub placeValue : Option (List ℕ) → ℕ → Span → List ℕ → ℕ → TagLine
 placeValue none s n r c = NoTag

@@ -54,12 +54,12 @@ tokens-left p u k m t h ek em =
 
 -- What is left at the place i of a piece s at the place `at`: its text is trimmed, and f over its tokens leaves what f over all
 -- tokens leaves from the start.
-pub record Reading {A : Type 0} (f : A → Piece → Out A) (a n₀ : ℕ) (l₀ : List ℕ) (o : Out A) (at : ℕ) (s l : List ℕ) (w : A) (n i : ℕ) : Type 0 where
+pub record AtToken {A : Type 0} (f : A → Piece → Out A) (a n₀ : ℕ) (l₀ : List ℕ) (o : Out A) (at : ℕ) (s l : List ℕ) (w : A) (n i : ℕ) : Type 0 where
   pub ready : trimStart (drop i s) ≡ drop i s
   pub left : ToEmit f a n₀ l₀ o l w n (tokensAt (at + i) (drop i s))
 
 pub reading-start : {A : Type 0} (f : A → Piece → Out A) (a n : ℕ) (l : List ℕ) (at : ℕ) (s : List ℕ) (b : A) (i : ℕ) → i ≡ length (lead s)
-    → Reading f a n l (outAll f b (tokensAt at s)) at s l b n i
+    → AtToken f a n l (outAll f b (tokensAt at s)) at s l b n i
 reading-start f a n l at s b i e =
     let d : drop i s ≡ trimStart s = rw e (drop-front isWhite s) in
     record {
@@ -69,17 +69,17 @@ reading-start f a n l at s b i e =
 
 -- The next token has a byte.
 pub reading-some : {A : Type 0} {f : A → Piece → Out A} {a n₀ : ℕ} {l₀ : List ℕ} {o : Out A} {at : ℕ} {s l : List ℕ} {w : A} {n i : ℕ} (k : ℕ) (u : List ℕ)
-    → Reading f a n₀ l₀ o at s l w n i → i < length s → u ≡ drop i s → k ≡ length (word u) → 0 < k
+    → AtToken f a n₀ l₀ o at s l w n i → i < length s → u ≡ drop i s → k ≡ length (word u) → 0 < k
 reading-some {A} {f} {a} {n₀} {l₀} {o} {at} {s} {l} {w} {n} {i} k u t h eu ek =
     let z : length (drop i s) ≡ length s - i = length-drop i s in
     rw (ek, eu) (word-some (drop i s) (t .ready) (omega arith))
 
 -- One token, of k bytes, and the white space behind it, of m.
 pub reading-next : {A : Type 0} {f : A → Piece → Out A} {a n₀ : ℕ} {l₀ : List ℕ} {o : Out A} {at : ℕ} {s l : List ℕ} {w : A} {n i : ℕ} {l′ : List ℕ} {w′ : A}
-    (n′ k m : ℕ) (u v x : List ℕ) → Reading f a n₀ l₀ o at s l w n i → i < length s
+    (n′ k m : ℕ) (u v x : List ℕ) → AtToken f a n₀ l₀ o at s l w n i → i < length s
     → u ≡ drop i s → k ≡ length (word u) → x ≡ take k u → v ≡ drop k u → m ≡ length (lead v)
     → Emits a n l l′ w′ (f w (piece (at + i) x)) → n′ ≡ n + length (f w (piece (at + i) x) .entries)
-    → Reading f a n₀ l₀ o at s l′ w′ n′ (i + k + m)
+    → AtToken f a n₀ l₀ o at s l′ w′ n′ (i + k + m)
 reading-next {A} {f} {a} {n₀} {l₀} {o} {at} {s} {l} {w} {n} {i} {l′} {w′} n′ k m u v x t h eu ek ex ev em e en =
     let z : length (drop i s) ≡ length s - i = length-drop i s in
     let ek′ : k ≡ length (word (drop i s)) = rw (← eu) ek in
@@ -99,5 +99,5 @@ reading-next {A} {f} {a} {n₀} {l₀} {o} {at} {s} {l} {w} {n} {i} {l′} {w′
     }
 
 pub reading-done : {A : Type 0} {f : A → Piece → Out A} {a n₀ : ℕ} {l₀ : List ℕ} {o : Out A} {at : ℕ} {s l : List ℕ} {w : A} {n i : ℕ}
-    → Reading f a n₀ l₀ o at s l w n i → length s ≤ i → Emits a n₀ l₀ l w o
+    → AtToken f a n₀ l₀ o at s l w n i → length s ≤ i → Emits a n₀ l₀ l w o
 reading-done {A} {f} {a} {n₀} {l₀} {o} {at} {s} {l} {w} {n} {i} t h = emitted (rw (stop s i h) at (t .left))

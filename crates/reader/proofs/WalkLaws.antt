@@ -21,7 +21,7 @@ use Rattle.reader.specs.Store.{putAll, entryWords}
 use Rattle.reader.specs.Pieces.{Piece, piece, Out, Emits, andThen, outAll, rawLines}
 use Rattle.reader.specs.Auction.{bidding, calledPiece}
 use Rattle.reader.specs.Play.{playedPiece, Seated}
-use Rattle.reader.specs.Sections.{dataIn, splitPiece, linesData, sectionData, nextData, NextPiece, rowStored, rowedPiece, walked, noWalk, walkedAll, countOf, Walks}
+use Rattle.reader.specs.Sections.{dataIn, splitPiece, linesData, sectionData, nextData, NextPiece, rowStored, rowedPiece, walked, noWalk, walkedAll, walkCount, Walks}
 use Rattle.reader.proofs.EntryLaws.{out-count}
 use Rattle.reader.proofs.AuctionLaws.{calls-counted}
 use Rattle.reader.proofs.PlayLaws.{none-seated, tricks-counted}
@@ -29,7 +29,7 @@ use Rattle.reader.proofs.PieceLaws.{put-run, emits-none, ToEmit, emitte
 
 -- ---- the number of entries
 
-walked-count : (c : Conventions) (o : Open) (trump : ℕ) (w : Walk) (q : Piece) → countOf (walked c o trump w q .state) ≡ countOf w + length (walked c o trump w q .entries)
+walked-count : (c : Conventions) (o : Open) (trump : ℕ) (w : Walk) (q : Piece) → walkCount (walked c o trump w q .state) ≡ walkCount w + length (walked c o trump w q .entries)
 unfolding walked
 walked-count c o trump w q =
     by-cases (eqb (o .kind) 1)
@@ -40,21 +40,21 @@ walked-count c o trump w q =
     (λ f. rw (e, f) (omega arith)))
 
 pub walk-count : (c : Conventions) (o : Open) (trump : ℕ) (w : Walk) (qs : List Piece)
-    → countOf (outAll (walked c o trump) w qs .state) ≡ countOf w + length (outAll (walked c o trump) w qs .entries)
-walk-count c o trump w qs = out-count (walked c o trump) countOf (walked-count c o trump) w qs
+    → walkCount (outAll (walked c o trump) w qs .state) ≡ walkCount w + length (outAll (walked c o trump) w qs .entries)
+walk-count c o trump w qs = out-count (walked c o trump) walkCount (walked-count c o trump) w qs
 
-pub no-count : countOf noWalk ≡ 0
+pub no-count : walkCount noWalk ≡ 0
 unfolding noWalk
 no-count = refl
 
 -- A section has as many entries as its walk counts.
-pub section-count : (c : Conventions) (r : List ℕ) (o : Open) (trump : ℕ) → countOf (walkedAll c r o trump .state) ≡ length (walkedAll c r o trump .entries)
+pub section-count : (c : Conventions) (r : List ℕ) (o : Open) (trump : ℕ) → walkCount (walkedAll c r o trump .state) ≡ length (walkedAll c r o trump .entries)
 unfolding walkedAll
 section-count c r o trump = omega (arith, no-count, walk-count c o trump noWalk (sectionData r o))
 
 -- ---- one piece
 
-pub walk-none : (a n k : ℕ) (l : List ℕ) (w : Walk) → Seated (w .tricks) → Walks a n (countOf w + 3 * k) l l w (record { state = w; entries = [] })
+pub walk-none : (a n k : ℕ) (l : List ℕ) (w : Walk) → Seated (w .tricks) → Walks a n (walkCount w + 3 * k) l l w (record { state = w; entries = [] })
 walk-none a n k l w s = record { emits = emits-none a n l w; seated = s; few = omega arith }
 
 walk-one : {a n m : ℕ} {l l′ : List ℕ} (f : Walk → Piece → Out Walk) (w : Walk) (q : Piece) {r : Walk} → Walks a n m l l′ r (f w q) → Walks a n m l l′ r (outAll f w (q ∷ []))
@@ -76,19 +76,19 @@ no-seated = none-seated
 start-seated : {w : Walk} → w ≡ noWalk → Seated (w .tricks)
 start-seated e = rw e no-seated
 
-start-none : {w : Walk} → w ≡ noWalk → countOf w ≡ 0
+start-none : {w : Walk} → w ≡ noWalk → walkCount w ≡ 0
 start-none e = rw e no-count
 
 -- One piece of at most k bytes.
 pub span-one : (f : Walk → Piece → Out Walk) (a n k : ℕ) (l l′ : List ℕ) (w : Walk) (q : Piece) (r : Walk) → length (q .bytes) ≤ k
-    → Walks a n (countOf w + 3 * length (q .bytes)) l l′ r (f w q) → Walks a n (countOf w + 3 * k) l l′ r (outAll f w (q ∷ []))
+    → Walks a n (walkCount w + 3 * length (q .bytes)) l l′ r (f w q) → Walks a n (walkCount w + 3 * k) l l′ r (outAll f w (q ∷ []))
 span-one f a n k l l′ w q r h v =
     let u = walk-one f w q v in
     record { emits = u .emits; seated = u .seated; few = omega (arith, u .few) }
 
 pub piece-called : (c : Conventions) (o : Open) (trump : ℕ) (w : Walk) (q : Piece) (a base k : ℕ) (l l′ : List ℕ) (b : Bidding) → o .kind ≡ 1
     → Emits a (base + w .tricks .count + w .bidding .count) l l′ b (calledPiece c (w .bidding) q) → b .count ≤ w .bidding .count + 3 * k → Seated (w .tricks)
-    → Walks a (base + countOf w) (countOf w + 3 * k) l l′ (record { bidding = b; tricks = w .tricks; rows = w .rows }) (walked c o trump w q)
+    → Walks a (base + walkCount w) (walkCount w + 3 * k) l l′ (record { bidding = b; tricks = w .tricks; rows = w .rows }) (walked c o trump w q)
 unfolding walked
 piece-called c o trump w q a base k l l′ b h e m s =
     let d : base + (w .bidding .count + w .tricks .count) ≡ base + w .tricks .count + w .bidding .count = omega arith in
@@ -96,7 +96,7 @@ piece-called c o trump w q a base k l l′ b h e m s =
 
 pub piece-played : (c : Conventions) (o : Open) (trump : ℕ) (w : Walk) (q : Piece) (a base k : ℕ) (l l′ : List ℕ) (t : Tricks) → (o .kind ≡ 1 → ⊥) → o .kind ≡ 2
     → Emits a (base + w .bidding .count + w .tricks .count) l l′ t (playedPiece c (o .seat) trump (w .tricks) q) → t .count ≤ w .tricks .count + k → Seated t
-    → Walks a (base + countOf w) (countOf w + 3 * k) l l′ (record { bidding = w .bidding; tricks = t; rows = w .rows }) (walked c o trump w q)
+    → Walks a (base + walkCount w) (walkCount w + 3 * k) l l′ (record { bidding = w .bidding; tricks = t; rows = w .rows }) (walked c o trump w q)
 unfolding walked
 piece-played c o trump w q a base k l l′ t g h e m s =
     let d : base + (w .bidding .count + w .tricks .count) ≡ base + w .bidding .count + w .tricks .count = omega arith in
@@ -104,7 +104,7 @@ piece-played c o trump w q a base k l l′ t g h e m s =
 
 pub piece-row : (c : Conventions) (o : Open) (trump : ℕ) (w : Walk) (q : Piece) (a n k : ℕ) (l : List ℕ) (v : Rows) → (o .kind ≡ 1 → ⊥) → (o .kind ≡ 2 → ⊥)
     → v ≡ rowStored (rowOf c 0 (q .bytes)) (w .rows) → Seated (w .tricks)
-    → Walks a n (countOf w + 3 * k) l l (record { bidding = w .bidding; tricks = w .tricks; rows = v }) (walked c o trump w q)
+    → Walks a n (walkCount w + 3 * k) l l (record { bidding = w .bidding; tricks = w .tricks; rows = v }) (walked c o trump w q)
 unfolding walked rowedPiece
 piece-row c o trump w q a n k l v g h e s =
     rw (ne-eqb (o .kind) 1 g, ne-eqb (o .kind) 2 h) (record { emits = record { answer = rw e; words = refl }; seated = s; few = omega arith })
@@ -131,9 +131,9 @@ emitting-run f a n₀ l₀ o l s n xs rest l′ s′ m t e em =
 
 -- The walk over the data of the section o: next is what is left of it.
 pub record Walking (c : Conventions) (r : List ℕ) (o : Open) (trump a base : ℕ) (l₀ : List ℕ) (w : Walk) (next : Next) (l : List ℕ) : Type 0 where
-  pub left : ToEmit (walked c o trump) a base l₀ (walkedAll c r o trump) l w (base + countOf w) (nextData r next)
+  pub left : ToEmit (walked c o trump) a base l₀ (walkedAll c r o trump) l w (base + walkCount w) (nextData r next)
   pub seated : Seated (w .tricks)
-  pub few : countOf w + 3 * next .piece .len ≤ 3 * (o .split .len + (next .at - o .at))
+  pub few : walkCount w + 3 * next .piece .len ≤ 3 * (o .split .len + (next .at - o .at))
   pub from-at : o .at ≤ next .at
   pub inside : next .at ≤ length r
   pub piece-inside : next .piece .start + next .piece .len ≤ length r
@@ -147,7 +147,7 @@ module _ (c : Conventions) (r : List ℕ) (o : Open) (trump a base : ℕ) (l₀ 
       → Walking c r o trump a base l₀ w (record { more = true; piece = o .split; at = o .at }) l₀
   walking w e h i =
       record {
-        left = rw e (all-left (base + countOf noWalk) (omega (arith, no-count)));
+        left = rw e (all-left (base + walkCount noWalk) (omega (arith, no-count)));
         seated = start-seated e;
         few = omega (arith, start-none e);
         from-at = omega arith;
@@ -157,15 +157,15 @@ module _ (c : Conventions) (r : List ℕ) (o : Open) (trump a base : ℕ) (l₀ 
 
   pub walk-on : (w : Walk) (next : Next) (l : List ℕ) (w′ : Walk) (next′ : Next) (l′ : List ℕ)
       → Walking c r o trump a base l₀ w next l → next .more ≡ true
-      → Walks a (base + countOf w) (countOf w + 3 * next .piece .len) l l′ w′ (outAll (walked c o trump) w (splitPiece r (next .piece)))
+      → Walks a (base + walkCount w) (walkCount w + 3 * next .piece .len) l l′ w′ (outAll (walked c o trump) w (splitPiece r (next .piece)))
       → NextPiece r (next .at) next′ → Walking c r o trump a base l₀ w′ next′ l′
   walk-on w next l w′ next′ l′ v m k q =
       let ps : List Piece = splitPiece r (next .piece) in
       let rest : List Piece = dataIn false (next .at) (rawLines (drop (next .at) r)) in
-      let d : base + countOf w′ ≡ base + countOf w + length (outAll (walked c o trump) w ps .entries) = rw (k .emits .answer) (omega (arith, walk-count c o trump w ps)) in
+      let d : base + walkCount w′ ≡ base + walkCount w + length (outAll (walked c o trump) w ps .entries) = rw (k .emits .answer) (omega (arith, walk-count c o trump w ps)) in
       let e : nextData r next ≡ ps ++ rest = ap (λ (b : Bool). cond b (ps ++ rest) []) m in
-      let t : ToEmit (walked c o trump) a base l₀ (walkedAll c r o trump) l w (base + countOf w) (ps ++ rest) = rw e at (v .left) in
-      let u : ToEmit (walked c o trump) a base l₀ (walkedAll c r o trump) l′ w′ (base + countOf w′) rest = emitting-run (walked c o trump) a base l₀ (walkedAll c r o trump) l w (base + countOf w) ps rest l′ w′ (base + countOf w′) t (k .emits) d in
+      let t : ToEmit (walked c o trump) a base l₀ (walkedAll c r o trump) l w (base + walkCount w) (ps ++ rest) = rw e at (v .left) in
+      let u : ToEmit (walked c o trump) a base l₀ (walkedAll c r o trump) l′ w′ (base + walkCount w′) rest = emitting-run (walked c o trump) a base l₀ (walkedAll c r o trump) l w (base + walkCount w) ps rest l′ w′ (base + walkCount w′) t (k .emits) d in
       record {
         left = rw (q .data-lines) at u;
         seated = k .seated;

@@ -11,7 +11,7 @@ use Rattle.tables.specs.declared.letters.Conventions.{Conventions}
 use Rattle.tables.specs.Text.{isInside, firstCharacter}
 use Rattle.tables.specs.Letters.{capital, strainOf, suitOf, rankOf, every}
 use Rattle.tables.proofs.Laws.{by-cases, both, clash}
-use Rattle.reader.specs.Words.{same, sameWord, levelOf, bidCode, bidOf, isPass, isUnderscore, underscoreCode, signCode, callOf, isDoubling, trumpSuit, contractTrump, cardNumber, cardOf}
+use Rattle.reader.specs.Words.{same, sameWord, levelOf, bidCode, bidOf, isPass, isUnderscore, underscoreCode, signCode, callOf, isDoubling, trumpSuit, contractTrump, cardNumber, cardNamed}
 
 -- ---- equal texts
 
@@ -55,14 +55,14 @@ contract-is c [] = refl
 contract-is c (l ∷ []) = by-cases (eqb (levelOf l) 0) (λ e. rw e) (λ e. rw e)
 contract-is c (l ∷ s ∷ d) = refl
 
-pub card-short : (c : Conventions) (t : List ℕ) → length t < 2 → 52 ≡ cardOf c t
-unfolding cardOf
+pub card-short : (c : Conventions) (t : List ℕ) → length t < 2 → 52 ≡ cardNamed c t
+unfolding cardNamed
 card-short c [] h = refl
 card-short c (s ∷ []) h = refl
 card-short c (s ∷ r ∷ more) h = absurd (omega arith)
 
-pub card-long : (c : Conventions) (t : List ℕ) → 2 ≤ length t → cardOf c t ≡ cond (isInside (getD t 1 0)) 52 (cardNumber (suitOf c (getD t 0 0)) (rankOf c (firstCharacter (drop 1 t))))
-unfolding cardOf
+pub card-long : (c : Conventions) (t : List ℕ) → 2 ≤ length t → cardNamed c t ≡ cond (isInside (getD t 1 0)) 52 (cardNumber (suitOf c (getD t 0 0)) (rankOf c (firstCharacter (drop 1 t))))
+unfolding cardNamed
 card-long c [] h = absurd (omega arith)
 card-long c (s ∷ []) h = absurd (omega arith)
 card-long c (s ∷ r ∷ more) h = refl

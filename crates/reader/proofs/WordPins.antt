@@ -4,7 +4,7 @@ use mathlib.Core.Bool.{true, false}
 use mathlib.Core.List.{[], _∷_}
 use Rattle.tables.specs.Text.{ascii, isInside}
 use Rattle.tables.specs.Letters.{builtIn, capital, suitOf, honourOf, rankOf}
-use Rattle.reader.specs.Words.{levelOf, bidCode, isPass, underscoreCode, signCode, callOf, isMark, callPart, sectionEnd, isAllPass, isDoubling, contractTrump, isNoSide, isBothSides, vulnerabilityOf, cardNumber, cardOf}
+use Rattle.reader.specs.Words.{levelOf, bidCode, isPass, underscoreCode, signCode, callOf, isMark, callPart, sectionEnd, isAllPass, isDoubling, contractTrump, isNoSide, isBothSides, vulnerabilityOf, cardNumber, cardNamed}
 
 -- ---- calls
 
@@ -125,9 +125,9 @@ call-ap = refl
 -- ---- annotations and ends of sections
 
 -- The call before = ! ? or $ .
-pub part-note : callPart (ascii "1C=1=") ≡ ascii "1C"
+pub part-annotation : callPart (ascii "1C=1=") ≡ ascii "1C"
 unfolding isMark
-part-note = refl
+part-annotation = refl
 
 pub part-mark : callPart (ascii "Pass!?") ≡ ascii "Pass"
 unfolding isMark
@@ -303,64 +303,64 @@ vulnerable-empty = refl
 -- ---- cards
 
 -- The first and the last card; small letters; what follows is ignored.
-pub card-c2 : cardOf builtIn (ascii "C2") ≡ 0
-unfolding builtIn capital suitOf honourOf rankOf isInside cardNumber cardOf
+pub card-c2 : cardNamed builtIn (ascii "C2") ≡ 0
+unfolding builtIn capital suitOf honourOf rankOf isInside cardNumber cardNamed
 card-c2 = refl
 
-pub card-sa : cardOf builtIn (ascii "SA") ≡ 51
-unfolding builtIn capital suitOf honourOf rankOf isInside cardNumber cardOf
+pub card-sa : cardNamed builtIn (ascii "SA") ≡ 51
+unfolding builtIn capital suitOf honourOf rankOf isInside cardNumber cardNamed
 card-sa = refl
 
-pub card-s2 : cardOf builtIn (ascii "s2") ≡ 39
-unfolding builtIn capital suitOf honourOf rankOf isInside cardNumber cardOf
+pub card-s2 : cardNamed builtIn (ascii "s2") ≡ 39
+unfolding builtIn capital suitOf honourOf rankOf isInside cardNumber cardNamed
 card-s2 = refl
 
-pub card-ht : cardOf builtIn (ascii "ht") ≡ 34
-unfolding builtIn capital suitOf honourOf rankOf isInside cardNumber cardOf
+pub card-ht : cardNamed builtIn (ascii "ht") ≡ 34
+unfolding builtIn capital suitOf honourOf rankOf isInside cardNumber cardNamed
 card-ht = refl
 
-pub card-marked : cardOf builtIn (ascii "SA!") ≡ 51
-unfolding builtIn capital suitOf honourOf rankOf isInside cardNumber cardOf
+pub card-marked : cardNamed builtIn (ascii "SA!") ≡ 51
+unfolding builtIn capital suitOf honourOf rankOf isInside cardNumber cardNamed
 card-marked = refl
 
-pub card-accent : cardOf builtIn (83 ∷ 65 ∷ 33 ∷ 195 ∷ 169 ∷ []) ≡ 51
-unfolding builtIn capital suitOf honourOf rankOf isInside cardNumber cardOf
+pub card-accent : cardNamed builtIn (83 ∷ 65 ∷ 33 ∷ 195 ∷ 169 ∷ []) ≡ 51
+unfolding builtIn capital suitOf honourOf rankOf isInside cardNumber cardNamed
 card-accent = refl
 
 -- No rank, no suit, one character, none.
-pub card-s10 : cardOf builtIn (ascii "S10") ≡ 52
-unfolding builtIn capital suitOf honourOf rankOf isInside cardNumber cardOf
+pub card-s10 : cardNamed builtIn (ascii "S10") ≡ 52
+unfolding builtIn capital suitOf honourOf rankOf isInside cardNumber cardNamed
 card-s10 = refl
 
-pub card-back : cardOf builtIn (ascii "AS") ≡ 52
-unfolding builtIn capital suitOf honourOf rankOf isInside cardNumber cardOf
+pub card-back : cardNamed builtIn (ascii "AS") ≡ 52
+unfolding builtIn capital suitOf honourOf rankOf isInside cardNumber cardNamed
 card-back = refl
 
-pub card-one : cardOf builtIn (ascii "S") ≡ 52
-unfolding builtIn capital suitOf honourOf rankOf isInside cardNumber cardOf
+pub card-one : cardNamed builtIn (ascii "S") ≡ 52
+unfolding builtIn capital suitOf honourOf rankOf isInside cardNumber cardNamed
 card-one = refl
 
-pub card-empty : cardOf builtIn (ascii "") ≡ 52
-unfolding builtIn capital suitOf honourOf rankOf isInside cardNumber cardOf
+pub card-empty : cardNamed builtIn (ascii "") ≡ 52
+unfolding builtIn capital suitOf honourOf rankOf isInside cardNumber cardNamed
 card-empty = refl
 
-pub card-dash : cardOf builtIn (ascii "-") ≡ 52
-unfolding builtIn capital suitOf honourOf rankOf isInside cardNumber cardOf
+pub card-dash : cardNamed builtIn (ascii "-") ≡ 52
+unfolding builtIn capital suitOf honourOf rankOf isInside cardNumber cardNamed
 card-dash = refl
 
 -- Characters of more than one byte: a second one, an ace with an accent put on it, a first one, a suit followed by an accent.
-pub card-second-long : cardOf builtIn (83 ∷ 195 ∷ 169 ∷ []) ≡ 52
-unfolding builtIn capital suitOf honourOf rankOf isInside cardNumber cardOf
+pub card-second-long : cardNamed builtIn (83 ∷ 195 ∷ 169 ∷ []) ≡ 52
+unfolding builtIn capital suitOf honourOf rankOf isInside cardNumber cardNamed
 card-second-long = refl
 
-pub card-ace-accent : cardOf builtIn (83 ∷ 65 ∷ 128 ∷ []) ≡ 52
-unfolding builtIn capital suitOf honourOf rankOf isInside cardNumber cardOf
+pub card-ace-accent : cardNamed builtIn (83 ∷ 65 ∷ 128 ∷ []) ≡ 52
+unfolding builtIn capital suitOf honourOf rankOf isInside cardNumber cardNamed
 card-ace-accent = refl
 
-pub card-first-long : cardOf builtIn (195 ∷ 169 ∷ 65 ∷ []) ≡ 52
-unfolding builtIn capital suitOf honourOf rankOf isInside cardNumber cardOf
+pub card-first-long : cardNamed builtIn (195 ∷ 169 ∷ 65 ∷ []) ≡ 52
+unfolding builtIn capital suitOf honourOf rankOf isInside cardNumber cardNamed
 card-first-long = refl
 
-pub card-suit-accent : cardOf builtIn (83 ∷ 128 ∷ 65 ∷ []) ≡ 52
-unfolding builtIn capital suitOf honourOf rankOf isInside cardNumber cardOf
+pub card-suit-accent : cardNamed builtIn (83 ∷ 128 ∷ 65 ∷ []) ≡ 52
+unfolding builtIn capital suitOf honourOf rankOf isInside cardNumber cardNamed
 card-suit-accent = refl

@@ -15,7 +15,7 @@ use Rattle.tables.proofs.LetterLaws.{every-at}
 use Rattle.tables.proofs.RowLaws.{every-replicate}
 use Rattle.reader.proofs.WordLaws.{and-false}
 use Rattle.tables.proofs.LetterLaws.{suit-back, rank-back, strain-back}
-use Rattle.reader.specs.Words.{same, levelOf, bidCode, bidOf, bidToken, isPass, isUnderscore, underscoreCode, signCode, callOf, callToken, isMark, isCallByte, callPart, sectionEnd, isAllPass, isDoubling, trumpSuit, contractTrump, isNoSide, isBothSides, vulnerabilityOf, vulnerabilityToken, cardNumber, cardOf, cardToken}
+use Rattle.reader.specs.Words.{same, levelOf, bidCode, bidOf, bidToken, isPass, isUnderscore, underscoreCode, signCode, callOf, callToken, isMark, isCallByte, callPart, sectionEnd, isAllPass, isDoubling, trumpSuit, contractTrump, isNoSide, isBothSides, vulnerabilityOf, vulnerabilityToken, cardNumber, cardNamed, cardToken}
 
 -- ---- texts whose bytes all meet a test
 
@@ -254,8 +254,8 @@ module _ (c : Conventions) (ok : Accepted c) where
       rw t (omega arith, g .1))
 
   -- Every card is read back as it was written.
-  pub card-back : (k : ℕ) → k < 52 → cardOf c (cardToken c k) ≡ k
-  unfolding isInside cardNumber cardOf
+  pub card-back : (k : ℕ) → k < 52 → cardNamed c (cardToken c k) ≡ k
+  unfolding isInside cardNumber cardNamed
   card-back k h =
       let r = rank-range (k % 13) (omega arith) in
       rw (lt-leb 128 (rankLetter c (k % 13)) (omega arith), suit-back c ok (k / 13) (omega arith), rank-back c ok (k % 13) (omega arith), le-ltb 3 (k / 13) (omega arith), le-ltb 12 (k % 13) (omega arith))
@@ -293,8 +293,8 @@ module _ (c : Conventions) (ok : Accepted c) where
   not-card (x ∷ xs) = rw no-suit
 
   -- A card is read from the first two characters, as they are counted anywhere.
-  pub card-characters : (t : List ℕ) → cardOf c t ≡ cardIn c (characters t)
-  unfolding cardOf
+  pub card-characters : (t : List ℕ) → cardNamed c t ≡ cardIn c (characters t)
+  unfolding cardNamed
   card-characters [] = refl
   card-characters (s ∷ []) = refl
   card-characters (s ∷ r ∷ more) = by-cases (isInside r) (λ e. rw e (sym (not-card (starts more)))) (λ e. rw e)

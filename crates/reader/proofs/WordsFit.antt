@@ -11,7 +11,7 @@ use borrow.Author.Tests.{ltb-true}
 use Rattle.tables.specs.declared.letters.Conventions.{Conventions}
 use Rattle.tables.specs.Text.{lead, firstCharacter}
 use Rattle.tables.specs.Letters.{seatOf}
-use Rattle.tables.specs.Tables.{Reading, holds, refuses, gathered}
+use Rattle.tables.specs.Tables.{TableReading, holds, refuses, gathered}
 use Rattle.tables.proofs.Laws.{by-cases, clash}
 use Rattle.reader.specs.declared.store.Entry.{Entry}
 use Rattle.reader.specs.declared.tag.Span.{Span}
@@ -29,20 +29,20 @@ use Rattle.reader.specs.declared.board.State.{State}
 use Rattle.reader.specs.Lines.{lastBrace}
 use Rattle.reader.specs.Names.{tagNumber}
 use Rattle.reader.specs.Tag.{cut}
-use Rattle.reader.specs.Words.{cardOf, callOf, callPart, contractTrump, sectionEnd, isAllPass}
+use Rattle.reader.specs.Words.{cardNamed, callOf, callPart, contractTrump, sectionEnd, isAllPass}
 use Rattle.reader.specs.Pieces.{Piece, Out, outAll, andThen, entry, tokensOf}
 use Rattle.reader.specs.Auction.{callWith, callParts, callTokenOf, annotation, calledBy, called, calledPiece}
-use Rattle.reader.specs.Play.{noSlots, withSlot, isFull, winnerOf, trickEntry, newTrick, nextLeader, opened, taking, slotOf, withCard, isDash, played, playedBytes, playedToken, playedPiece, oneMore, lastTrick, Low}
+use Rattle.reader.specs.Play.{noSlots, withSlot, isFull, winnerOf, trickEntry, newTrick, nextLeader, opened, taking, slotOf, withCard, isGap, played, playedBytes, playedToken, playedPiece, oneMore, lastTrick, Low}
 use Rattle.reader.specs.Sections.{sectionData, walked, noWalk, walkedAll, rowedPiece}
-use Rattle.reader.specs.Boards.{isKeptContract, contractBy, applied, noSpan, noOpen, at, seatOpen, openBy, withSections, auctionClosed, playClosed, rowsClosed, tableClosed, lastEntries, closedBy, closed, adding, tagged, directed, dated, readBy, isAllWhite, noted, blocked, noState, recordOut}
-use Rattle.reader.specs.Plain.{tagOne, Anchored, free, next}
+use Rattle.reader.specs.Boards.{isKeptContract, contractBy, applied, noSpan, noOpen, at, seatOpen, openBy, withSections, auctionClosed, playClosed, rowsClosed, tableClosed, lastEntries, closedBy, closed, adding, tagged, directed, dataAdded, readBy, isAllWhite, withCommentary, blocked, noState, recordOut}
+use Rattle.reader.specs.Plain.{tagOne, AnchoredEntries, free, next}
 use Rattle.reader.proofs.EntryLaws.{All, none, one, all-append}
 use Rattle.reader.proofs.ApplyBounds.{seat-low, trump-low}
 use Rattle.reader.proofs.PlayLaws.{cond-low}
 use Rattle.reader.proofs.Counts.{chosen, EntriesFew}
 use Rattle.reader.proofs.PlainCalls.{call-low}
 use Rattle.reader.proofs.PlainAnchors.{TagsBefore}
-use Rattle.reader.proofs.PlainSteps.{RecordSteps}
+use Rattle.reader.proofs.PlainSteps.{HoldsOfRecord}
 
 -- ---- entries
 
@@ -103,8 +103,8 @@ token-low c t =
     chosen codeLow (eqb k 0) Annotation (callWith code k) (λ h. tt)
     (λ h. chosen codeLow (eqb code 47) NoCall (Call code k) (λ i. tt) (λ i. call-low c (take k t))))))
 
-note-said : (p n : ℕ) → All Said (annotation p n)
-note-said p n = chosen (λ es. All Said es) (ltb 0 n) (entry 7 p n 0 ∷ []) [] (λ e. one (other-said 7 p n 0 (omega arith) (omega arith)) none) (λ e. none)
+commentary-said : (p n : ℕ) → All Said (annotation p n)
+commentary-said p n = chosen (λ es. All Said es) (ltb 0 n) (entry 7 p n 0 ∷ []) [] (λ e. one (other-said 7 p n 0 (omega arith) (omega arith)) none) (λ e. none)
 
 token-step : (k : CallToken) (b : Bidding) (t : Piece) → codeLow k → Ends b → Step Ends (calledBy k b t)
 token-step Plus b t l h = record { left = omega arith; given = one (other-said 6 (t .at) (length (t .bytes)) 38 (omega arith) (omega arith)) none }
@@ -121,7 +121,7 @@ token-step Annotation b t l h =
 token-step (Call code k) b t l h =
     record {
       left = h;
-      given = one (other-said 6 (t .at) k code (omega arith) (omega arith)) (note-said (t .at + k) (length (t .bytes) - k));
+      given = one (other-said 6 (t .at) k code (omega arith) (omega arith)) (commentary-said (t .at + k) (length (t .bytes) - k));
     }
 token-step NoCall b t l h = record { left = h; given = none }
 
@@ -160,12 +160,12 @@ played-in : (c : Conventions) (lead trump : ℕ) (t : Tricks) (bytes : List ℕ)
 unfolding played
 played-in c lead trump t bytes h =
     let P : Tricks → Type 0 = λ x. InPlay x in
-    let v = cardOf c bytes in
+    let v = cardNamed c bytes in
     let k = slotOf lead (t .seat) (t .leader) in
     let s = withSlot (t .slots) k v in
     let card = withCard trump t s in
     let held = cond (ltb v 52) card t in
-    let dash = cond (isDash bytes) (taking t (t .end) false (t .seat + 1)) held in
+    let dash = cond (isGap bytes) (taking t (t .end) false (t .seat + 1)) held in
     let star = cond (eqb (sectionEnd bytes) 2) (taking t 2 true (t .seat)) dash in
     chosen P (eqb (sectionEnd bytes) 1) (taking t 1 false (t .seat + 1)) star
     (λ e. record { leader-low = h .leader-low; winner-low = h .winner-low; end-low = omega arith; slots-low = h .slots-low })
@@ -173,7 +173,7 @@ played-in c lead trump t bytes h =
     chosen P (eqb (sectionEnd bytes) 2) (taking t 2 true (t .seat)) dash
     (λ f. record { leader-low = h .leader-low; winner-low = h .winner-low; end-low = omega arith; slots-low = h .slots-low })
     (λ f.
-    chosen P (isDash bytes) (taking t (t .end) false (t .seat + 1)) held
+    chosen P (isGap bytes) (taking t (t .end) false (t .seat + 1)) held
     (λ g. record { leader-low = h .leader-low; winner-low = h .winner-low; end-low = h .end-low; slots-low = h .slots-low })
     (λ g.
     chosen P (ltb v 52) card t
@@ -280,7 +280,7 @@ record Ready (s : State) : Type 0 where
   kind-low : s .section .kind ≤ 3
   board-in : SectionsLow (s .board)
 
-rows-low : (b : Board) (x : Reading) → SectionsLow b → SectionsLow (rowsClosed b x)
+rows-low : (b : Board) (x : TableReading) → SectionsLow b → SectionsLow (rowsClosed b x)
 rows-low b (holds cells) h = record { auction-seat = h .auction-seat; auction-end = h .auction-end; play-seat = h .play-seat; play-end = h .play-end; trump-in = h .trump-in; contract-trump = h .contract-trump }
 rows-low b (refuses f) h = h
 
@@ -386,20 +386,20 @@ maybe-said : (b : Bool) (e : Entry) → Said e → All Said (cond b [] (e ∷ []
 maybe-said true e h = none
 maybe-said false e h = one h none
 
-dated-step : (s : State) (p : ℕ) (d : Span) → Ready s → Step Ready (dated s p d)
-dated-step s p d h =
+data-step : (s : State) (p : ℕ) (d : Span) → Ready s → Step Ready (dataAdded s p d)
+data-step s p d h =
     let k = s .section .kind in
     let e = entry 5 (p + d .start) (d .len) k in
     adding-step s (cond (eqb k 0) [] (e ∷ [])) h (maybe-said (eqb k 0) e (other-said 5 (p + d .start) (d .len) k (omega arith) (omega (arith, h .kind-low))))
 
-noted-ready : (s : State) (b : Bool) (n : ℕ) → Ready s → Ready (noted s b n)
-noted-ready s b n h = record { opener-low = h .opener-low; kind-low = h .kind-low; board-in = h .board-in }
+commentary-ready : (s : State) (b : Bool) (n : ℕ) → Ready s → Ready (withCommentary s b n)
+commentary-ready s b n h = record { opener-low = h .opener-low; kind-low = h .kind-low; board-in = h .board-in }
 
 blocked-step : (r : List ℕ) (s : State) (i j : ℕ) → Ready s → Step Ready (blocked r s i j)
 unfolding blocked
 blocked-step r s i j h =
     let e = entry 4 i (j - i) (s .tags) in
-    adding-step (noted s false 0) (cond (isAllWhite r i j) [] (e ∷ [])) (noted-ready s false 0 h) (maybe-said (isAllWhite r i j) e (block-said i (j - i) (s .tags)))
+    adding-step (withCommentary s false 0) (cond (isAllWhite r i j) [] (e ∷ [])) (commentary-ready s false 0 h) (maybe-said (isAllWhite r i j) e (block-said i (j - i) (s .tags)))
 
 then-step : (o k : Out State) → Step Ready o → Step Ready k → Step Ready (andThen o k)
 then-step o k a b = record { left = b .left; given = all-append (a .given) (b .given) }
@@ -413,7 +413,7 @@ reading-step c s p l q (WithComment t d) h =
 reading-step c s p l q (WithData t d) h =
     let o = tagged c s p l q t (at p d) in
     let a = tagged-step c s p l q t (at p d) h in
-    then-step o (dated (o .state) p d) a (dated-step (o .state) p d (a .left))
+    then-step o (dataAdded (o .state) p d) a (data-step (o .state) p d (a .left))
 
 -- ---- a record
 
@@ -431,17 +431,17 @@ record-step c r =
   where
     all-lines : Keeps noState (recordOut c r)
     all-lines =
-        RecordSteps c r (λ p s q o. Keeps s o)
+        HoldsOfRecord c r (λ p s q o. Keeps s o)
         record {
           together = λ p q z s o k a b. record { keeps = λ h. let x = a .keeps h in then-step o k x (b .keeps (x .left)) };
           closing = λ p s. record { keeps = closed-step c r s };
           idle = λ p s l i n. record { keeps = λ h. record { left = h; given = none } };
           quiet = λ p s l i n k. record { keeps = λ h. record { left = h; given = none } };
-          opening = λ p s l i n k b. record { keeps = λ h. record { left = noted-ready s true (p + length (lead l) + 1) h; given = none } };
+          opening = λ p s l i n k b. record { keeps = λ h. record { left = commentary-ready s true (p + length (lead l) + 1) h; given = none } };
           bracing = λ p s l i n k b. record { keeps = blocked-step r s (p + length (lead l) + 1) (p + lastBrace l) };
-          noting = λ p s l i n k. record { keeps = blocked-step r s (s .block) (p + lastBrace l) };
+          commentary = λ p s l i n k. record { keeps = blocked-step r s (s .block) (p + lastBrace l) };
           directing = λ p s l d i n k. record { keeps = directed-step s p d };
-          dating = λ p s l d i n k. record { keeps = dated-step s p d };
+          dating = λ p s l d i n k. record { keeps = data-step s p d };
           tagging = λ p s l t i k. record { keeps = reading-step c s p l (p + length l) t };
         }
 
@@ -460,7 +460,7 @@ pub record Fits (e : Entry) : Type 0 where
 tag-one : (e : Entry) → tagOne e ≤ 1
 tag-one e = cond-low (eqb (e .kind) 1) 1 0 1 (omega arith) (omega arith)
 
-all-fit : {n m : ℕ} {es : List Entry} → Anchored n es → All Said es → n + length es ≤ m → m < 4294967296 → All Fits es
+all-fit : {n m : ℕ} {es : List Entry} → AnchoredEntries n es → All Said es → n + length es ≤ m → m < 4294967296 → All Fits es
 all-fit free none h l = none
 all-fit {n = n} {m = m} (next {e = e} {es = es} k a) (one s b) h l =
     let z : e .z < 4294967296 = by-cases (isRemark (e .kind)) (λ t. omega (arith, k .marked t)) (λ t. s .mark-said t) in

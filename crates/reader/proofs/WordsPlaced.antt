@@ -12,9 +12,9 @@ use borrow.Author.Tests.{ne-eqb}
 use Rattle.tables.specs.declared.letters.Conventions.{Conventions}
 use Rattle.reader.specs.declared.store.Entry.{Entry}
 use Rattle.reader.specs.declared.board.Values.{Values}
-use Rattle.reader.specs.Store.{word, entryWords}
+use Rattle.reader.specs.Store.{lowWord, entryWords}
 use Rattle.reader.specs.Boards.{recordOut}
-use Rattle.reader.specs.Editions.{placed, valueWords, cardOf, cardsOf, entriesOf}
+use Rattle.reader.specs.Editions.{entryPlace, valueWords, cardOf, cardsOf, entriesOf}
 use Rattle.reader.specs.Fellows.{Stands, BoardAt}
 use Rattle.reader.proofs.EntryLaws.{All, none, one}
 use Rattle.reader.proofs.ApplyLaws.{AllPlaces}
@@ -47,33 +47,33 @@ pub stands-within : {A : Type 0} {l xs ws : List A} {n j : ℕ} → Stands l n x
 stands-within s t = rw (s .whole, ← (s .count)) (stands-right (s .before) (stands-left (s .after) t))
 
 -- Kinds are small.
-value-low : (k : ℕ) → valueKind k → word k ≡ k
+value-low : (k : ℕ) → valueKind k → lowWord k ≡ k
 value-low k e = omega arith
 
-call-low : (k : ℕ) → callKind k → word k ≡ k
+call-low : (k : ℕ) → callKind k → lowWord k ≡ k
 call-low k (inl e) = omega arith
 call-low k (inr e) = omega arith
 
-trick-low : (k : ℕ) → trickKind k → word k ≡ k
+trick-low : (k : ℕ) → trickKind k → lowWord k ≡ k
 trick-low k e = omega arith
 
-kind-word : (K : ℕ → Type 0) → ((k : ℕ) → K k → word k ≡ k) → (a : ℕ) (e : Entry) → K (e .kind) → K (getD (entryWords a e) 0 0)
+kind-word : (K : ℕ → Type 0) → ((k : ℕ) → K k → lowWord k ≡ k) → (a : ℕ) (e : Entry) → K (e .kind) → K (getD (entryWords a e) 0 0)
 unfolding entryWords
 kind-word K low a e h = rw (low (e .kind) h) h
 
-points-word : {K : ℕ → Type 0} (low : (k : ℕ) → K k → word k ≡ k) {E : List (List ℕ)} {es : List Entry} (a n : ℕ) {first count : ℕ}
+points-word : {K : ℕ → Type 0} (low : (k : ℕ) → K k → lowWord k ≡ k) {E : List (List ℕ)} {es : List Entry} (a n : ℕ) {first count : ℕ}
     → Stands E n (map (entryWords a) es) → length E < 4294967295 → Points K es first count
-    → WordPoints K E (word n) (word n + word (length es)) (placed n first) (word count)
+    → WordPoints K E (lowWord n) (lowWord n + lowWord (length es)) (entryPlace n first) (lowWord count)
 points-word low a n s fit (absent e) = no-word (rw e)
 points-word {K} low {E} {es} a n {first} {count} s fit (there j run e t l ks) =
     let u = stands-within s (stands-map (entryWords a) t) in
     let own = rw length-map at (stands-fit s) in
     let in-own = stands-fit t in
-    let en : word n ≡ n = omega arith in
-    let ee : word (length es) ≡ length es = omega arith in
-    let ec : word count ≡ count = omega arith in
+    let en : lowWord n ≡ n = omega arith in
+    let ee : lowWord (length es) ≡ length es = omega arith in
+    let ec : lowWord count ≡ count = omega arith in
     let z : eqb first 0 ≡ false = ne-eqb first 0 (λ x. omega arith) in
-    let ef : word (n + first) ≡ n + j + 1 = omega arith in
+    let ef : lowWord (n + first) ≡ n + j + 1 = omega arith in
     at-word (n + j) (map (entryWords a) run) (rw z ef) (omega arith) (omega arith) u (rw (length-map, ec) l) (all-words (entryWords a) (kind-word K low a) ks)
 
 all-get : {P : ℕ → Type 0} {l : List ℕ} → All P l → (i : ℕ) → i < length l → P (getD l i 0)
@@ -81,7 +81,7 @@ all-get none i h = absurd (omega arith)
 all-get (one p a) zero h = p
 all-get (one p a) (suc i) h = all-get a i (omega arith)
 
-values-all : {P Q : ℕ → Type 0} (n : ℕ) (v : Values) → ((x : ℕ) → P x → Q (placed n x)) → AllPlaces P v → All Q (valueWords n v)
+values-all : {P Q : ℕ → Type 0} (n : ℕ) (v : Values) → ((x : ℕ) → P x → Q (entryPlace n x)) → AllPlaces P v → All Q (valueWords n v)
 values-all n v f a =
     one (f _ (a .id-place))
     (one (f _ (a .event-place))
@@ -109,13 +109,13 @@ CardsPlaced c text k a n r short h =
     let inside = RecordEnds (h .record-at) in
     let e0 = word-0 c a n r in
     let e1 = word-1 c a n r in
-    let en : word n ≡ n = omega arith in
-    let ee : word (length es) ≡ length es = omega arith in
+    let en : lowWord n ≡ n = omega arith in
+    let ee : lowWord (length es) ≡ length es = omega arith in
     let e60 : getD (cardOf c a n r) 60 0 ≡ a = word-back c a n r 22 ∙ omega arith in
     let e61 : getD (cardOf c a n r) 61 0 ≡ a + length r = word-back c a n r 23 ∙ omega arith in
     record {
       own = omega arith;
-      values = λ i l. rw (e0, e1, value-word c a n r i l) (all-get {P = λ w. WordPoints valueKind (entriesOf c text) (word n) (word n + word (length es)) w 1} (values-all n (b .values) (λ x q. points-word value-low a n s fit q) (p .values)) i l);
+      values = λ i l. rw (e0, e1, value-word c a n r i l) (all-get {P = λ w. WordPoints valueKind (entriesOf c text) (lowWord n) (lowWord n + lowWord (length es)) w 1} (values-all n (b .values) (λ x q. points-word value-low a n s fit q) (p .values)) i l);
       auction = rw (e0, e1, word-back c a n r 13, word-back c a n r 14) (points-word call-low a n s fit (p .auction));
       play = rw (e0, e1, word-back c a n r 17, word-back c a n r 18) (points-word trick-low a n s fit (p .play));
       starts = omega arith;

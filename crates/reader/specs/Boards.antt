@@ -12,7 +12,7 @@ use Rattle.tables.specs.declared.numbers.Number.the-variants.{Value, Bad}
 use Rattle.tables.specs.Text.{isWhite, lead, trimmed, firstCharacter}
 use Rattle.tables.specs.Numbers.{numberOf, signedOf}
 use Rattle.tables.specs.Letters.{seatOf, every}
-use Rattle.tables.specs.Tables.{Reading, holds, refuses, tableOfDigits, gathered}
+use Rattle.tables.specs.Tables.{TableReading, holds, refuses, tableOfDigits, gathered}
 use Rattle.reader.specs.declared.store.Entry.{Entry}
 use Rattle.reader.specs.declared.tag.Span.{Span}
 use Rattle.reader.specs.declared.tag.Tag.{Tag}
@@ -40,7 +40,7 @@ use Rattle.reader.specs.Pieces.{Out, Emits, andThen, entry, rawLines}
 use Rattle.reader.specs.Tag.{cut}
 use Rattle.reader.specs.Play.{lastTrick}
 use Rattle.reader.specs.Store.{putAll, entryWords}
-use Rattle.reader.specs.Sections.{noteAfter, walkedAll, countOf}
+use Rattle.reader.specs.Sections.{commentaryAfter, walkedAll, walkCount}
 
 -- ---- what a tag's value does to a board
 
@@ -83,7 +83,7 @@ unfoldable pub dealBy : Conventions → ℕ → List ℕ → DealCard → DealCa
 dealBy c k value d = cond (eqb k dealName) (dealRead (dealOf c value) value d) d
 
 -- DoubleDummyTricks: never over a table of an OptimumResultTable; bad digits take an earlier one away.
-abbrev pub digitsTable : Reading → TableCard
+abbrev pub digitsTable : TableReading → TableCard
 digitsTable (holds cells) = record { kind = 1; cells = cells }
 digitsTable (refuses f) = record { kind = 0; cells = replicate 20 0 }
 
@@ -185,7 +185,7 @@ playClosed b o n w =
     (withSections b (b .table) (b .auction) (record { first = n + 1; count = lastTrick (w .tricks) .state .count; seat = o .seat; end = w .tricks .end }) (b .contract))
     b
 
-abbrev pub rowsClosed : Board → Reading → Board
+abbrev pub rowsClosed : Board → TableReading → Board
 rowsClosed b (holds cells) = withSections b (record { kind = 2; cells = cells }) (b .auction) (b .play) (b .trump)
 rowsClosed b (refuses f) = b
 
@@ -203,7 +203,7 @@ abbrev pub closedEntries : Open → Out Walk → List Entry
 closedEntries o w = w .entries ++ lastEntries (o .kind) (w .state)
 
 abbrev pub closedState : State → Board → ℕ → State
-closedState s b k = record { board = b; section = noOpen; tags = s .tags; n = s .n + k; noting = s .noting; block = s .block }
+closedState s b k = record { board = b; section = noOpen; tags = s .tags; n = s .n + k; commentary = s .commentary; block = s .block }
 
 abbrev pub closedBy : State → Out Walk → Out State
 closedBy s w =
@@ -218,7 +218,7 @@ closed c r s = cond (eqb (s .section .kind) 0) (record { state = s; entries = []
 -- ---- lines
 
 abbrev pub countedState : State → ℕ → State
-countedState s k = record { board = s .board; section = s .section; tags = s .tags; n = s .n + k; noting = s .noting; block = s .block }
+countedState s k = record { board = s .board; section = s .section; tags = s .tags; n = s .n + k; commentary = s .commentary; block = s .block }
 
 abbrev pub adding : State → List Entry → Out State
 adding s es = record { state = countedState s (length es); entries = es }
@@ -232,7 +232,7 @@ tagged c s p l q t split =
         section = openBy c (tagNumber (cut (t .name) l)) (cut (t .value) l) q split;
         tags = s .tags + 1;
         n = s .n + 2;
-        noting = false;
+        commentary = false;
         block = s .block;
       };
       entries = entry 1 (p + t .name .start) (t .name .len) 0 ∷ entry 2 (p + t .value .start) (t .value .len) 0 ∷ [];
@@ -250,8 +250,8 @@ abbrev pub dataOut : ℕ → ℕ → Span → Out ℕ
 dataOut kind p d = record { state = length (dataEntries kind p d); entries = dataEntries kind p d }
 
 -- A data line, where a section is open.
-abbrev pub dated : State → ℕ → Span → Out State
-dated s p d = adding s (dataEntries (s .section .kind) p d)
+abbrev pub dataAdded : State → ℕ → Span → Out State
+dataAdded s p d = adding s (dataEntries (s .section .kind) p d)
 
 abbrev pub at : ℕ → Span → Span
 at p d = record { start = p + d .start; len = d .len }
@@ -270,30 +270,30 @@ splitIn p (WithData t d) = at p d
 abbrev pub readBy : Conventions → State → ℕ → List ℕ → ℕ → TagReading → Out State
 readBy c s p l q (Plain t) = tagged c s p l q t noSpan
 readBy c s p l q (WithComment t d) = andThen (tagged c s p l q t noSpan) (directed (tagged c s p l q t noSpan .state) p d)
-readBy c s p l q (WithData t d) = andThen (tagged c s p l q t (at p d)) (dated (tagged c s p l q t (at p d) .state) p d)
+readBy c s p l q (WithData t d) = andThen (tagged c s p l q t (at p d)) (dataAdded (tagged c s p l q t (at p d) .state) p d)
 
-unfoldable pub readTag : Conventions → List ℕ → State → ℕ → List ℕ → TagReading → Out State
-readTag c r s p l t = andThen (closed c r s) (readBy c (closed c r s .state) p l (p + length l) t)
+unfoldable pub tagLineOut : Conventions → List ℕ → State → ℕ → List ℕ → TagReading → Out State
+tagLineOut c r s p l t = andThen (closed c r s) (readBy c (closed c r s .state) p l (p + length l) t)
 
 -- A commentary block of the record r, from i to j: raw bytes; one of white space alone has no entry.
 abbrev pub isAllWhite : List ℕ → ℕ → ℕ → Bool
 isAllWhite r i j = every isWhite (cut (record { start = i; len = j - i }) r)
 
-abbrev pub noted : State → Bool → ℕ → State
-noted s noting block = record { board = s .board; section = s .section; tags = s .tags; n = s .n; noting = noting; block = block }
+abbrev pub withCommentary : State → Bool → ℕ → State
+withCommentary s commentary block = record { board = s .board; section = s .section; tags = s .tags; n = s .n; commentary = commentary; block = block }
 
 unfoldable pub blocked : List ℕ → State → ℕ → ℕ → Out State
-blocked r s i j = adding (noted s false 0) (cond (isAllWhite r i j) [] (entry 4 i (j - i) (s .tags) ∷ []))
+blocked r s i j = adding (withCommentary s false 0) (cond (isAllWhite r i j) [] (entry 4 i (j - i) (s .tags) ∷ []))
 
 -- A line that opens commentary; its block starts after the `{`.
 unfoldable pub braced : List ℕ → State → ℕ → List ℕ → Out State
 braced r s p l =
     cond (hasBrace l) (blocked r s (p + length (lead l) + 1) (p + lastBrace l))
-    (record { state = noted s true (p + length (lead l) + 1); entries = [] })
+    (record { state = withCommentary s true (p + length (lead l) + 1); entries = [] })
 
 -- A line inside commentary.
-unfoldable pub inNote : List ℕ → State → ℕ → List ℕ → Out State
-inNote r s p l = cond (hasBrace l) (blocked r s (s .block) (p + lastBrace l)) (record { state = s; entries = [] })
+unfoldable pub inCommentary : List ℕ → State → ℕ → List ℕ → Out State
+inCommentary r s p l = cond (hasBrace l) (blocked r s (s .block) (p + lastBrace l)) (record { state = s; entries = [] })
 
 -- A line that adds nothing.
 abbrev pub unchanged : State → Out State
@@ -303,13 +303,13 @@ abbrev pub lineBy : Conventions → List ℕ → State → ℕ → List ℕ → 
 lineBy c r s p l Blank = record { state = s; entries = [] }
 lineBy c r s p l Brace = braced r s p l
 lineBy c r s p l (Directive d) = directed s p d
-lineBy c r s p l (TagOn t) = readTag c r s p l t
+lineBy c r s p l (TagOn t) = tagLineOut c r s p l t
 lineBy c r s p l Bracket = record { state = s; entries = [] }
-lineBy c r s p l (Data d) = dated s p d
+lineBy c r s p l (Data d) = dataAdded s p d
 
 -- One line of the record r, at p.
 unfoldable pub lineOut : Conventions → List ℕ → State → ℕ → List ℕ → Out State
-lineOut c r s p l = cond (s .noting) (inNote r s p l) (lineBy c r s p l (lineKind l))
+lineOut c r s p l = cond (s .commentary) (inCommentary r s p l) (lineBy c r s p l (lineKind l))
 
 -- The record's lines from p on; at its end an open section is closed.
 abbrev pub linesOut : Conventions → List ℕ → State → ℕ → List (List ℕ) → Out State
@@ -335,7 +335,7 @@ noBoard =
     }
 
 abbrev pub noState : State
-noState = record { board = noBoard; section = noOpen; tags = 0; n = 0; noting = false; block = 0 }
+noState = record { board = noBoard; section = noOpen; tags = 0; n = 0; commentary = false; block = 0 }
 
 -- What the text of a record reads as: its board, and its entries.
 unfoldable pub recordOut : Conventions → List ℕ → Out State
@@ -358,6 +358,6 @@ pub record Stepped (a n q : ℕ) (entries entries′ : List ℕ) (r : State) (o 
 
 -- The contract of storing the last trick behind the entries of a section that stand from n on; r is how many there then are.
 pub record LastStored (a n kind : ℕ) (w : Walk) (entries entries′ : List ℕ) (r : ℕ) : Type 0 where
-  pub stored : entries′ ≡ putAll 4 entries (n + countOf w) (map (entryWords a) (lastEntries kind w))
-  pub counted : r ≡ countOf w + length (lastEntries kind w)
-  pub few : r ≤ countOf w + 1
+  pub stored : entries′ ≡ putAll 4 entries (n + walkCount w) (map (entryWords a) (lastEntries kind w))
+  pub counted : r ≡ walkCount w + length (lastEntries kind w)
+  pub few : r ≤ walkCount w + 1

@@ -29,9 +29,9 @@ unfoldable pub has : ℕ → ℕ → Bool
 has k x = eqb (bit k x) 1
 
 -- The number of a list of cards: the sum of their bits.
-abbrev pub total : List ℕ → ℕ
-total [] = 0
-total (k ∷ ks) = 2 ^ k + total ks
+abbrev pub handBits : List ℕ → ℕ
+handBits [] = 0
+handBits (k ∷ ks) = 2 ^ k + handBits ks
 
 -- How many of the lowest n bits of x are 1.
 unfoldable pub ones : ℕ → ℕ → ℕ
@@ -49,17 +49,17 @@ wholeHands h = ((eqb (cardCount (h .north)) 13 && eqb (cardCount (h .east)) 13) 
 -- ---- a hand's text
 
 -- A card before the others, where the others could be read.
-abbrev pub withCard : ℕ → Option (List ℕ) → Option (List ℕ)
-withCard k none = none
-withCard k (some ks) = some (k ∷ ks)
+abbrev pub cardBefore : ℕ → Option (List ℕ) → Option (List ℕ)
+cardBefore k none = none
+cardBefore k (some ks) = some (k ∷ ks)
 
 -- The cards that a text names, its suits from s down to clubs (0): a dot (46) ends a suit, any other byte is a rank's letter.
-abbrev pub cardsIn : Conventions → List ℕ → ℕ → Option (List ℕ)
-cardsIn c [] s = cond (eqb s 0) (some []) none
-cardsIn c (b ∷ bs) s =
+abbrev pub cardsFromSuit : Conventions → List ℕ → ℕ → Option (List ℕ)
+cardsFromSuit c [] s = cond (eqb s 0) (some []) none
+cardsFromSuit c (b ∷ bs) s =
     cond (eqb b 46)
-    (cond (eqb s 0) none (cardsIn c bs (s - 1)))
-    (cond (eqb (rankOf c b) 13) none (withCard (13 * s + rankOf c b) (cardsIn c bs s)))
+    (cond (eqb s 0) none (cardsFromSuit c bs (s - 1)))
+    (cond (eqb (rankOf c b) 13) none (cardBefore (13 * s + rankOf c b) (cardsFromSuit c bs s)))
 
 -- At most n cards.
 abbrev pub atMost : ℕ → Option (List ℕ) → Option (List ℕ)
@@ -74,26 +74,26 @@ isDash (b ∷ d ∷ bs) = false
 
 -- The cards of a hand: a dash is none, else four suits from spades (3) down, at most 13 cards in all.
 unfoldable pub cardsNamed : Conventions → List ℕ → Option (List ℕ)
-cardsNamed c t = cond (isDash t) (some []) (atMost 13 (cardsIn c t 3))
+cardsNamed c t = cond (isDash t) (some []) (atMost 13 (cardsFromSuit c t 3))
 
 -- ---- a deal's text
 
 -- A hand before the others.
-abbrev pub withHand : Option (List ℕ) → Option (List (List ℕ)) → Option (List (List ℕ))
-withHand none hs = none
-withHand (some ks) none = none
-withHand (some ks) (some hs) = some (ks ∷ hs)
+abbrev pub handBefore : Option (List ℕ) → Option (List (List ℕ)) → Option (List (List ℕ))
+handBefore none hs = none
+handBefore (some ks) none = none
+handBefore (some ks) (some hs) = some (ks ∷ hs)
 
 -- The cards of each hand, where each can be read.
 abbrev pub allNamed : Conventions → List (List ℕ) → Option (List (List ℕ))
 allNamed c [] = some []
-allNamed c (t ∷ ts) = withHand (cardsNamed c t) (allNamed c ts)
+allNamed c (t ∷ ts) = handBefore (cardsNamed c t) (allNamed c ts)
 
 -- Four hands, the first as N's; no card may stand twice in the deal.
 abbrev pub dealt : List ℕ → List ℕ → List ℕ → List ℕ → DealRead
 dealt n e s w =
     cond (distinct (n ++ (e ++ (s ++ w))))
-    (Dealt (record { north = total n; east = total e; south = total s; west = total w }))
+    (Dealt (record { north = handBits n; east = handBits e; south = handBits s; west = handBits w }))
     NoDeal
 
 -- Exactly four hands.
@@ -166,12 +166,12 @@ abbrev pub place : ℕ → List ℕ → HandRead
 place x [] = Held x
 place x (k ∷ ks) = cond (has k x) NoHand (place (x + 2 ^ k) ks)
 
-abbrev pub placed : ℕ → Option (List ℕ) → HandRead
-placed x none = NoHand
-placed x (some ks) = place x ks
+abbrev pub cardsPlaced : ℕ → Option (List ℕ) → HandRead
+cardsPlaced x none = NoHand
+cardsPlaced x (some ks) = place x ks
 
 unfoldable pub handInto : Conventions → ℕ → List ℕ → HandRead
-handInto c x t = placed x (cardsNamed c t)
+handInto c x t = cardsPlaced x (cardsNamed c t)
 
 unfoldable pub addCard : Conventions → ℕ → ℕ → ℕ → HandRead
 addCard c x s b = cond (eqb (rankOf c b) 13) NoHand (cond (has (13 * s + rankOf c b) x) NoHand (Held (x + 2 ^ (13 * s + rankOf c b))))
@@ -190,13 +190,13 @@ stepOf c h b =
 unfoldable pub endOf : PartHand → HandRead
 endOf h = cond (eqb (h .suit) 0) (Held (h .cards)) NoHand
 
-abbrev pub andThen : HandStep → (PartHand → HandRead) → HandRead
-andThen Off f = NoHand
-andThen (To h) f = f h
+abbrev pub afterStep : HandStep → (PartHand → HandRead) → HandRead
+afterStep Off f = NoHand
+afterStep (To h) f = f h
 
 abbrev pub runFrom : Conventions → List ℕ → PartHand → HandRead
 runFrom c [] h = endOf h
-runFrom c (b ∷ bs) h = andThen (stepOf c h b) (λ k. runFrom c bs k)
+runFrom c (b ∷ bs) h = afterStep (stepOf c h b) (λ k. runFrom c bs k)
 
 abbrev pub startHand : ℕ → PartHand
 startHand x = record { cards = x; suit = 3; room = 13 }

@@ -14,8 +14,8 @@ use Rattle.reader.specs.declared.edition.ReadRefusal.{ReadRefusal}
 use Rattle.reader.specs.declared.edition.ReadRefusal.the-variants.{Overlong, BoxFull, ListFull}
 use Rattle.reader.specs.declared.edition.Reading.{Reading}
 use Rattle.reader.specs.declared.edition.Reading.the-variants.{Taken, Refused}
-use Rattle.reader.specs.declared.edition.Totals.{Totals}
-use Rattle.reader.specs.Store.{word, zeros, put, putAll, lent, entryWords}
+use Rattle.reader.specs.declared.edition.Counts.{Counts}
+use Rattle.reader.specs.Store.{lowWord, zeros, put, putAll, lent, entryWords}
 use Rattle.reader.specs.Boards.{recordOut}
 use Rattle.reader.specs.Records.{recordsOf}
 
@@ -39,38 +39,38 @@ isTaken (Refused f) = false
 -- ---- the 64 words of a card
 
 -- An entry of the record, plus 1, as one of the edition, before whose record n entries stand; 0 stays absent.
-abbrev pub placed : ℕ → ℕ → ℕ
-placed n x = cond (eqb x 0) 0 (word (n + x))
+abbrev pub entryPlace : ℕ → ℕ → ℕ
+entryPlace n x = cond (eqb x 0) 0 (lowWord (n + x))
 
 -- Words 0 to 9: entries, number, dealer, vulnerability (None where none was read), declarer, result, deal.
 abbrev pub headWords : ℕ → ℕ → Board → List ℕ
 headWords n count b =
-    word n ∷ word count
-    ∷ word (b .id .«number_met») ∷ word (b .id .number)
-    ∷ word (b .id .dealer) ∷ word (cond (eqb (b .id .vulnerability) 4) 0 (b .id .vulnerability))
-    ∷ word (b .id .declarer)
-    ∷ word (b .id .«result_met») ∷ word (b .id .result)
-    ∷ word (b .deal .kind) ∷ []
+    lowWord n ∷ lowWord count
+    ∷ lowWord (b .id .«number_met») ∷ lowWord (b .id .number)
+    ∷ lowWord (b .id .dealer) ∷ lowWord (cond (eqb (b .id .vulnerability) 4) 0 (b .id .vulnerability))
+    ∷ lowWord (b .id .declarer)
+    ∷ lowWord (b .id .«result_met») ∷ lowWord (b .id .result)
+    ∷ lowWord (b .deal .kind) ∷ []
 
 -- Words 39 to 50: value entries.
 abbrev pub valueWords : ℕ → Values → List ℕ
 valueWords n v =
-    placed n (v .id) ∷ placed n (v .event) ∷ placed n (v .site) ∷ placed n (v .date) ∷ placed n (v .contract)
-    ∷ placed n (v .north) ∷ placed n (v .east) ∷ placed n (v .south) ∷ placed n (v .west)
-    ∷ placed n (v .deal) ∷ placed n (v .score) ∷ placed n (v .par) ∷ []
+    entryPlace n (v .id) ∷ entryPlace n (v .event) ∷ entryPlace n (v .site) ∷ entryPlace n (v .date) ∷ entryPlace n (v .contract)
+    ∷ entryPlace n (v .north) ∷ entryPlace n (v .east) ∷ entryPlace n (v .south) ∷ entryPlace n (v .west)
+    ∷ entryPlace n (v .deal) ∷ entryPlace n (v .score) ∷ entryPlace n (v .par) ∷ []
 
 -- Words 51 to 54 and 55 to 58: first entry, entries, seat, end.
 abbrev pub sectionWords : ℕ → Section → List ℕ
-sectionWords n s = placed n (s .first) ∷ word (s .count) ∷ word (s .seat) ∷ word (s .end) ∷ []
+sectionWords n s = entryPlace n (s .first) ∷ lowWord (s .count) ∷ lowWord (s .seat) ∷ lowWord (s .end) ∷ []
 
 -- Words 59 to 63: trump, record start and end, two zeros.
 abbrev pub tailWords : ℕ → ℕ → Board → List ℕ
-tailWords start end b = word (b .trump) ∷ word start ∷ word end ∷ 0 ∷ 0 ∷ []
+tailWords start end b = lowWord (b .trump) ∷ lowWord start ∷ lowWord end ∷ 0 ∷ 0 ∷ []
 
 -- Words 38 to 63: the table, values, auction, play, and the tail.
 abbrev pub backWords : ℕ → ℕ → ℕ → Board → List ℕ
 backWords start end n b =
-    (word (b .table .kind) ∷ valueWords n (b .values)) ++ sectionWords n (b .auction) ++ sectionWords n (b .play) ++ tailWords start end b
+    (lowWord (b .table .kind) ∷ valueWords n (b .values)) ++ sectionWords n (b .auction) ++ sectionWords n (b .play) ++ tailWords start end b
 
 -- Words 10 to 17 are the hands, 18 to 37 the cells. The card of a record from start to end, with n entries before it and count of its
 -- own.
@@ -100,15 +100,15 @@ unfoldable pub entriesOf : Conventions → List ℕ → List (List ℕ)
 entriesOf c text = entriesFrom c 0 (recordsOf text)
 
 -- The answer for lc lent card words and le lent entry words; a tail too short for a card or an entry counts as none.
-abbrev pub verdict : ℕ → ℕ → ℕ → ℕ → Reading
-verdict lc le boards entries =
+abbrev pub countsAnswer : ℕ → ℕ → ℕ → ℕ → Reading
+countsAnswer lc le boards entries =
     cond (ltb (lc / 64) boards) (Refused (BoxFull boards))
     (cond (ltb (le / 4) entries) (Refused (ListFull entries)) (Taken boards entries))
 
 unfoldable pub readingOf : Conventions → List ℕ → ℕ → ℕ → Reading
 readingOf c text lc le =
     cond (ltb 16777215 (length text)) (Refused (Overlong (length text)))
-    (verdict lc le (length (cardsOf c text)) (length (entriesOf c text)))
+    (countsAnswer lc le (length (cardsOf c text)) (length (entriesOf c text)))
 
 -- ---- contracts
 
@@ -120,21 +120,21 @@ pub record RecordIn (c : Conventions) (r : List ℕ) (a k n : ℕ) (cards entrie
   pub whole : length (cardOf c a n r) ≡ 64
 
 -- Every card has 64 words.
-pub data Whole : List (List ℕ) → Type 0 where
-  none : Whole []
-  one : {x : List ℕ} {xs : List (List ℕ)} → length x ≡ 64 → Whole xs → Whole (x ∷ xs)
+pub data FullCards : List (List ℕ) → Type 0 where
+  none : FullCards []
+  one : {x : List ℕ} {xs : List (List ℕ)} → length x ≡ 64 → FullCards xs → FullCards (x ∷ xs)
 
 -- All records of a text read.
-pub record AllIn (c : Conventions) (text cards entries : List ℕ) (r : Totals) (cards′ entries′ : List ℕ) : Type 0 where
+pub record AllIn (c : Conventions) (text cards entries : List ℕ) (r : Counts) (cards′ entries′ : List ℕ) : Type 0 where
   pub boards : r .boards ≡ length (cardsOf c text)
   pub count : r .entries ≡ length (entriesOf c text)
   pub cards-put : cards′ ≡ putAll 64 cards 0 (cardsOf c text)
   pub entries-put : entries′ ≡ putAll 4 entries 0 (entriesOf c text)
-  pub whole : Whole (cardsOf c text)
+  pub whole : FullCards (cardsOf c text)
 
 -- The answer for the counts, and the words: as they were, or zeros after a refusal.
-pub record Finished (cards entries : List ℕ) (boards n : ℕ) (r : Reading) (cards′ entries′ : List ℕ) : Type 0 where
-  pub answer : r ≡ verdict (length cards) (length entries) boards n
+pub record ReadingEnded (cards entries : List ℕ) (boards n : ℕ) (r : Reading) (cards′ entries′ : List ℕ) : Type 0 where
+  pub answer : r ≡ countsAnswer (length cards) (length entries) boards n
   pub cards-after : cards′ ≡ cond (isTaken r) cards (zeros cards)
   pub entries-after : entries′ ≡ cond (isTaken r) entries (zeros entries)
 

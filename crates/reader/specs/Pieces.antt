@@ -9,15 +9,15 @@ use Rattle.reader.specs.declared.store.Entry.{Entry}
 use Rattle.reader.specs.Store.{putAll, entryWords}
 
 -- A byte in front of lines: an LF is a line of its own, any other byte goes in front of the first line.
-abbrev pub glue : Bool → ℕ → List (List ℕ) → List (List ℕ)
-glue true b ls = (b ∷ []) ∷ ls
-glue false b [] = (b ∷ []) ∷ []
-glue false b (l ∷ ls) = (b ∷ l) ∷ ls
+abbrev pub joinLine : Bool → ℕ → List (List ℕ) → List (List ℕ)
+joinLine true b ls = (b ∷ []) ∷ ls
+joinLine false b [] = (b ∷ []) ∷ []
+joinLine false b (l ∷ ls) = (b ∷ l) ∷ ls
 
 -- The lines of a text, each with its LF (10); the last may have none.
 abbrev pub rawLines : List ℕ → List (List ℕ)
 rawLines [] = []
-rawLines (b ∷ bs) = glue (eqb b 10) b (rawLines bs)
+rawLines (b ∷ bs) = joinLine (eqb b 10) b (rawLines bs)
 
 -- Bytes with the place where they stand in their record.
 pub record Piece : Type 0 where

@@ -276,9 +276,9 @@ pub record Marked (n : ℕ) (e : Entry) : Type 0 where
   pub marked : (eqb (e .kind) 3 || eqb (e .kind) 4) ≡ true → e .z ≡ n
 
 -- Entries with n tags before the first: each directive and each block has the number of tags before it.
-pub data Anchored : ℕ → List Entry → Type 0 where
-  free : {n : ℕ} → Anchored n []
-  next : {n : ℕ} {e : Entry} {es : List Entry} → Marked n e → Anchored (n + tagOne e) es → Anchored n (e ∷ es)
+pub data AnchoredEntries : ℕ → List Entry → Type 0 where
+  free : {n : ℕ} → AnchoredEntries n []
+  next : {n : ℕ} {e : Entry} {es : List Entry} → Marked n e → AnchoredEntries (n + tagOne e) es → AnchoredEntries n (e ∷ es)
 
 -- ---- what can be written
 

@@ -10,7 +10,7 @@ use Rattle.reader.specs.declared.play.Slots.{Slots}
 use Rattle.reader.specs.declared.play.Tricks.{Tricks}
 use Rattle.reader.specs.Pieces.{Piece, Out, outAll, entry, tokensOf}
 use Rattle.tables.specs.Text.{ascii}
-use Rattle.reader.specs.Words.{same, cardOf, sectionEnd}
+use Rattle.reader.specs.Words.{same, cardNamed, sectionEnd}
 
 -- The four slots of a trick, 255 for an empty one, else 13 × suit + rank.
 abbrev pub noSlots : Slots
@@ -92,16 +92,16 @@ withCard trump t s =
     }
 
 -- An unknown card.
-unfoldable pub isDash : List ℕ → Bool
-isDash t = same (ascii "-") t
+unfoldable pub isGap : List ℕ → Bool
+isGap t = same (ascii "-") t
 
 -- `+` takes a seat and sets the end; `*` stops; `-` takes a seat; a card takes the next seat's slot; any other token nothing.
 unfoldable pub played : Conventions → ℕ → ℕ → Tricks → List ℕ → Tricks
 played c lead trump t bytes =
     cond (eqb (sectionEnd bytes) 1) (taking t 1 false (t .seat + 1))
     (cond (eqb (sectionEnd bytes) 2) (taking t 2 true (t .seat))
-    (cond (isDash bytes) (taking t (t .end) false (t .seat + 1))
-    (cond (ltb (cardOf c bytes) 52) (withCard trump t (withSlot (t .slots) (slotOf lead (t .seat) (t .leader)) (cardOf c bytes))) t)))
+    (cond (isGap bytes) (taking t (t .end) false (t .seat + 1))
+    (cond (ltb (cardNamed c bytes) 52) (withCard trump t (withSlot (t .slots) (slotOf lead (t .seat) (t .leader)) (cardNamed c bytes))) t)))
 
 -- One token, from the opening of its trick on; nothing once the section has stopped.
 unfoldable pub playedBytes : Conventions → ℕ → ℕ → Tricks → List ℕ → Out Tricks
@@ -153,6 +153,6 @@ pub record Seated (t : Tricks) : Type 0 where
   pub seat-low : t .seat ≤ 4
   pub slots-low : Low (t .slots)
 
-pub record Open (t : Tricks) : Type 0 where
+pub record OpenTrick (t : Tricks) : Type 0 where
   pub seated : Seated t
   pub seat-left : t .seat ≤ 3

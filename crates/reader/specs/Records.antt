@@ -11,18 +11,18 @@ use Rattle.reader.specs.declared.record.Scan.{Scan}
 use Rattle.reader.specs.declared.record.RecordEnd.{RecordEnd}
 use Rattle.reader.specs.Lines.{lineKind, opensBoard, isBlank}
 use Rattle.reader.specs.Pieces.{rawLines}
-use Rattle.reader.specs.Sections.{noteAfter}
+use Rattle.reader.specs.Sections.{commentaryAfter}
 
 -- Whether commentary is open, and whether a tag was met since the record's start.
 abbrev pub fresh : Scan
-fresh = record { noting = false; met = false }
+fresh = record { commentary = false; met = false }
 
 unfoldable pub scanned : Scan → List ℕ → Scan
-scanned s l = record { noting = noteAfter (s .noting) l; met = cond (s .noting) (s .met) (s .met || opensBoard (lineKind l)) }
+scanned s l = record { commentary = commentaryAfter (s .commentary) l; met = cond (s .commentary) (s .met) (s .met || opensBoard (lineKind l)) }
 
 -- A blank line, outside commentary, closes a board only if a tag was met.
 unfoldable pub closesRecord : Scan → List ℕ → Bool
-closesRecord s l = not (s .noting) && (s .met && isBlank l)
+closesRecord s l = not (s .commentary) && (s .met && isBlank l)
 
 abbrev pub emit : Bool → List ℕ → List (List ℕ) → List (List ℕ)
 emit true r rs = r ∷ rs

@@ -25,16 +25,16 @@ use Rattle.reader.specs.Auction.{calledPiece, noBidding}
 use Rattle.reader.specs.Play.{playedPiece, noTricks, Seated}
 
 -- Commentary opens with a line that begins with `{` and lasts to the first line with `}`. Whether it is open after a line.
-abbrev pub opensNote : Line → List ℕ → Bool
-opensNote Blank l = false
-opensNote Brace l = not (hasBrace l)
-opensNote (Directive s) l = false
-opensNote (Tag t) l = false
-opensNote Bracket l = false
-opensNote (Data s) l = false
+abbrev pub opensCommentary : Line → List ℕ → Bool
+opensCommentary Blank l = false
+opensCommentary Brace l = not (hasBrace l)
+opensCommentary (Directive s) l = false
+opensCommentary (Tag t) l = false
+opensCommentary Bracket l = false
+opensCommentary (Data s) l = false
 
-unfoldable pub noteAfter : Bool → List ℕ → Bool
-noteAfter noting l = cond noting (not (hasBrace l)) (opensNote (lineKind l) l)
+unfoldable pub commentaryAfter : Bool → List ℕ → Bool
+commentaryAfter commentary l = cond commentary (not (hasBrace l)) (opensCommentary (lineKind l) l)
 
 -- A tag or a blank line, outside commentary, closes a section.
 abbrev pub closesSection : Line → Bool
@@ -46,7 +46,7 @@ closesSection Bracket = false
 closesSection (Data s) = false
 
 unfoldable pub stopsAt : Bool → List ℕ → Bool
-stopsAt noting l = not noting && closesSection (lineKind l)
+stopsAt commentary l = not commentary && closesSection (lineKind l)
 
 -- A data line, outside commentary, trimmed, with its place in the record.
 abbrev pub dataPiece : ℕ → List ℕ → Line → List Piece
@@ -58,12 +58,12 @@ dataPiece p l Bracket = []
 dataPiece p l (Data s) = record { at = p + s .start; bytes = cut s l } ∷ []
 
 unfoldable pub pieceOf : Bool → ℕ → List ℕ → List Piece
-pieceOf noting p l = cond noting [] (dataPiece p l (lineKind l))
+pieceOf commentary p l = cond commentary [] (dataPiece p l (lineKind l))
 
 -- The data lines up to the line that closes the section; p is the place of the first line.
 abbrev pub dataIn : Bool → ℕ → List (List ℕ) → List Piece
-dataIn noting p [] = []
-dataIn noting p (l ∷ ls) = cond (stopsAt noting l) [] (pieceOf noting p l ++ dataIn (noteAfter noting l) (p + length l) ls)
+dataIn commentary p [] = []
+dataIn commentary p (l ∷ ls) = cond (stopsAt commentary l) [] (pieceOf commentary p l ++ dataIn (commentaryAfter commentary l) (p + length l) ls)
 
 -- What a section makes of a line: a tag or a blank line closes it, a data line is a piece of its data, and all other lines are passed.
 abbrev pub visitKind : Line → Visit
@@ -76,7 +76,7 @@ visitKind (Data s) = PieceOn s
 
 -- Commentary is passed.
 unfoldable pub visitOf : Bool → List ℕ → Visit
-visitOf noting l = cond noting Pass (visitKind (lineKind l))
+visitOf commentary l = cond commentary Pass (visitKind (lineKind l))
 
 -- What was split off the section's tag line, if anything.
 abbrev pub splitPiece : List ℕ → Span → List Piece
@@ -140,12 +140,12 @@ unfoldable pub walkedAll : Conventions → List ℕ → Open → ℕ → Out Wal
 walkedAll c r o trump = outAll (walked c o trump) noWalk (sectionData r o)
 
 -- The entries of a section so far.
-abbrev pub countOf : Walk → ℕ
-countOf w = w .bidding .count + w .tricks .count
+abbrev pub walkCount : Walk → ℕ
+walkCount w = w .bidding .count + w .tricks .count
 
 -- The contract of a function that walks data: what it comes to, its entries put from the n-th on; seats and slots are in range; there
 -- are at most so many entries in all.
 pub record Walks (a n most : ℕ) (entries entries′ : List ℕ) (r : Walk) (o : Out Walk) : Type 0 where
   pub emits : Emits a n entries entries′ r o
   pub seated : Seated (r .tricks)
-  pub few : countOf r ≤ most
+  pub few : walkCount r ≤ most

@@ -8,8 +8,8 @@ use lib.Seq.{sets}
 use Rattle.reader.specs.declared.store.Entry.{Entry}
 
 -- A word has 32 bits.
-abbrev pub word : ℕ → ℕ
-word x = x % 4294967296
+abbrev pub lowWord : ℕ → ℕ
+lowWord x = x % 4294967296
 
 -- As many zeros as the list has words.
 abbrev pub zeros : List ℕ → List ℕ
@@ -42,4 +42,4 @@ abbrev pub moved : ℕ → ℕ → ℕ → ℕ
 moved a kind x = cond (eqb kind 8) x (a + x)
 
 unfoldable pub entryWords : ℕ → Entry → List ℕ
-entryWords a e = word (e .kind) ∷ word (moved a (e .kind) (e .x)) ∷ word (e .y) ∷ word (e .z) ∷ []
+entryWords a e = lowWord (e .kind) ∷ lowWord (moved a (e .kind) (e .x)) ∷ lowWord (e .y) ∷ lowWord (e .z) ∷ []

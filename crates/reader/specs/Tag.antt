@@ -23,7 +23,7 @@ use Rattle.reader.specs.declared.tag.Name.the-variants.{Len, NoName}
 use Rattle.reader.specs.declared.tag.Value.{Value}
 use Rattle.reader.specs.declared.tag.Value.the-variants.{Text, NoValue}
 use Rattle.reader.specs.declared.tag.Comment.{Comment}
-use Rattle.reader.specs.declared.tag.Comment.the-variants.{Clean, Note, Bad}
+use Rattle.reader.specs.declared.tag.Comment.the-variants.{Clean, Found, Bad}
 
 -- ---- parts of a line
 
@@ -87,7 +87,7 @@ isComment s = cond (eqb (getD s 0 0) 123) (among 125 s) (eqb (getD s 0 0) 59)
 
 -- What follows a tag, trimmed: nothing, a comment, or something else.
 abbrev pub commentIn : Span → List ℕ → Comment
-commentIn t line = cond (eqb (t .len) 0) Clean (cond (isComment (cut t line)) (Note t) Bad)
+commentIn t line = cond (eqb (t .len) 0) Clean (cond (isComment (cut t line)) (Found t) Bad)
 
 unfoldable pub commentOf : ℕ → List ℕ → Comment
 commentOf a line = commentIn (trimPart a (length line) line) line
@@ -98,7 +98,7 @@ commentOf a line = commentIn (trimPart a (length line) line) line
 -- bracket at e; the body, which starts at a.
 abbrev pub withComment : Comment → Tag → TagLine
 withComment Clean t = Plain t
-withComment (Note c) t = WithComment t c
+withComment (Found c) t = WithComment t c
 withComment Bad t = NoTag
 
 abbrev pub withValue : Value → ℕ → ℕ → ℕ → List ℕ → TagLine
@@ -190,7 +190,7 @@ valueInside NoValue n = Unit {0}
 
 abbrev pub commentInside : Comment → ℕ → Type 0
 commentInside Clean n = Unit {0}
-commentInside (Note p) n = spanInside p n
+commentInside (Found p) n = spanInside p n
 commentInside Bad n = Unit {0}
 
 abbrev pub tagPlaced : TagLine → ℕ → Type 0

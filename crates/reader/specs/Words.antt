@@ -157,10 +157,10 @@ cardNumber suit rank = cond (ltb 3 suit) 52 (cond (ltb 12 rank) 52 (13 * suit + 
 
 -- The card that a token's first two characters name, suit and rank; what follows them is ignored. A character of more than
 -- one byte is no letter: a first one ends in a byte 80 to BF, and a second one is given as 0.
-unfoldable pub cardOf : Conventions → List ℕ → ℕ
-cardOf c [] = 52
-cardOf c (s ∷ []) = 52
-cardOf c (s ∷ r ∷ more) = cond (isInside r) 52 (cardNumber (suitOf c s) (rankOf c (single r more)))
+unfoldable pub cardNamed : Conventions → List ℕ → ℕ
+cardNamed c [] = 52
+cardNamed c (s ∷ []) = 52
+cardNamed c (s ∷ r ∷ more) = cond (isInside r) 52 (cardNumber (suitOf c s) (rankOf c (single r more)))
 
 -- As written: a suit's letter and a rank's.
 abbrev pub cardToken : Conventions → ℕ → List ℕ

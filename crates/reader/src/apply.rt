@@ -27,8 +27,8 @@ use tables::dd::dd_table_from_pbn;
 use tables::letters::Conventions;
 use tables::letters::seat_of;
 use tables::numbers::Number;
-use tables::numbers::read_number;
-use tables::numbers::read_signed;
+use tables::numbers::parse_number;
+use tables::numbers::parse_signed;
 use tables::text::first_character;
 use tables::text::trim;
 
@@ -82,7 +82,7 @@ fn identity_by(c: Conventions, k: u8, value: &[u8], mut i: Identity) -> Identity
     ensures { λ r. ⌜ r ≡ identityBy c k (now (value .entry)) i ⌝ }
 {
     match k {
-        names::BOARD => with_number(i, read_number(value, 4294967295)),
+        names::BOARD => with_number(i, parse_number(value, 4294967295)),
         names::DEALER => {
             i.dealer = seat_in(c, value);
             i
@@ -95,7 +95,7 @@ fn identity_by(c: Conventions, k: u8, value: &[u8], mut i: Identity) -> Identity
             i.declarer = seat_in(c, value);
             i
         }
-        names::RESULT => with_result(i, read_signed(value, 128)),
+        names::RESULT => with_result(i, parse_signed(value, 128)),
         _ => i,
     }
 }

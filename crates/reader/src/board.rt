@@ -65,6 +65,6 @@ pub struct State {
     pub section: Open,
     pub tags: usize,
     pub n: usize,
-    pub noting: bool,
+    pub commentary: bool,
     pub block: usize,
 }

@@ -7,8 +7,8 @@ ghost use lib.Dec.{eqb};
 ghost use lib.ListN.{length, take, drop};
 ghost use lib.Seq.{sets};
 ghost use Rattle.tables.specs.Letters.{builtIn};
-ghost use Rattle.reader.specs.Store.{word, put};
-ghost use Rattle.reader.specs.Editions.{readNumber, readCarries, placed, headWords, valueWords, sectionWords, tailWords, backWords, cardWords, RecordIn, AllIn, Finished, IsRead};
+ghost use Rattle.reader.specs.Store.{lowWord, put};
+ghost use Rattle.reader.specs.Editions.{readNumber, readCarries, entryPlace, headWords, valueWords, sectionWords, tailWords, backWords, cardWords, RecordIn, AllIn, ReadingEnded, IsRead};
 use crate::board::Board;
 use crate::board::DealCard;
 use crate::board::Section;
@@ -38,7 +38,7 @@ pub enum Reading {
 }
 
 // The boards and entries of an edition.
-pub struct Totals {
+pub struct Counts {
     pub boards: usize,
     pub entries: usize,
 }
@@ -65,7 +65,7 @@ pub fn read_carried(f: ReadRefusal) -> u64
 
 // The entry x (plus 1) of a record with n entries before it.
 fn placed_word(n: usize, x: usize) -> u32
-    ensures { λ r. ⌜ r ≡ placed n x ⌝ }
+    ensures { λ r. ⌜ r ≡ entryPlace n x ⌝ }
 {
     if x == 0 {
         return 0;
@@ -74,7 +74,7 @@ fn placed_word(n: usize, x: usize) -> u32
 }
 
 fn vulnerability_word(v: usize) -> u32
-    ensures { λ r. ⌜ r ≡ word (cond (eqb v 4) 0 v) ⌝ }
+    ensures { λ r. ⌜ r ≡ lowWord (cond (eqb v 4) 0 v) ⌝ }
 {
     if v == 4 {
         return 0;
@@ -122,7 +122,7 @@ fn cell_words(t: TableCard) -> [u32; 20]
 
 // The table's kind, and the value entries.
 fn value_words(kind: usize, n: usize, v: Values) -> [u32; 13]
-    ensures { λ r. ⌜ r ≡ word kind ∷ valueWords n v ⌝ }
+    ensures { λ r. ⌜ r ≡ lowWord kind ∷ valueWords n v ⌝ }
 {
     [
         low_word(kind),
@@ -212,7 +212,7 @@ fn read_record(
 }
 
 // Reads all records of a text.
-fn read_records(c: Conventions, text: &[u8], cards: &mut [u32], entries: &mut [u32]) -> Totals
+fn read_records(c: Conventions, text: &[u8], cards: &mut [u32], entries: &mut [u32]) -> Counts
     requires { ⌜ length (now text) ≤ 16777215 ⌝ }
     ensures { λ r. ⌜ AllIn c (now (text .entry)) (now (cards .entry)) (now (entries .entry)) r (now (cards .exit)) (now (entries .exit)) ⌝ }
 {
@@ -224,18 +224,18 @@ fn read_records(c: Conventions, text: &[u8], cards: &mut [u32], entries: &mut [u
         let e = r.end;
         let met = r.met;
         if !met {
-            return Totals { boards, entries: n };
+            return Counts { boards, entries: n };
         }
         n = read_record(c, text, a, e, cards, boards, entries, n);
         boards += 1;
         a = e;
     }
-    Totals { boards, entries: n }
+    Counts { boards, entries: n }
 }
 
 // The answer; the words are set to 0 where it is a refusal.
 fn finish_reading(cards: &mut [u32], entries: &mut [u32], boards: usize, n: usize) -> Reading
-    ensures { λ r. ⌜ Finished (now (cards .entry)) (now (entries .entry)) boards n r (now (cards .exit)) (now (entries .exit)) ⌝ }
+    ensures { λ r. ⌜ ReadingEnded (now (cards .entry)) (now (entries .entry)) boards n r (now (cards .exit)) (now (entries .exit)) ⌝ }
 {
     if cards.len() / 64 < boards {
         zero(cards);

@@ -4,10 +4,10 @@ ghost use mathlib.Core.Bool.{cond};
 ghost use Prim.Native.Nat.{_+_, _≤_, _^_};
 ghost use lib.ListN.{length};
 ghost use Rattle.reader.specs.Pieces.{Emits, piece};
-ghost use Rattle.reader.specs.Play.{noSlots, withSlot, isFull, weight, bestSlot, winnerOf, trickEntry, newTrick, nextLeader, opened, taking, slotOf, withCard, isDash, played, playedBytes, playedPiece, oneMore, lastTrick, noTricks, Low, Seated, Open};
+ghost use Rattle.reader.specs.Play.{noSlots, withSlot, isFull, weight, bestSlot, winnerOf, trickEntry, newTrick, nextLeader, opened, taking, slotOf, withCard, isGap, played, playedBytes, playedPiece, oneMore, lastTrick, noTricks, Low, Seated, OpenTrick};
 use crate::store::Entry;
 use crate::store::put_entry;
-use crate::words::card_of;
+use crate::words::card_named;
 use crate::words::same;
 use crate::words::section_end;
 use tables::letters::Conventions;
@@ -166,7 +166,7 @@ fn trick_entry(t: Tricks) -> Entry
 
 fn new_trick(leader: usize, end: usize, count: usize) -> Tricks
     requires { ⌜ leader ≤ 4 ⌝ }
-    ensures { λ r. ⌜ (r ≡ newTrick leader end count) × Open r ⌝ }
+    ensures { λ r. ⌜ (r ≡ newTrick leader end count) × OpenTrick r ⌝ }
 {
     Tricks {
         any: true,
@@ -190,7 +190,7 @@ fn next_leader(winner: usize, leader: usize) -> usize
 // A token opens the first trick, and after a full one the next; the full one is stored.
 fn open_trick(lead: usize, t: Tricks, a: usize, base: usize, entries: &mut [u32]) -> Tricks
     requires { ⌜ (lead ≤ 3) × Seated t × (a ≤ 2 ^ 40) × (base + t .count ≤ 2 ^ 60) ⌝ }
-    ensures { λ r. ⌜ Emits a (base + t .count) (now (entries .entry)) (now (entries .exit)) r (opened lead t) × Open r ⌝ }
+    ensures { λ r. ⌜ Emits a (base + t .count) (now (entries .entry)) (now (entries .exit)) r (opened lead t) × OpenTrick r ⌝ }
 {
     let any = t.any;
     if any {
@@ -221,7 +221,7 @@ fn take_seat(t: Tricks, end: usize, stopped: bool, seat: usize) -> Tricks
 }
 
 fn with_card(trump: usize, t: Tricks, s: Slots) -> Tricks
-    requires { ⌜ Open t × Low s ⌝ }
+    requires { ⌜ OpenTrick t × Low s ⌝ }
     ensures { λ r. ⌜ (r ≡ withCard trump t s) × Seated r ⌝ }
 {
     let w = winner_now(trump, t.leader, t.winner, s);
@@ -239,7 +239,7 @@ fn with_card(trump: usize, t: Tricks, s: Slots) -> Tricks
 
 // A card into the slot of the next seat.
 fn play_card(lead: usize, trump: usize, t: Tricks, card: usize) -> Tricks
-    requires { ⌜ (lead ≤ 3) × Open t × (card ≤ 255) ⌝ }
+    requires { ⌜ (lead ≤ 3) × OpenTrick t × (card ≤ 255) ⌝ }
     ensures { λ r. ⌜ (r ≡ withCard trump t (withSlot (t .slots) (slotOf lead (t .seat) (t .leader)) card)) × Seated r ⌝ }
 {
     let s = t.slots;
@@ -251,14 +251,14 @@ fn play_card(lead: usize, trump: usize, t: Tricks, card: usize) -> Tricks
 }
 
 fn is_dash(token: &[u8]) -> bool
-    ensures { λ r. ⌜ r ≡ isDash (now (token .entry)) ⌝ }
+    ensures { λ r. ⌜ r ≡ isGap (now (token .entry)) ⌝ }
 {
     same(b"-", token)
 }
 
 // What a token does in an open trick.
 fn play_token(c: Conventions, lead: usize, trump: usize, t: Tricks, token: &[u8]) -> Tricks
-    requires { ⌜ (lead ≤ 3) × Open t ⌝ }
+    requires { ⌜ (lead ≤ 3) × OpenTrick t ⌝ }
     ensures { λ r. ⌜ (r ≡ played c lead trump t (now (token .entry))) × Seated r ⌝ }
 {
     let end = section_end(token);
@@ -271,7 +271,7 @@ fn play_token(c: Conventions, lead: usize, trump: usize, t: Tricks, token: &[u8]
     if is_dash(token) {
         return take_seat(t, t.end, false, t.seat + 1);
     }
-    let card = card_of(c, token);
+    let card = card_named(c, token);
     if card < 52 {
         return play_card(lead, trump, t, card as usize);
     }

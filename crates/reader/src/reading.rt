@@ -11,8 +11,8 @@ ghost use Rattle.reader.specs.Tag.{TagInside, cut};
 ghost use Rattle.reader.specs.Lines.{lineKind, linePlaced, readingPlaced};
 ghost use Rattle.reader.specs.declared.line.Line.the-variants.{Blank};
 ghost use Rattle.reader.specs.Play.{Seated};
-ghost use Rattle.reader.specs.Sections.{countOf};
-ghost use Rattle.reader.specs.Boards.{countedState, closedState, noSpan, at, noted, Sound, Stepped, noState, auctionClosed, playClosed, tableClosed, boardClosed, LastStored, closed, tagged, directed, dataOut, dated, tagIn, splitIn, readBy, blocked, braced, inNote, unchanged, recordOut};
+ghost use Rattle.reader.specs.Sections.{walkCount};
+ghost use Rattle.reader.specs.Boards.{countedState, closedState, noSpan, at, withCommentary, Sound, Stepped, noState, auctionClosed, playClosed, tableClosed, boardClosed, LastStored, closed, tagged, directed, dataOut, dataAdded, tagIn, splitIn, readBy, blocked, braced, inCommentary, unchanged, recordOut};
 use crate::apply::apply_tag;
 use crate::apply::no_board;
 use crate::apply::no_open;
@@ -51,7 +51,7 @@ pub fn no_state() -> State
         section: no_open(),
         tags: 0,
         n: 0,
-        noting: false,
+        commentary: false,
         block: 0,
     }
 }
@@ -144,7 +144,7 @@ fn after_section(s: State, b: Board, k: usize) -> State
         section: no_open(),
         tags: s.tags,
         n: s.n + k,
-        noting: s.noting,
+        commentary: s.commentary,
         block: s.block,
     }
 }
@@ -166,7 +166,7 @@ fn board_closed(b: Board, o: Open, n: usize, w: Walk) -> Board
 
 // The last trick of a play is stored behind the section's entries; how many these then are.
 fn last_entries(kind: usize, w: Walk, a: usize, base: usize, entries: &mut [u32]) -> usize
-    requires { ⌜ Seated (w .tricks) × (a ≤ 2 ^ 40) × (base ≤ 2 ^ 58) × (countOf w ≤ 2 ^ 58) ⌝ }
+    requires { ⌜ Seated (w .tricks) × (a ≤ 2 ^ 40) × (base ≤ 2 ^ 58) × (walkCount w ≤ 2 ^ 58) ⌝ }
     ensures { λ r. ⌜ LastStored a base kind w (now (entries .entry)) (now (entries .exit)) r ⌝ }
 {
     let bidding = w.bidding;
@@ -272,7 +272,7 @@ fn tag_step(
         section: open_by(c, k, v, p + l.len(), split),
         tags: s.tags + 1,
         n: s.n + 2,
-        noting: false,
+        commentary: false,
         block: s.block,
     }
 }
@@ -311,7 +311,7 @@ fn put_data(kind: usize, p: usize, d: Span, a: usize, n: usize, entries: &mut [u
 // A data line.
 fn data_step(s: State, p: usize, d: Span, a: usize, base: usize, entries: &mut [u32]) -> State
     requires { ⌜ (a + p + d .start + d .len ≤ 2 ^ 40) × (base + s .n ≤ 2 ^ 59) ⌝ }
-    ensures { λ t. ⌜ Emits a (base + s .n) (now (entries .entry)) (now (entries .exit)) t (dated s p d) ⌝ }
+    ensures { λ t. ⌜ Emits a (base + s .n) (now (entries .entry)) (now (entries .exit)) t (dataAdded s p d) ⌝ }
 {
     let o = s.section;
     let k = put_data(o.kind, p, d, a, base + s.n, entries);
@@ -394,7 +394,7 @@ fn block_step(
     requires { ⌜ (a + i ≤ 2 ^ 41) × (base + s .n ≤ 2 ^ 59) ⌝ }
     ensures { λ t. ⌜ Emits a (base + s .n) (now (entries .entry)) (now (entries .exit)) t (blocked (now (r .entry)) s i j) ⌝ }
 {
-    let next = noted_state(s, false, 0);
+    let next = with_commentary(s, false, 0);
     let len = less(j, i);
     if all_white(upto(from(r, i), len)) {
         return counted(next, 0);
@@ -413,11 +413,11 @@ fn block_step(
     counted(next, 1)
 }
 
-fn noted_state(s: State, noting: bool, block: usize) -> State
-    ensures { λ r. ⌜ r ≡ noted s noting block ⌝ }
+fn with_commentary(s: State, commentary: bool, block: usize) -> State
+    ensures { λ r. ⌜ r ≡ withCommentary s commentary block ⌝ }
 {
     let mut t = s;
-    t.noting = noting;
+    t.commentary = commentary;
     t.block = block;
     t
 }
@@ -439,11 +439,11 @@ fn brace_line(
     if has_brace(l) {
         return block_step(r, s, i, p + last_brace(l), a, base, entries);
     }
-    noted_state(s, true, i)
+    with_commentary(s, true, i)
 }
 
 // A line inside commentary.
-fn note_line(
+fn commentary_line(
     r: &[u8],
     s: State,
     p: usize,
@@ -453,7 +453,7 @@ fn note_line(
     entries: &mut [u32],
 ) -> State
     requires { ⌜ (a + p + length (now l) ≤ 16777215) × (base + s .n ≤ 2 ^ 57) × (s .block ≤ p + 1) ⌝ }
-    ensures { λ t. ⌜ Emits a (base + s .n) (now (entries .entry)) (now (entries .exit)) t (inNote (now (r .entry)) s p (now (l .entry))) × (t .block ≤ p + 1) ⌝ }
+    ensures { λ t. ⌜ Emits a (base + s .n) (now (entries .entry)) (now (entries .exit)) t (inCommentary (now (r .entry)) s p (now (l .entry))) × (t .block ≤ p + 1) ⌝ }
 {
     if has_brace(l) {
         let i = s.block;
@@ -463,10 +463,10 @@ fn note_line(
 }
 
 // The kind of a line; inside commentary it does not matter.
-fn kind_in(noting: bool, l: &[u8]) -> Line
-    ensures { λ r. ⌜ (r ≡ cond noting Blank (lineKind (now (l .entry)))) × linePlaced r (length (now (l .entry))) ⌝ }
+fn kind_in(commentary: bool, l: &[u8]) -> Line
+    ensures { λ r. ⌜ (r ≡ cond commentary Blank (lineKind (now (l .entry)))) × linePlaced r (length (now (l .entry))) ⌝ }
 {
-    if noting {
+    if commentary {
         return Line::Blank;
     }
     line_kind(l)
@@ -483,11 +483,11 @@ fn quiet_line(
     entries: &mut [u32],
 ) -> State
     requires { ⌜ (a + p + length (now l) ≤ 16777215) × (base + s .n ≤ 2 ^ 57) × (s .block ≤ p + 1) ⌝ }
-    ensures { λ t. ⌜ Emits a (base + s .n) (now (entries .entry)) (now (entries .exit)) t (cond (s .noting) (inNote (now (r .entry)) s p (now (l .entry))) (unchanged s)) × (t .block ≤ p + 1) ⌝ }
+    ensures { λ t. ⌜ Emits a (base + s .n) (now (entries .entry)) (now (entries .exit)) t (cond (s .commentary) (inCommentary (now (r .entry)) s p (now (l .entry))) (unchanged s)) × (t .block ≤ p + 1) ⌝ }
 {
-    let noting = s.noting;
-    if noting {
-        return note_line(r, s, p, l, a, base, entries);
+    let commentary = s.commentary;
+    if commentary {
+        return commentary_line(r, s, p, l, a, base, entries);
     }
     s
 }
@@ -503,7 +503,7 @@ pub fn read_board(c: Conventions, r: &[u8], a: usize, base: usize, entries: &mut
     while p < r.len() {
         let l = line_at(r, p);
         let o = s.section;
-        match kind_in(s.noting, l) {
+        match kind_in(s.commentary, l) {
             Line::Data(d) => {
                 let n = put_data(o.kind, p, d, a, base + s.n, entries);
                 s.n = s.n + n;

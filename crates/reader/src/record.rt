@@ -5,12 +5,12 @@ ghost use lib.ListN.{length};
 ghost use Rattle.reader.specs.Records.{fresh, scanned, closesRecord, EndsAt};
 use crate::line::is_blank;
 use crate::line::opens_board;
-use crate::section::note_after;
+use crate::section::commentary_after;
 use crate::walk::line_at;
 
 // Whether commentary is open, and whether a tag was met since the record's start.
 pub struct Scan {
-    pub noting: bool,
+    pub commentary: bool,
     pub met: bool,
 }
 
@@ -24,7 +24,7 @@ pub struct RecordEnd {
 fn closes_record(s: Scan, l: &[u8]) -> bool
     ensures { λ r. ⌜ r ≡ closesRecord s (now (l .entry)) ⌝ }
 {
-    let open = s.met & !s.noting;
+    let open = s.met & !s.commentary;
     if open {
         return is_blank(l);
     }
@@ -35,16 +35,16 @@ fn closes_record(s: Scan, l: &[u8]) -> bool
 fn scan_line(s: Scan, l: &[u8]) -> Scan
     ensures { λ r. ⌜ r ≡ scanned s (now (l .entry)) ⌝ }
 {
-    let noting = s.noting;
+    let commentary = s.commentary;
     let met = s.met;
-    if noting | met {
+    if commentary | met {
         return Scan {
-            noting: note_after(noting, l),
+            commentary: commentary_after(commentary, l),
             met,
         };
     }
     Scan {
-        noting: note_after(false, l),
+        commentary: commentary_after(false, l),
         met: opens_board(l),
     }
 }
@@ -55,7 +55,7 @@ pub fn record_end(text: &[u8], a: usize) -> RecordEnd
     ensures { λ r. ⌜ EndsAt (now (text .entry)) a r ⌝ }
 {
     let mut s = Scan {
-        noting: false,
+        commentary: false,
         met: false,
     };
     let mut e = a;

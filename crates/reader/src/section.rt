@@ -5,7 +5,7 @@ ghost use lib.ListN.{length};
 ghost use Rattle.tables.specs.Tables.{rowOf};
 ghost use Rattle.reader.specs.Pieces.{outAll, piece};
 ghost use Rattle.reader.specs.Play.{Seated};
-ghost use Rattle.reader.specs.Sections.{noteAfter, visitOf, noPiece, NextPiece, splitPiece, rowStored, walked, noWalk, walkedAll, countOf, Walks};
+ghost use Rattle.reader.specs.Sections.{commentaryAfter, visitOf, noPiece, NextPiece, splitPiece, rowStored, walked, noWalk, walkedAll, walkCount, Walks};
 use crate::auction::Bidding;
 use crate::auction::call_piece;
 use crate::auction::no_bidding;
@@ -49,10 +49,10 @@ pub struct Walk {
 }
 
 // Whether commentary is open after the line. Of a line outside commentary only the first byte that is not white matters.
-pub fn note_after(noting: bool, l: &[u8]) -> bool
-    ensures { λ r. ⌜ r ≡ noteAfter noting (now (l .entry)) ⌝ }
+pub fn commentary_after(commentary: bool, l: &[u8]) -> bool
+    ensures { λ r. ⌜ r ≡ commentaryAfter commentary (now (l .entry)) ⌝ }
 {
-    if noting {
+    if commentary {
         return !has_brace(l);
     }
     if byte_at(l, lead_len(l)) == 123 {
@@ -75,10 +75,10 @@ pub struct Next {
     pub at: usize,
 }
 
-fn visit_line(noting: bool, l: &[u8]) -> Visit
-    ensures { λ r. ⌜ r ≡ visitOf noting (now (l .entry)) ⌝ }
+fn visit_line(commentary: bool, l: &[u8]) -> Visit
+    ensures { λ r. ⌜ r ≡ visitOf commentary (now (l .entry)) ⌝ }
 {
-    if noting {
+    if commentary {
         return Visit::Pass;
     }
     match line_kind(l) {
@@ -106,14 +106,14 @@ fn next_piece(r: &[u8], at: usize) -> Next
     requires { ⌜ (at ≤ length (now r)) × (length (now r) ≤ 2 ^ 40) ⌝ }
     ensures { λ n. ⌜ NextPiece (now (r .entry)) at n ⌝ }
 {
-    let mut noting = false;
+    let mut commentary = false;
     let mut e = at;
     while e < r.len() {
         let l = line_at(r, e);
-        match visit_line(noting, l) {
+        match visit_line(commentary, l) {
             Visit::Stop => return no_piece(e),
             Visit::Pass => {
-                noting = note_after(noting, l);
+                commentary = commentary_after(commentary, l);
                 e += l.len();
             }
             Visit::Piece(s) => {
@@ -176,8 +176,8 @@ fn walk_piece(
     base: usize,
     entries: &mut [u32],
 ) -> Walk
-    requires { ⌜ Seated (w .tricks) × (a + at + length (now s) ≤ 2 ^ 40) × (base + countOf w ≤ 2 ^ 59) × (o .kind ≡ 2 → o .seat ≤ 3) ⌝ }
-    ensures { λ r. ⌜ Walks a (base + countOf w) (countOf w + 3 * length (now (s .entry))) (now (entries .entry)) (now (entries .exit)) r (walked c o trump w (piece at (now (s .entry)))) ⌝ }
+    requires { ⌜ Seated (w .tricks) × (a + at + length (now s) ≤ 2 ^ 40) × (base + walkCount w ≤ 2 ^ 59) × (o .kind ≡ 2 → o .seat ≤ 3) ⌝ }
+    ensures { λ r. ⌜ Walks a (base + walkCount w) (walkCount w + 3 * length (now (s .entry))) (now (entries .entry)) (now (entries .exit)) r (walked c o trump w (piece at (now (s .entry)))) ⌝ }
 {
     let bidding = w.bidding;
     let tricks = w.tricks;
@@ -218,8 +218,8 @@ fn walk_span(
     base: usize,
     entries: &mut [u32],
 ) -> Walk
-    requires { ⌜ Seated (w .tricks) × (a + length (now r) ≤ 2 ^ 40) × (base + countOf w ≤ 2 ^ 59) × (s .start + s .len ≤ length (now r)) × (o .kind ≡ 2 → o .seat ≤ 3) ⌝ }
-    ensures { λ v. ⌜ Walks a (base + countOf w) (countOf w + 3 * s .len) (now (entries .entry)) (now (entries .exit)) v (outAll (walked c o trump) w (splitPiece (now (r .entry)) s)) ⌝ }
+    requires { ⌜ Seated (w .tricks) × (a + length (now r) ≤ 2 ^ 40) × (base + walkCount w ≤ 2 ^ 59) × (s .start + s .len ≤ length (now r)) × (o .kind ≡ 2 → o .seat ≤ 3) ⌝ }
+    ensures { λ v. ⌜ Walks a (base + walkCount w) (walkCount w + 3 * s .len) (now (entries .entry)) (now (entries .exit)) v (outAll (walked c o trump) w (splitPiece (now (r .entry)) s)) ⌝ }
 {
     if s.len == 0 {
         return w;

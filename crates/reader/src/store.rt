@@ -3,7 +3,7 @@ ghost use mathlib.Core.Path.{_≡_};
 ghost use Prim.Native.Nat.{_+_, _≤_, _<_, _^_};
 ghost use lib.ListN.{length};
 ghost use lib.Seq.{sets};
-ghost use Rattle.reader.specs.Store.{word, zeros, put, moved, entryWords};
+ghost use Rattle.reader.specs.Store.{lowWord, zeros, put, moved, entryWords};
 
 // An entry of a record, its place counted from the record's start.
 pub struct Entry {
@@ -15,7 +15,7 @@ pub struct Entry {
 
 // The low 32 bits.
 pub fn low_word(x: usize) -> u32
-    ensures { λ r. ⌜ r ≡ word x ⌝ }
+    ensures { λ r. ⌜ r ≡ lowWord x ⌝ }
 {
     (x % 4294967296) as u32
 }

@@ -69,7 +69,7 @@ enum Value {
 // What follows a tag on its line: nothing, a comment, or something else.
 enum Comment {
     Clean,
-    Note(Span),
+    Found(Span),
     Bad,
 }
 
@@ -219,7 +219,7 @@ fn trailing_comment(line: &[u8], a: usize) -> Comment
         return Comment::Clean;
     }
     if is_comment(cut(line, start, n)) {
-        return Comment::Note(t);
+        return Comment::Found(t);
     }
     Comment::Bad
 }
@@ -244,7 +244,7 @@ pub fn parse_tag_line(line: &[u8]) -> TagLine
     let tag = Tag { name, value };
     match trailing_comment(line, e + 1) {
         Comment::Clean => TagLine::Plain(tag),
-        Comment::Note(c) => TagLine::WithComment(tag, c),
+        Comment::Found(c) => TagLine::WithComment(tag, c),
         Comment::Bad => TagLine::NoTag,
     }
 }

@@ -2,7 +2,7 @@
 ghost use mathlib.Core.Path.{_≡_};
 ghost use Prim.Native.Nat.{_≤_};
 ghost use lib.ListN.{length};
-ghost use Rattle.reader.specs.Words.{same, sameWord, levelOf, bidCode, bidOf, isPass, underscoreCode, signCode, callOf, isMark, callPart, sectionEnd, isAllPass, isDoubling, contractTrump, isNoSide, isBothSides, vulnerabilityOf, cardNumber, cardOf};
+ghost use Rattle.reader.specs.Words.{same, sameWord, levelOf, bidCode, bidOf, isPass, underscoreCode, signCode, callOf, isMark, callPart, sectionEnd, isAllPass, isDoubling, contractTrump, isNoSide, isBothSides, vulnerabilityOf, cardNumber, cardNamed};
 use tables::letters::Conventions;
 use tables::letters::rank_of;
 use tables::letters::strain_of;
@@ -250,8 +250,8 @@ fn card_number(suit: u8, rank: u8) -> u8
 }
 
 // The card that a token's first two characters name, 52 where they name none.
-pub fn card_of(c: Conventions, token: &[u8]) -> u8
-    ensures { λ r. ⌜ (r ≡ cardOf c (now (token .entry))) × (r ≤ 52) ⌝ }
+pub fn card_named(c: Conventions, token: &[u8]) -> u8
+    ensures { λ r. ⌜ (r ≡ cardNamed c (now (token .entry))) × (r ≤ 52) ⌝ }
 {
     if token.len() < 2 {
         return 52;

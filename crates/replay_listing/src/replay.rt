@@ -72,7 +72,7 @@ fn list_on(page: &mut [u8], old: &[u8], new: &[u8], limit: usize) -> Written {
     )
 }
 
-fn is_listed_on(page: &mut [u8], c: Case, old: &[u8], new: &[u8], output: &[u8]) -> bool {
+fn agrees_on(page: &mut [u8], c: Case, old: &[u8], new: &[u8], output: &[u8]) -> bool {
     let w = list_on(page, old, new, c.limit);
     is_told(w, c) & is_output(page, output)
 }
@@ -84,12 +84,12 @@ fn full_page() -> [u8; 512]
     [170; 512]
 }
 
-fn is_listed(c: Case, old: &[u8], new: &[u8], output: &[u8]) -> bool
+fn agrees(c: Case, old: &[u8], new: &[u8], output: &[u8]) -> bool
     requires { ⌜ c .page ≤ 512 ⌝ }
 {
     let mut page = full_page();
     let n = c.page;
-    is_listed_on(&mut page[..n], c, old, new, output)
+    agrees_on(&mut page[..n], c, old, new, output)
 }
 
 // Whether the case that s starts with gives the expected answer.
@@ -103,7 +103,7 @@ fn is_same(c: Case, s: &[u8]) -> bool
     let old = upto(from(s, 6), a);
     let new = upto(from(t, 2), b);
     let output = upto(from(from(from(t, 2), b), 7), m);
-    is_listed(c, old, new, output)
+    agrees(c, old, new, output)
 }
 
 // The first byte of the output that the case s starts with, which tells a refusal.

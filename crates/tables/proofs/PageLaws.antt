@@ -12,7 +12,7 @@ use lib.Seq.{sets, sets-eq, length-sets, drop-cons, take-append-seam, getD-set-s
 use borrow.Author.Tests.{leb-true, lt-ltb, le-ltb}
 use Rattle.tables.specs.declared.page.Written.{Written}
 use Rattle.tables.specs.Numbers.{digits, decimal}
-use Rattle.tables.specs.Page.{Put, Wrote, Finished, Digits, right, cleared, answerOf, pageOf}
+use Rattle.tables.specs.Page.{Put, Wrote, PageEnded, Digits, right, cleared, answerOf, pageOf}
 use Rattle.tables.proofs.Laws.{by-cases}
 
 pub sets-append : (xs ys l : List ℕ) (i : ℕ) → sets l i (xs ++ ys) ≡ sets (sets l i xs) (i + length xs) ys
@@ -143,7 +143,7 @@ page-then bs page =
     (λ e. rw e)
 
 -- a text put at 0 and finished is a page written
-pub finished : {bs page page₁ : List ℕ} {n : ℕ} {page′ : List ℕ} {r : Written} → Put page 0 bs page₁ n → Finished n page₁ page′ r → Wrote bs page page′ r
+pub finished : {bs page page₁ : List ℕ} {n : ℕ} {page′ : List ℕ} {r : Written} → Put page 0 bs page₁ n → PageEnded n page₁ page′ r → Wrote bs page page′ r
 unfolding answerOf
 finished {bs} {page} {page₁} {n} {page′} {r} p f =
     let el : length page₁ ≡ length page = rw (p .after, length-sets) in

@@ -19,7 +19,7 @@ use Rattle.tables.specs.Text.{isWhite, isWord, fields, lines, differs, f
 use Rattle.tables.specs.Numbers.{numberOf, digits, decimal}
 use Rattle.tables.specs.Letters.{Accepted, every, isPlain, seatOf, strainOf, strainToken, seatLetter, suitLetter}
 use Rattle.tables.specs.Page.{right}
-use Rattle.tables.specs.Tables.{Reading, holds, rowOrder, cellOf, columnText, rowText, resultRow, fieldsRow, rowWith, rowOf, storedRow, missing, gathered, unless}
+use Rattle.tables.specs.Tables.{TableReading, holds, rowOrder, cellOf, columnText, rowText, resultRow, fieldsRow, rowWith, rowOf, storedRow, missing, gathered, unless}
 use Rattle.tables.proofs.Laws.{by-cases, both, clash, neither}
 use Rattle.tables.proofs.TextLaws.{above-white}
 use Rattle.tables.proofs.LetterLaws.{letter-plain}
@@ -180,13 +180,13 @@ module _ (c : Conventions) (ok : Accepted c) where
 -- ---- rows that are gathered
 
 -- A row that is not refused lets the others be read.
-pub unless-passes : (r : Row) (x : Reading) → ((f : Refusal) → r ≡ Fault f → ⊥) → unless r x ≡ x
+pub unless-passes : (r : Row) (x : TableReading) → ((f : Refusal) → r ≡ Fault f → ⊥) → unless r x ≡ x
 unless-passes Blank x h = refl
 unless-passes (Cell k v) x h = refl
 unless-passes (Fault f) x h = absurd (h f refl)
 
 -- Where a table is read, the rows behind the first gave it.
-pub unless-holds : (r : Row) (x : Reading) {ts : List ℕ} → unless r x ≡ holds ts → x ≡ holds ts
+pub unless-holds : (r : Row) (x : TableReading) {ts : List ℕ} → unless r x ≡ holds ts → x ≡ holds ts
 unless-holds Blank x e = e
 unless-holds (Cell k v) x e = e
 unless-holds (Fault f) x e = cc

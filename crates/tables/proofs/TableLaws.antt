@@ -16,7 +16,7 @@ use Rattle.tables.specs.declared.refusal.Refusal.the-variants.{Digit, Fi
 use Rattle.tables.specs.declared.dd.Row.{Row}
 use Rattle.tables.specs.declared.dd.Row.the-variants.{Blank, Fault}
 use Rattle.tables.specs.Text.{isInside, single, characters, firstCharacter, fields, word, pastWord, trimStart, lines, before, differs}
-use Rattle.tables.specs.Tables.{Reading, holds, refuses, digitOf, firstBad, digitsReading, columnText, rowText, rowsFrom, fieldsRow, rowOf, storedRow, unless, gather, gathered, missing}
+use Rattle.tables.specs.Tables.{TableReading, holds, refuses, digitOf, firstBad, digitsReading, columnText, rowText, rowsFrom, fieldsRow, rowOf, storedRow, unless, gather, gathered, missing}
 use Rattle.tables.proofs.Laws.{step, stop, by-cases}
 use Rattle.tables.proofs.TextLaws.{first-is, characters-next, length-zero, fields-none, fields-some, lines-step, take-front}
 use Rattle.tables.proofs.PageLaws.{right-few}
@@ -154,7 +154,7 @@ module _ (c : Conventions) (text cells : List ℕ) (n at : ℕ) (t : Gathering c
   pub row-fault : (f : Refusal) → row ≡ Fault f → refuses f ≡ gather c (lines text) 0 (replicate 20 255)
   row-fault f e = sym (sym (t .left) ∙ row-now ∙ rw e)
 
-  pub row-on : (cells′ : List ℕ) → ((r : Reading) → unless row r ≡ r) → cells′ ≡ storedRow cells row → len ≤ length u → Gathering c text cells′ (n + 1) (at + len + 1)
+  pub row-on : (cells′ : List ℕ) → ((r : TableReading) → unless row r ≡ r) → cells′ ≡ storedRow cells row → len ≤ length u → Gathering c text cells′ (n + 1) (at + len + 1)
   row-on cells′ e ec hl =
       record {
         left = rw ec (sym (row-now ∙ e _) ∙ t .left);

@@ -34,7 +34,7 @@ abbrev pub cleared : List ℕ → ℕ → List ℕ
 cleared page n = take n page ++ replicate (length page - n) 0
 
 -- The end of a page on which n bytes were put.
-pub record Finished (n : ℕ) (page page′ : List ℕ) (r : Written) : Type 0 where
+pub record PageEnded (n : ℕ) (page page′ : List ℕ) (r : Written) : Type 0 where
   pub told : r ≡ cond (leb n (length page)) (Bytes n) (Refused (PageFull n))
   pub page-after : page′ ≡ cond (leb n (length page)) (cleared page n) (replicate (length page) 0)
 

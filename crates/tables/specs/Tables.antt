@@ -20,12 +20,12 @@ use Rattle.tables.specs.Letters.{seatOf, strainOf, seatLetter, suitLette
 use Rattle.tables.specs.Page.{right}
 
 -- What reading a table comes to: its cells, or a refusal.
-pub data Reading : Type 0 where
-  holds : List ℕ → Reading
-  refuses : Refusal → Reading
+pub data TableReading : Type 0 where
+  holds : List ℕ → TableReading
+  refuses : Refusal → TableReading
 
 -- The same as a function answers it: the table beside the answer, all zero after a refusal.
-abbrev pub tableRead : Reading → TableRead
+abbrev pub tableRead : TableReading → TableRead
 tableRead (holds cells) = record { answer = Table; table = cells }
 tableRead (refuses f) = record { answer = Refused f; table = replicate 20 0 }
 
@@ -53,15 +53,15 @@ abbrev pub firstBad : List ℕ → ℕ → Option ℕ
 firstBad [] i = none
 firstBad (x ∷ xs) i = cond (ltb 13 (digitOf x)) (some i) (firstBad xs (i + 1))
 
-abbrev pub digitsChecked : List ℕ → Option ℕ → Reading
+abbrev pub digitsChecked : List ℕ → Option ℕ → TableReading
 digitsChecked xs none = holds (map digitOf xs)
 digitsChecked xs (some i) = refuses (Digit i)
 
 -- A value, trimmed, is twenty characters (8), each a digit (9).
-unfoldable pub digitsReading : List ℕ → Reading
+unfoldable pub digitsReading : List ℕ → TableReading
 digitsReading xs = cond (eqb (length xs) 20) (digitsChecked xs (firstBad xs 0)) (refuses (Length (length xs)))
 
-unfoldable pub tableOfDigits : List ℕ → Reading
+unfoldable pub tableOfDigits : List ℕ → TableReading
 tableOfDigits value = digitsReading (characters (trimmed value))
 
 -- ---- OptimumResultTable (PBN 2.1, section 5.7): a header and a row for each cell
@@ -136,19 +136,19 @@ missing [] = 0
 missing (t ∷ ts) = cond (eqb t 255) (suc (missing ts)) (missing ts)
 
 -- All rows were read: the table, or how many cells are absent (15).
-unfoldable pub gathered : List ℕ → Reading
+unfoldable pub gathered : List ℕ → TableReading
 gathered cells = cond (eqb (missing cells) 0) (holds cells) (refuses (Missing (missing cells)))
 
 -- The first row that is refused is the answer.
-abbrev pub unless : Row → Reading → Reading
+abbrev pub unless : Row → TableReading → TableReading
 unless (Fault f) r = refuses f
 unless Blank r = r
 unless (Cell k v) r = r
 
 -- Rows from number n on.
-abbrev pub gather : Conventions → List (List ℕ) → ℕ → List ℕ → Reading
+abbrev pub gather : Conventions → List (List ℕ) → ℕ → List ℕ → TableReading
 gather c [] n cells = gathered cells
 gather c (row ∷ rows) n cells = unless (rowOf c n row) (gather c rows (n + 1) (storedRow cells (rowOf c n row)))
 
-unfoldable pub tableOfRows : Conventions → List ℕ → Reading
+unfoldable pub tableOfRows : Conventions → List ℕ → TableReading
 tableOfRows c text = gather c (lines text) 0 (replicate 20 255)

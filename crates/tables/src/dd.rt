@@ -14,7 +14,7 @@ use crate::letters::seat_of;
 use crate::letters::strain_of;
 use crate::letters::suit_letter;
 use crate::numbers::Number;
-use crate::numbers::read_number;
+use crate::numbers::parse_number;
 use crate::page::Written;
 use crate::page::finish;
 use crate::page::put_byte;
@@ -239,7 +239,7 @@ fn read_fields(c: Conventions, declarer: &[u8], denomination: &[u8], result: &[u
     if strain > 4 {
         return Row::Fault(Refusal::Denomination(n));
     }
-    let Number::Value(v) = read_number(result, 255) else {
+    let Number::Value(v) = parse_number(result, 255) else {
         return Row::Fault(Refusal::Outcome(n));
     };
     if v > 13 {

@@ -52,7 +52,7 @@ fn some_digits(s: &[u8], limit: u32) -> Number
 }
 
 // A number from 0 to `limit`.
-pub fn read_number(s: &[u8], limit: u32) -> Number
+pub fn parse_number(s: &[u8], limit: u32) -> Number
     ensures { λ r. ⌜ (r ≡ numberOf limit (now (s .entry))) × within r limit ⌝ }
 {
     if byte_at(s, 0) == 43 {
@@ -62,7 +62,7 @@ pub fn read_number(s: &[u8], limit: u32) -> Number
 }
 
 // A signed number from -half to half - 1, given as the number plus half.
-pub fn read_signed(s: &[u8], half: u32) -> Number
+pub fn parse_signed(s: &[u8], half: u32) -> Number
     requires { ⌜ (0 < half) × (half ≤ 2147483648) ⌝ }
     ensures { λ r. ⌜ r ≡ signedOf half (now (s .entry)) ⌝ }
 {
@@ -72,7 +72,7 @@ pub fn read_signed(s: &[u8], half: u32) -> Number
         };
         return Number::Value(half - v);
     }
-    let Number::Value(v) = read_number(s, half - 1) else {
+    let Number::Value(v) = parse_number(s, half - 1) else {
         return Number::Bad;
     };
     Number::Value(half + v)

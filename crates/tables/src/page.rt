@@ -4,7 +4,7 @@ ghost use mathlib.Core.List.{_∷_, []};
 ghost use Prim.Native.Nat.{_+_, _-_, _≤_, _<_, _%_};
 ghost use lib.ListN.{length, replicate, drop};
 ghost use Rattle.tables.specs.Numbers.{decimal};
-ghost use Rattle.tables.specs.Page.{Put, Finished, Digits, right, cleared};
+ghost use Rattle.tables.specs.Page.{Put, PageEnded, Digits, right, cleared};
 use crate::refusal::Refusal;
 
 // The answer of a writer: the bytes written, or a refusal, which leaves the page all zero.
@@ -131,7 +131,7 @@ fn zero_from(page: &mut [u8], n: usize)
 
 // After n bytes were put: zeros behind them, or nothing but zeros where they did not fit.
 pub fn finish(page: &mut [u8], n: usize) -> Written
-    ensures { λ r. ⌜ Finished n (now (page .entry)) (now (page .exit)) r ⌝ }
+    ensures { λ r. ⌜ PageEnded n (now (page .entry)) (now (page .exit)) r ⌝ }
 {
     if n <= page.len() {
         zero_from(page, n);

@@ -7,10 +7,10 @@ use mathlib.Core.Option.{Option, none, some}
 use lib.ListN.{drop}
 use Rattle.tables.specs.declared.letters.Conventions.{Conventions}
 use Rattle.reader.specs.Plain.{Item, TagPair, PlainAuction, PlainBoard, tagsIn, remarksIn, blockValue}
-use Rattle.writer.specs.declared.remarks.Sought.the-variants.{Leading, Lost}
+use Rattle.writer.specs.declared.remarks.Sought.the-variants.{Leading, Unwritten}
 use Rattle.writer.specs.Sections.{noteValues}
 use Rattle.writer.specs.Tags.{headTags, earlyExtras, dealTags, lateExtras, playTags, writtenTags}
-use Rattle.writer.specs.Remarks.{directivesOf, blocksOf, those, isLeading, isLost, directiveLines, blockLines, tagsLines, leadingLines, bodyLines, linesText}
+use Rattle.writer.specs.Remarks.{directivesOf, blocksOf, those, isLeading, tagUnwritten, directiveLines, blockLines, tagsLines, leadingLines, bodyLines, linesText}
 use Rattle.writer.specs.Steps.{presentOf}
 use Rattle.writer.specs.Items.{soughtBy, isFirst, remarksText, fullText, groupText, notesText}
 use Rattle.writer.proofs.GroupLines.{firstLines, auctionTag, auctionGroup, GroupLines}
@@ -88,8 +88,8 @@ module _ (b : PlainBoard) (is : List Item) (o : BoardOf b is) (n : List ℕ) whe
       → linesText (bodyLines b (writtenTags c b play))
       ≡ remarksText (soughtBy Leading n) (isFirst Leading) 4 is
       ++ (tagsPart c b play is
-      ++ (remarksText (soughtBy (Lost (presentOf b)) n) (isFirst (Lost (presentOf b))) 4 is
-      ++ remarksText (soughtBy (Lost (presentOf b)) n) (isFirst (Lost (presentOf b))) 3 is))
+      ++ (remarksText (soughtBy (Unwritten (presentOf b)) n) (isFirst (Unwritten (presentOf b))) 4 is
+      ++ remarksText (soughtBy (Unwritten (presentOf b)) n) (isFirst (Unwritten (presentOf b))) 3 is))
   unfolding bodyLines
   BodyText c play =
       let ws = writtenTags c b play in
@@ -97,8 +97,8 @@ module _ (b : PlainBoard) (is : List Item) (o : BoardOf b is) (n : List ℕ) whe
       let lost = lost-tells c b play n (tagsIn is) (o .tags-are) in
       let first = blockLines (those isLeading (blocksIn is)) in
       let tags = tagsLines (directivesIn is) (blocksIn is) [] ws in
-      let blocks = blockLines (those (isLost ws) (blocksIn is)) in
-      let directives = directiveLines (those (isLost ws) (directivesIn is)) in
+      let blocks = blockLines (those (tagUnwritten ws) (blocksIn is)) in
+      let directives = directiveLines (those (tagUnwritten ws) (directivesIn is)) in
       rw (
         directives-in,
         blocks-in,

@@ -10,14 +10,14 @@ use lib.Seq.{sets, sets-eq, set-split, take-at, drop-at, take-add, take-take, dr
 use borrow.Author.Tests.{eq-eqb, ne-eqb}
 use Rattle.tables.proofs.Laws.{by-cases}
 use Rattle.reader.specs.Store.{flat}
-use Rattle.reader.specs.Editions.{Whole}
+use Rattle.reader.specs.Editions.{FullCards}
 use Rattle.reader.specs.Editions as whole
 use Rattle.reader.proofs.StoreLaws.{Blocks, none, one, length-flat}
 use Rattle.reader.proofs.EditionLaws.{card-blocks}
 use Rattle.planning.specs.Cards.{isWhole, hasTable, cardsIn, cardHere}
 use Rattle.planning.proofs.BoxLaws.{cards-split, cards-count, cards-front}
 use Rattle.planning.proofs.SearchLaws.{here-length, word-here}
-use Rattle.writer.specs.GivenCards.{withCells, withKind, marked, cleared, changedAt, changedAll}
+use Rattle.writer.specs.GivenCards.{withCells, withKind, marked, givenCleared, changedAt, changedAll}
 use Rattle.writer.proofs.GiveCells.{given-length, flat-more}
 
 -- ---- a part of one card
@@ -92,18 +92,18 @@ mark-none k box t = card-stays marked k box (marked-stays (cardHere k box) t)
 
 pub clear-set : (k : ℕ) (box box′ : List ℕ) → 64 * k + 64 ≤ length box → getD box (64 * k + 38) 0 ≡ 3
     → box′ ≡ sets box (64 * k + 18) (replicate 21 0)
-    → box′ ≡ changedAt cleared k box
-unfolding cleared
+    → box′ ≡ changedAt givenCleared k box
+unfolding givenCleared
 clear-set k box box′ h t e =
     let q : eqb (getD (cardHere k box) 38 0) 3 ≡ true = eq-eqb (getD (cardHere k box) 38 0) 3 (word-here k 38 box (omega arith) ∙ t) in
     e ∙ cells-cleared k box h ∙ rw q
 
-pub cleared-stays : (x : List ℕ) → (getD x 38 0 ≡ 3 → ⊥) → cleared x ≡ x
-unfolding cleared
+pub cleared-stays : (x : List ℕ) → (getD x 38 0 ≡ 3 → ⊥) → givenCleared x ≡ x
+unfolding givenCleared
 cleared-stays x t = rw (ne-eqb (getD x 38 0) 3 t)
 
-pub clear-none : (k : ℕ) (box : List ℕ) → (getD box (64 * k + 38) 0 ≡ 3 → ⊥) → box ≡ changedAt cleared k box
-clear-none k box t = card-stays cleared k box (cleared-stays (cardHere k box) (λ u. t (sym (word-here k 38 box (omega arith)) ∙ u)))
+pub clear-none : (k : ℕ) (box : List ℕ) → (getD box (64 * k + 38) 0 ≡ 3 → ⊥) → box ≡ changedAt givenCleared k box
+clear-none k box t = card-stays givenCleared k box (cleared-stays (cardHere k box) (λ u. t (sym (word-here k 38 box (omega arith)) ∙ u)))
 
 -- ---- a card keeps its length
 
@@ -115,8 +115,8 @@ pub marked-long : (x : List ℕ) → length x ≡ 64 → length (marked x) ≡ 6
 unfolding marked
 marked-long x e = by-cases (isWhole x && not (hasTable x)) (λ q. rw q (kind-long 3 x e)) (λ q. rw q e)
 
-pub cleared-long : (x : List ℕ) → length x ≡ 64 → length (cleared x) ≡ 64
-unfolding cleared
+pub cleared-long : (x : List ℕ) → length x ≡ 64 → length (givenCleared x) ≡ 64
+unfolding givenCleared
 cleared-long x e =
     by-cases (eqb (getD x 38 0) 3)
     (λ q. rw q (kind-long 0 (withCells (replicate 20 0) x) (given-length (replicate 20 0) x refl e)))
@@ -185,11 +185,11 @@ changed-length f g n box h =
     length-append (flat (map f (cardsIn n box))) (drop (64 * n) box) ∙ rw (l, length-drop (64 * n) box) (omega arith)
 
 -- Cards in a row, changed.
-pub changed-flat : (f : List ℕ → List ℕ) {xs : List (List ℕ)} → Whole xs → (rest : List ℕ)
+pub changed-flat : (f : List ℕ → List ℕ) {xs : List (List ℕ)} → FullCards xs → (rest : List ℕ)
     → changedAll f (length xs) (flat xs ++ rest) ≡ flat (map f xs) ++ rest
 changed-flat f {xs} w rest = rw (cards-front rest w, drop-at (flat xs) rest (64 * length xs) (length-flat (card-blocks w)))
 
-pub changed-whole : (f : List ℕ → List ℕ) → ((x : List ℕ) → length x ≡ 64 → length (f x) ≡ 64) → {xs : List (List ℕ)} → Whole xs
-    → Whole (map f xs)
+pub changed-whole : (f : List ℕ → List ℕ) → ((x : List ℕ) → length x ≡ 64 → length (f x) ≡ 64) → {xs : List (List ℕ)} → FullCards xs
+    → FullCards (map f xs)
 changed-whole f g whole.none = whole.none
 changed-whole f g (whole.one {x} e w) = whole.one (g x e) (changed-whole f g w)

@@ -15,7 +15,7 @@ use Rattle.reader.specs.declared.edition.Reading.{Reading}
 use Rattle.reader.specs.declared.edition.Reading.the-variants.{Taken}
 use Rattle.reader.specs.declared.edition.Reading.the-variants as reading
 use Rattle.reader.specs.Store.{flat, padded, zeros}
-use Rattle.reader.specs.Editions.{Whole, isTaken, readingOf, cardsOf, entriesOf}
+use Rattle.reader.specs.Editions.{FullCards, isTaken, readingOf, cardsOf, entriesOf}
 use Rattle.reader.specs.Editions as whole
 use Rattle.reader.proofs.StoreLaws.{length-flat}
 use Rattle.reader.proofs.EditionLaws.{card-blocks}
@@ -24,9 +24,9 @@ use Rattle.planning.specs.declared.editions.EditionsRefusal.{EditionsRefusal}
 use Rattle.planning.specs.declared.editions.Editions.{Editions}
 use Rattle.planning.specs.declared.editions.Editions.the-variants.{Both}
 use Rattle.planning.specs.declared.editions.Editions.the-variants as editions
-use Rattle.planning.specs.States.{Judged, judged}
-use Rattle.planning.specs.Plans.{Boxes, oldReading, newReading, bothAfter, editionsOf, areBoth, boardsOf, BoxesAfter, BothRead}
-use Rattle.planning.specs.Steps.{Kept}
+use Rattle.planning.specs.States.{BoardPlan, boardPlans}
+use Rattle.planning.specs.Plans.{Boxes, oldReading, newReading, bothAfter, editionsOf, areBoth, plansOf, BoxesAfter, BothRead}
+use Rattle.planning.specs.Steps.{BoxesKept}
 use Rattle.planning.proofs.BothLaws.{both-are-taken}
 use Rattle.planning.proofs.AnswerLaws.{SameRoom, boxes-kept, there, boards-are}
 use Rattle.writer.specs.declared.finish.FinishRefusal.the-variants.{Edition}
@@ -34,7 +34,7 @@ use Rattle.writer.specs.declared.finish.Finishing.{Finishing}
 use Rattle.writer.specs.declared.finish.Finishing.the-variants.{Refused}
 use Rattle.writer.specs.Held.{cardWord}
 use Rattle.writer.specs.Given.{tablesOf, finishedBoards, finishedText}
-use Rattle.writer.specs.GivenCards.{givenCards, marked, cleared, changedAll, givenBox, tabledPage, BoardsFinished}
+use Rattle.writer.specs.GivenCards.{givenCards, marked, givenCleared, changedAll, givenBox, tabledPage, BoardsFinished}
 use Rattle.writer.specs.Finishings.{finishingOf, isFinished, IsFinished}
 use Rattle.writer.proofs.HeldBoards.{Holds, taken-holds}
 use Rattle.writer.proofs.ChangedCards.{marked-long, changed-flat, changed-whole}
@@ -145,7 +145,7 @@ row-table (and-board {x} {t} {g} {xs} {ts} {gs} b bs) r (suc k) h =
 
 -- ---- all boards
 
-given-whole : {xs : List (List ℕ)} {ts : List TableCard} {gs : List (List ℕ)} → AllGiven xs ts gs → Whole gs
+given-whole : {xs : List (List ℕ)} {ts : List TableCard} {gs : List (List ℕ)} → AllGiven xs ts gs → FullCards gs
 given-whole no-board = whole.none
 given-whole (and-board b bs) = whole.one (b .given-long) (given-whole bs)
 
@@ -157,15 +157,15 @@ table-count : {xs : List (List ℕ)} {ts : List TableCard} {gs : List (List ℕ)
 table-count no-board = refl
 table-count (and-board b bs) = ap suc (table-count bs)
 
-all-back : {xs : List (List ℕ)} {ts : List TableCard} {gs : List (List ℕ)} → AllGiven xs ts gs → map cleared (map marked gs) ≡ xs
+all-back : {xs : List (List ℕ)} {ts : List TableCard} {gs : List (List ℕ)} → AllGiven xs ts gs → map givenCleared (map marked gs) ≡ xs
 all-back no-board = refl
 all-back (and-board b bs) = rw (b .back, all-back bs)
 
-module _ {xs : List (List ℕ)} {ts : List TableCard} {gs : List (List ℕ)} (a : AllGiven xs ts gs) (w : Whole xs) (r : List ℕ) where
+module _ {xs : List (List ℕ)} {ts : List TableCard} {gs : List (List ℕ)} (a : AllGiven xs ts gs) (w : FullCards xs) (r : List ℕ) where
   abbrev tabled : List ℕ
   tabled = flat (map marked gs) ++ r
 
-  tabled-whole : Whole (map marked gs)
+  tabled-whole : FullCards (map marked gs)
   tabled-whole = changed-whole marked marked-long (given-whole a)
 
   tabled-count : length (map marked gs) ≡ length xs
@@ -220,8 +220,8 @@ module _ {c : Conventions} {old new : List ℕ} {boxes boxes₁ : Boxes} {q : Ed
       read-holds (boxes .new-cards) (boxes .new-entries) (newReading c new boxes) refl taken (filled .new-cards) (filled .new-entries)
 
   module _ (answers : List ℕ) where
-    abbrev boards : List Judged
-    boards = boardsOf c old new
+    abbrev boards : List BoardPlan
+    boards = plansOf c old new
 
     abbrev givenAll : List (List ℕ)
     givenAll = givenCards (cardsOf c old) (cardsOf c new) boards answers
@@ -230,7 +230,7 @@ module _ {c : Conventions} {old new : List ℕ} {boxes boxes₁ : Boxes} {q : Ed
     rest = replicate (length (boxes .new-cards) - length (flat (cardsOf c new))) 0
 
     all-given : AllGiven (cardsOf c new) (tablesOf c old new answers) givenAll
-    unfolding tablesOf judged
+    unfolding tablesOf boardPlans
     all-given = boards-given (cardsOf c old) (cardsOf c new) (CardsFit c old) (CardsFit c new) boards answers 1 [] (CardsFit c new)
 
     box-read : boxes₁ .new-cards ≡ flat (cardsOf c new) ++ rest
@@ -254,13 +254,13 @@ module _ {c : Conventions} {old new : List ℕ} {boxes boxes₁ : Boxes} {q : Ed
         ∙ changed-flat marked (given-whole all-given) rest
 
     -- The given tables taken away, the cards are what was read.
-    box-back : changedAll cleared n (changedAll marked n (givenBox m n boxes₁ answers)) ≡ boxes₁ .new-cards
+    box-back : changedAll givenCleared n (changedAll marked n (givenBox m n boxes₁ answers)) ≡ boxes₁ .new-cards
     box-back =
         let ys = map marked givenAll in
         let l : n ≡ length ys = count-is ∙ sym (tabled-count all-given (CardsWhole c new) rest) in
-        ap (changedAll cleared n) box-marked
-        ∙ ap (λ (k : ℕ). changedAll cleared k (flat ys ++ rest)) l
-        ∙ changed-flat cleared (tabled-whole all-given (CardsWhole c new) rest) rest
+        ap (changedAll givenCleared n) box-marked
+        ∙ ap (λ (k : ℕ). changedAll givenCleared k (flat ys ++ rest)) l
+        ∙ changed-flat givenCleared (tabled-whole all-given (CardsWhole c new) rest) rest
         ∙ ap (λ (xs : List (List ℕ)). flat xs ++ rest) (all-back all-given)
         ∙ sym box-read
 
@@ -286,7 +286,7 @@ module _ {c : Conventions} {old new : List ℕ} {boxes boxes₁ : Boxes} {q : Ed
       let few : length (tabledPage c new m n boxes₁ answers) ≤ 549755813888 =
       rw same (omega (arith, FinishedFew c old new answers (new-holds .short))) in
       let a : editionsOf c old new boxes ≡ Both m n = sym (b .answer) ∙ e in
-      let kept : Kept (isFinished r) boxes₁ boxes′ = rw (box-back answers) at (d .boxes-after) in
+      let kept : BoxesKept (isFinished r) boxes₁ boxes′ = rw (box-back answers) at (d .boxes-after) in
       record {
         answer = d .answer few ∙ rw (a, same, boards-are b e);
         boxes-after = boxes-kept (isFinished r) filled room kept;

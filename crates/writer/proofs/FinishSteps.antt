@@ -13,13 +13,13 @@ use Rattle.tables.specs.declared.page.Written.{Written}
 use Rattle.tables.specs.declared.page.Written.the-variants.{Bytes}
 use Rattle.tables.specs.declared.page.Written.the-variants as paged
 use Rattle.tables.specs.declared.refusal.Refusal.the-variants as refusal
-use Rattle.tables.specs.Page.{pageOf, Finished as PageFinished}
+use Rattle.tables.specs.Page.{pageOf, PageEnded as PageFinished}
 use Rattle.tables.proofs.PageLaws.{finished}
 use Rattle.tables.proofs.Laws.{step, stop, by-cases}
 use Rattle.reader.specs.Store.{zeros}
 use Rattle.planning.specs.Cards.{cardsIn}
 use Rattle.planning.specs.Plans.{Boxes}
-use Rattle.planning.specs.Steps.{Kept}
+use Rattle.planning.specs.Steps.{BoxesKept}
 use Rattle.planning.proofs.BoxLaws.{four}
 use Rattle.writer.specs.declared.finish.FinishRefusal.{FinishRefusal}
 use Rattle.writer.specs.declared.finish.FinishRefusal.the-variants.{Answers, Impossible, PageFull}
@@ -31,7 +31,7 @@ use Rattle.writer.specs.Puts.{Puts}
 use Rattle.writer.specs.BoardTexts.{pageHeld}
 use Rattle.writer.specs.Writings.{pageAfter}
 use Rattle.writer.specs.Finishings.{firstAbove, finishedOn, answeredBy, isFinished}
-use Rattle.writer.specs.GivenCards.{marked, cleared, changedAll, checkedOf, givenBox, tabledPage, Gave, FinishEnded, FinishPut, BoardsFinished}
+use Rattle.writer.specs.GivenCards.{marked, givenCleared, changedAll, checkedOf, givenBox, tabledPage, Gave, FinishEnded, FinishPut, BoardsFinished}
 use Rattle.writer.proofs.ChangedCards.{marked-long, cleared-long, changed-length}
 
 -- ---- the first byte above 13
@@ -81,7 +81,7 @@ ended-well {n} {boxes} {page} h f =
       page-after = f .page-after;
     }
 
-pub ended-full : {n : ℕ} {boxes boxes′ : Boxes} {page page′ : List ℕ} → length page < n → Kept false boxes boxes′ × (page′ ≡ zeros page)
+pub ended-full : {n : ℕ} {boxes boxes′ : Boxes} {page page′ : List ℕ} → length page < n → BoxesKept false boxes boxes′ × (page′ ≡ zeros page)
     → FinishEnded n boxes page (Refused (PageFull n)) boxes′ page′
 ended-full {n} {boxes} {boxes′} {page} h z =
     let q = lt-leb n (length page) h in
@@ -90,9 +90,9 @@ ended-full {n} {boxes} {boxes′} {page} h z =
 -- ---- the page put
 
 pub put-done : {c : Conventions} {new cards cards₁ cards₂ entries page page′ : List ℕ} {n r : ℕ} → cards₁ ≡ changedAll marked n cards
-    → Puts page 0 (pageHeld c new cards₁ entries n) page′ r → cards₂ ≡ changedAll cleared n cards₁
+    → Puts page 0 (pageHeld c new cards₁ entries n) page′ r → cards₂ ≡ changedAll givenCleared n cards₁
     → FinishPut c new n cards entries page r cards₂ page′
-put-done {n = n} e p f = record { put = rw e at p; cards-after = f ∙ ap (changedAll cleared n) e }
+put-done {n = n} e p f = record { put = rw e at p; cards-after = f ∙ ap (changedAll givenCleared n) e }
 
 -- ---- editions that were read, finished
 
@@ -125,8 +125,8 @@ module _ {c : Conventions} {new : List ℕ} {m n : ℕ} {oc oe nc ne answers nc�
       let boxes = four oc oe nc ne in
       let bs = tabledPage c new m n boxes answers in
       let put : Puts page 0 bs page₁ k = rw (g .cards-after) at (p .put) in
-      let cards : nc₂ ≡ changedAll cleared n (changedAll marked n (givenBox m n boxes answers)) =
-      p .cards-after ∙ ap (λ (l : List ℕ). changedAll cleared n (changedAll marked n l)) (g .cards-after) in
+      let cards : nc₂ ≡ changedAll givenCleared n (changedAll marked n (givenBox m n boxes answers)) =
+      p .cards-after ∙ ap (λ (l : List ℕ). changedAll givenCleared n (changedAll marked n l)) (g .cards-after) in
       let well : isFinished r ≡ leb k (length page₁) = ap isFinished (d .answer) ∙ finished-is k (length page₁) in
       let lp = put .kept in
       let done = finishedOn (length bs) (length page) in
@@ -145,16 +145,16 @@ module _ {c : Conventions} {new : List ℕ} {m n : ℕ} {oc oe nc ne answers nc�
 
   -- They are wrong, and all was set to 0.
   pub boards-wrong : {page page′ : List ℕ} {f : FinishRefusal} {boxes′ : Boxes} → 64 * n ≤ length nc₁ → Wrong f ≡ checkedOf solve answers
-      → Kept false (four oc oe nc₁ ne) boxes′ × (page′ ≡ zeros page)
+      → BoxesKept false (four oc oe nc₁ ne) boxes′ × (page′ ≡ zeros page)
       → BoardsFinished c new m n (four oc oe nc ne) answers page (Refused f) boxes′ page′
   boards-wrong {page} {page′} {f} {boxes′} h t z =
       let boxes = four oc oe nc ne in
       let bs = tabledPage c new m n boxes answers in
       let done = finishedOn (length bs) (length page) in
       let lm : length (changedAll marked n nc₁) ≡ length nc₁ = changed-length marked marked-long n nc₁ h in
-      let lc : length (changedAll cleared n (changedAll marked n nc₁)) ≡ length nc₁ =
-      changed-length cleared cleared-long n (changedAll marked n nc₁) (omega arith) ∙ lm in
-      let room : length (changedAll cleared n (changedAll marked n (givenBox m n boxes answers))) ≡ length nc₁ = rw (← g .cards-after) lc in
+      let lc : length (changedAll givenCleared n (changedAll marked n nc₁)) ≡ length nc₁ =
+      changed-length givenCleared cleared-long n (changedAll marked n nc₁) (omega arith) ∙ lm in
+      let room : length (changedAll givenCleared n (changedAll marked n (givenBox m n boxes answers))) ≡ length nc₁ = rw (← g .cards-after) lc in
       record {
         answer = λ few. sym (rw (← g .solve-count) (checked-then solve answers done ∙ ap (λ (x : Checked). then x done) (sym t)));
         boxes-after = record {

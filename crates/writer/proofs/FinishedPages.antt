@@ -16,10 +16,10 @@ use Rattle.reader.proofs.EntryLaws.{All, none, one}
 use Rattle.reader.proofs.Counts.{cards-few}
 use Rattle.planning.specs.declared.state.BoardState.{BoardState}
 use Rattle.planning.specs.declared.state.BoardState.the-variants.{Blank, Own, Old, Near, Twin, Solve}
-use Rattle.planning.specs.States.{Judged, judged}
+use Rattle.planning.specs.States.{BoardPlan, boardPlans}
 use Rattle.planning.specs.Slips.{cardAt}
-use Rattle.planning.specs.Plans.{boardsOf}
-use Rattle.planning.proofs.BoardLaws.{judged-count}
+use Rattle.planning.specs.Plans.{plansOf}
+use Rattle.planning.proofs.BoardLaws.{plans-count}
 use Rattle.writer.specs.Pages.{pageText}
 use Rattle.writer.specs.Held.{cardWord, cardPart, boardItems, itemsUpTo, sectionItems, auctionHeld, playHeld, valuesHeld, boardHeld, boardsHeld, seen}
 use Rattle.writer.specs.BoardTexts.{pageHeld}
@@ -186,7 +186,7 @@ answer-few answers i =
     (λ q. rw q (first-few (drop (20 * i) answers)))
     (λ q. rw (q, length-replicate {A = ℕ} 20 0) (omega arith))
 
-table-few : (olds news : List (List ℕ)) (js : List Judged) (answers : List ℕ) (p : ℕ) (card : List ℕ) (s : BoardState)
+table-few : (olds news : List (List ℕ)) (js : List BoardPlan) (answers : List ℕ) (p : ℕ) (card : List ℕ) (s : BoardState)
     → FewCells (tableFor olds news js answers p card s)
 table-few olds news js answers p card Blank = first-few (drop 18 card)
 table-few olds news js answers p card Own = first-few (drop 18 card)
@@ -195,7 +195,7 @@ table-few olds news js answers p card (Near k) = first-few (drop 18 (cardAt news
 table-few olds news js answers p card (Twin k) = answer-few answers (slipIndex js k)
 table-few olds news js answers p card Solve = answer-few answers (slipIndex js p)
 
-tables-few : (olds news : List (List ℕ)) (js : List Judged) (answers : List ℕ) (ks : List Judged)
+tables-few : (olds news : List (List ℕ)) (js : List BoardPlan) (answers : List ℕ) (ks : List BoardPlan)
     → All FewCells (map (tableOf olds news js answers) ks)
 unfolding tableOf
 tables-few olds news js answers [] = none
@@ -204,8 +204,8 @@ tables-few olds news js answers (k ∷ ks) =
 
 -- THEOREM. There is a table for each board of the new edition.
 pub TablesCount : (c : Conventions) (old new answers : List ℕ) → length (tablesOf c old new answers) ≡ length (cardsOf c new)
-unfolding tablesOf judged
-TablesCount c old new answers = length-map (boardsOf c old new) _ ∙ judged-count (cardsOf c old) (cardsOf c new) 1 [] (cardsOf c new)
+unfolding tablesOf boardPlans
+TablesCount c old new answers = length-map (plansOf c old new) _ ∙ plans-count (cardsOf c old) (cardsOf c new) 1 [] (cardsOf c new)
 
 -- Boards that are so sized stay so with tables of at most 20 cells.
 tables-sized : {rs : List (List ℕ)} {bs : List PlainBoard} {ts : List TableCard}
@@ -220,7 +220,7 @@ tables-sized (next {r = r} {b = b} m h) (one {x = t} f fs) e = next (TablePut (l
 pub FinishedMost : (c : Conventions) (old new answers : List ℕ) → length (finishedText c old new answers) ≤ 475 * length new + 20
 unfolding finishedText finishedBoards tablesOf cardsOf
 FinishedMost c old new answers =
-    let js = boardsOf c old new in
+    let js = plansOf c old new in
     let few = tables-few (cardsOf c old) (cardsOf c new) js answers js in
     PageMost c new (tables-sized (EditionSized c new) few (TablesCount c old new answers ∙ cards-few c 0 0 (recordsOf new)))
 

@@ -9,8 +9,8 @@ use lib.Seq.{sets, sets-eq, take-at, drop-at, take-append-le, drop-append-le, ta
 use borrow.Author.Tests.{lt-ltb, ltb-true, le-ltb}
 use Rattle.tables.proofs.Laws.{step, by-cases}
 use Rattle.reader.specs.Store.{flat}
-use Rattle.reader.specs.Editions.{Whole, none, one}
-use Rattle.planning.specs.Cards.{dealOf, isWhole, hasTable, cardsIn, cardHere}
+use Rattle.reader.specs.Editions.{FullCards, none, one}
+use Rattle.planning.specs.Cards.{cardDeal, isWhole, hasTable, cardsIn, cardHere}
 use Rattle.planning.specs.Slips.{cardFrom}
 use Rattle.planning.proofs.SearchLaws.{here-length}
 use Rattle.writer.specs.Held.{cardWord, cardPart}
@@ -52,8 +52,8 @@ module _ (cells card : List ℕ) (e : length cells ≡ 20) (f : length card ≡ 
       ∙ getD-append-add cells (drop 38 card) 0 0
       ∙ getD-drop 38 card 0 0
 
-  given-deal : dealOf (withCells cells card) ≡ dealOf card
-  unfolding dealOf withCells
+  given-deal : cardDeal (withCells cells card) ≡ cardDeal card
+  unfolding cardDeal withCells
   given-deal =
       let l : 10 ≤ length (take 18 card) = omega (arith, front-length) in
       let m : 8 ≤ length (drop 10 (take 18 card)) = rw (length-drop 10 (take 18 card), front-length) (omega arith) in
@@ -132,12 +132,12 @@ cells-copied cards r k h e =
 -- ---- cards in a row
 
 -- Each has 64 words: so have the first k, and so have all where each by its number has.
-pub whole-take : (k : ℕ) {xs : List (List ℕ)} → Whole xs → Whole (take k xs)
+pub whole-take : (k : ℕ) {xs : List (List ℕ)} → FullCards xs → FullCards (take k xs)
 whole-take zero w = none
 whole-take (suc k) none = none
 whole-take (suc k) (one e w) = one e (whole-take k w)
 
-pub whole-nth : (xs : List (List ℕ)) → ((i : ℕ) → i < length xs → length (cardFrom xs i) ≡ 64) → Whole xs
+pub whole-nth : (xs : List (List ℕ)) → ((i : ℕ) → i < length xs → length (cardFrom xs i) ≡ 64) → FullCards xs
 whole-nth [] h = none
 whole-nth (x ∷ xs) h = one (h 0 (omega arith)) (whole-nth xs (λ i l. h (suc i) (omega arith)))
 
@@ -147,7 +147,7 @@ flat-more [] x = append-nil x
 flat-more (y ∷ ys) x = rw (flat-more ys x, append-assoc y (flat ys) x)
 
 -- Cards, and further words behind them.
-pub cards-on : {xs : List (List ℕ)} (m : ℕ) (rest : List ℕ) → Whole xs → cardsIn (length xs + m) (flat xs ++ rest) ≡ xs ++ cardsIn m rest
+pub cards-on : {xs : List (List ℕ)} (m : ℕ) (rest : List ℕ) → FullCards xs → cardsIn (length xs + m) (flat xs ++ rest) ≡ xs ++ cardsIn m rest
 cards-on m rest none =
     let z : 0 + m ≡ m = omega arith in
     rw z

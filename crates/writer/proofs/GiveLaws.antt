@@ -9,24 +9,24 @@ use lib.Seq.{sets, length-sets, take-at, take-all, take-suc, getD-append-add, ge
 use borrow.Author.Tests.{ltb-true, ltb-false}
 use Rattle.tables.proofs.Laws.{by-cases}
 use Rattle.reader.specs.Store.{flat}
-use Rattle.reader.specs.Editions.{Whole}
+use Rattle.reader.specs.Editions.{FullCards}
 use Rattle.reader.proofs.StoreLaws.{length-flat}
 use Rattle.reader.proofs.EditionLaws.{card-blocks}
 use Rattle.planning.specs.declared.state.BoardState.{BoardState}
 use Rattle.planning.specs.declared.state.BoardState.the-variants.{Blank, Own, Old, Near, Twin, Solve}
 use Rattle.planning.specs.Cards.{cardsIn, cardHere}
-use Rattle.planning.specs.States.{Judged, judged, stateOf}
+use Rattle.planning.specs.States.{BoardPlan, boardPlans, stateOf}
 use Rattle.planning.specs.Slips.{countOf, totalsOf, cardFrom, cardAt}
 use Rattle.planning.specs.Steps.{tally}
 use Rattle.planning.proofs.BoxLaws.{cards-count, card-nth, cards-take, cards-drop}
-use Rattle.planning.proofs.BoardLaws.{judged-count}
+use Rattle.planning.proofs.BoardLaws.{plans-count}
 use Rattle.planning.proofs.SearchLaws.{here-length}
 use Rattle.planning.proofs.StateLaws.{reach, state-reach}
 use Rattle.planning.proofs.PlanLaws.{count-few}
 use Rattle.planning.proofs.FoundLaws.{take-card}
 use Rattle.writer.specs.Given.{slipIndex, answerAt, cellsOf, tableFor, tableOf}
 use Rattle.writer.specs.GivenCards.{withCells, givenCard, givenCards, cellsAt, sourceCells, Gave}
-use Rattle.writer.proofs.StateFacts.{Likes, likes-self, likes-append, likes-take, likes-nth, state-likes, stateHere, near-own, twin-solve, boardOf, map-judged, count-more}
+use Rattle.writer.proofs.StateFacts.{Likes, likes-self, likes-append, likes-take, likes-nth, state-likes, stateHere, near-own, twin-solve, boardOf, map-plans, count-more}
 use Rattle.writer.proofs.GiveCells.{given-length, given-cells, given-alike, cells-length, part-cells, whole-take, whole-nth, flat-more, cards-on, cells-put, answer-length}
 
 -- ---- the cells that boards get
@@ -46,7 +46,7 @@ at-sized xs zero s h g = absurd (omega arith)
 at-sized xs (suc k) s h g = s k (omega arith)
 
 -- A board's cells are 20 words.
-table-cells : (os ns : List (List ℕ)) (js : List Judged) (answers : List ℕ) (p : ℕ) (card : List ℕ) (s : BoardState) → Sized os → Sized ns
+table-cells : (os ns : List (List ℕ)) (js : List BoardPlan) (answers : List ℕ) (p : ℕ) (card : List ℕ) (s : BoardState) → Sized os → Sized ns
     → length card ≡ 64
     → reach (length os) (length ns) s → length (tableFor os ns js answers p card s .cells) ≡ 20
 table-cells os ns js answers p card Blank so sn e r = cells-length card e
@@ -60,51 +60,51 @@ table-cells os ns js answers p card Solve so sn e r = answer-length answers (sli
 
 -- The cards, given the cards of both editions.
 abbrev pub allGiven : List (List ℕ) → List (List ℕ) → List ℕ → List (List ℕ)
-allGiven os ns answers = givenCards os ns (judged os ns) answers
+allGiven os ns answers = givenCards os ns (boardPlans os ns) answers
 
 -- The cells that the board number i gets in a state; those that it gets in its own.
 abbrev tableHere : List (List ℕ) → List (List ℕ) → List ℕ → ℕ → BoardState → List ℕ
-tableHere os ns answers i s = tableFor os ns (judged os ns) answers (i + 1) (cardFrom ns i) s .cells
+tableHere os ns answers i s = tableFor os ns (boardPlans os ns) answers (i + 1) (cardFrom ns i) s .cells
 
 unfoldable pub cellsFor : List (List ℕ) → List (List ℕ) → List ℕ → ℕ → List ℕ
-cellsFor os ns answers i = tableOf os ns (judged os ns) answers (boardOf os ns i) .cells
+cellsFor os ns answers i = tableOf os ns (boardPlans os ns) answers (boardOf os ns i) .cells
 
 module _ (os ns : List (List ℕ)) (answers : List ℕ) where
   -- The card number i.
   pub given-nth : (i : ℕ) → i < length ns → cardFrom (allGiven os ns answers) i ≡ withCells (cellsFor os ns answers i) (cardFrom ns i)
   unfolding cellsFor givenCard
-  given-nth i h = map-judged (givenCard os ns (judged os ns) answers) os ns i h
+  given-nth i h = map-plans (givenCard os ns (boardPlans os ns) answers) os ns i h
 
-  judged-length : length (judged os ns) ≡ length ns
-  unfolding judged
-  judged-length = judged-count os ns 1 [] ns
+  plans-length : length (boardPlans os ns) ≡ length ns
+  unfolding boardPlans
+  plans-length = plans-count os ns 1 [] ns
 
   -- As many as boards.
   pub given-count : length (allGiven os ns answers) ≡ length ns
-  given-count = length-map (judged os ns) (givenCard os ns (judged os ns) answers) ∙ judged-length
+  given-count = length-map (boardPlans os ns) (givenCard os ns (boardPlans os ns) answers) ∙ plans-length
 
   -- An own board keeps its cells; a solve board gets its answer.
   own-cells : (i : ℕ) → stateHere os ns i ≡ Own → cellsFor os ns answers i ≡ cellsOf (cardFrom ns i)
   unfolding cellsFor tableOf
   own-cells i e = ap (tableHere os ns answers i) e
 
-  solve-cells : (i : ℕ) → stateHere os ns i ≡ Solve → cellsFor os ns answers i ≡ answerAt answers (countOf 5 (take i (judged os ns)))
+  solve-cells : (i : ℕ) → stateHere os ns i ≡ Solve → cellsFor os ns answers i ≡ answerAt answers (countOf 5 (take i (boardPlans os ns)))
   unfolding cellsFor tableOf
   solve-cells i e =
       let z : i + 1 - 1 ≡ i = omega arith in
       ap (tableHere os ns answers i) e
-      ∙ ap (λ (n : ℕ). answerAt answers (countOf 5 (take n (judged os ns)))) z
+      ∙ ap (λ (n : ℕ). answerAt answers (countOf 5 (take n (boardPlans os ns)))) z
 
   module _ (so : Sized os) (sn : Sized ns) where
     -- Its cells are 20 words.
     pub cells-few : (i : ℕ) → i < length ns → length (cellsFor os ns answers i) ≡ 20
     unfolding cellsFor tableOf
     cells-few i h =
-        table-cells os ns (judged os ns) answers (i + 1) (cardFrom ns i) (stateHere os ns i) so sn (sn i h)
+        table-cells os ns (boardPlans os ns) answers (i + 1) (cardFrom ns i) (stateHere os ns i) so sn (sn i h)
         (state-reach os ns (take i ns) (cardFrom ns i) (omega (arith, length-take-le i ns (omega arith))))
 
     -- Each has 64 words.
-    pub given-whole : Whole (allGiven os ns answers)
+    pub given-whole : FullCards (allGiven os ns answers)
     given-whole =
         whole-nth (allGiven os ns answers)
         (λ i l.
@@ -135,7 +135,7 @@ one-more k = omega arith
 -- The first k boards have their cells, the words behind their cards are as they were, and slip of them are to be solved.
 pub record Giving (os : List (List ℕ)) (n : ℕ) (box₀ answers : List ℕ) (k slip : ℕ) (box : List ℕ) : Type 0 where
   pub inside : k ≤ n
-  pub slip-is : slip ≡ countOf 5 (take k (judged os (cardsIn n box₀)))
+  pub slip-is : slip ≡ countOf 5 (take k (boardPlans os (cardsIn n box₀)))
   pub box-is : box ≡ flat (take k (allGiven os (cardsIn n box₀) answers)) ++ drop (64 * k) box₀
   pub box-length : length box ≡ length box₀
 
@@ -268,7 +268,7 @@ module _ (m : ℕ) (old : List ℕ) (n : ℕ) (box₀ answers : List ℕ) (ho : 
     giving-next {s} {cells} {box′} {slip′} h es ec eb ei =
         let os = cardsIn m old in
         let ns = cardsIn n box₀ in
-        let js = judged os ns in
+        let js = boardPlans os ns in
         let gs = allGiven os ns answers in
         let so = cards-sized m old ho in
         let sn = cards-sized n box₀ hn in
@@ -300,8 +300,8 @@ module _ (m : ℕ) (old : List ℕ) (n : ℕ) (box₀ answers : List ℕ) (ho : 
     -- No more boards are to be solved than there are.
     pub giving-few : slip ≤ n
     giving-few =
-        let js = judged (cardsIn m old) (cardsIn n box₀) in
-        let c : k ≤ length js = rw (judged-length (cardsIn m old) (cardsIn n box₀) answers, cards-count n box₀) (g .inside) in
+        let js = boardPlans (cardsIn m old) (cardsIn n box₀) in
+        let c : k ≤ length js = rw (plans-length (cardsIn m old) (cardsIn n box₀) answers, cards-count n box₀) (g .inside) in
         omega (arith, g .slip-is, count-few 5 (take k js), length-take-le k js c, g .inside)
 
     -- All have.
@@ -310,11 +310,11 @@ module _ (m : ℕ) (old : List ℕ) (n : ℕ) (box₀ answers : List ℕ) (ho : 
     giving-end h =
         let os = cardsIn m old in
         let ns = cardsIn n box₀ in
-        let js = judged os ns in
+        let js = boardPlans os ns in
         let gs = allGiven os ns answers in
         let z : k ≡ n = omega (arith, g .inside) in
         let c = cards-count n box₀ in
-        let lj : length js ≤ k = omega (arith, judged-length os ns answers) in
+        let lj : length js ≤ k = omega (arith, plans-length os ns answers) in
         let lg : length gs ≤ k = omega (arith, given-count os ns answers) in
         record {
           solve-count = g .slip-is ∙ ap (countOf 5) (take-all k js lj);

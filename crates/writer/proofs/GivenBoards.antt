@@ -21,12 +21,12 @@ use Rattle.reader.proofs.CardKept.{CardKept}
 use Rattle.reader.proofs.PlainBounds.{PlainBounds}
 use Rattle.planning.specs.declared.state.BoardState.{BoardState}
 use Rattle.planning.specs.declared.state.BoardState.the-variants.{Old, Near, Twin, Solve}
-use Rattle.planning.specs.Cards.{dealOf, isWhole, hasTable, fits}
-use Rattle.planning.specs.States.{Judged, firstWith, orElse, stateOf, judgedFrom}
+use Rattle.planning.specs.Cards.{cardDeal, isWhole, hasTable, fits}
+use Rattle.planning.specs.States.{BoardPlan, firstWith, orElse, stateOf, boardPlansFrom}
 use Rattle.planning.specs.Slips.{cardFrom, cardAt}
 use Rattle.planning.proofs.FoundLaws.{found}
 use Rattle.writer.specs.Given.{slipIndex, answerAt, cellsOf, ownTable, given, tableFor, tableOf}
-use Rattle.writer.specs.GivenCards.{withCells, withKind, givenCard, marked, cleared}
+use Rattle.writer.specs.GivenCards.{withCells, withKind, givenCard, marked, givenCleared}
 use Rattle.writer.proofs.ChangedCards.{marked-stays, cleared-stays}
 use Rattle.writer.proofs.GiveCells.{given-length, given-alike, answer-length}
 
@@ -122,7 +122,7 @@ pub record TableGiven (x : List ℕ) (t : TableCard) (g : List ℕ) : Type 0 whe
   pub given-long : length g ≡ 64
   pub twenty : length (t .cells) ≡ 20
   pub is : marked g ≡ joined (take 18 x) (t .cells) (t .kind) (drop 39 x)
-  pub back : cleared (marked g) ≡ x
+  pub back : givenCleared (marked g) ≡ x
 
 -- So of all boards: their cards, tables, and cards with cells given.
 pub data AllGiven : List (List ℕ) → List TableCard → List (List ℕ) → Type 0 where
@@ -148,7 +148,7 @@ module _ (x : List ℕ) (f : CardFit x) where
         given-long = ap length same ∙ f .long;
         twenty = f .table .twenty;
         is = stays ∙ p;
-        back = ap cleared stays ∙ cleared-stays x (λ u. omega (arith, f .table .kind-low));
+        back = ap givenCleared stays ∙ cleared-stays x (λ u. omega (arith, f .table .kind-low));
       }
 
   no-kind : hasTable x ≡ false → getD x 38 0 ≡ 0
@@ -157,7 +157,7 @@ module _ (x : List ℕ) (f : CardFit x) where
 
   -- A board that is given cells.
   cells-given : (cs : List ℕ) → length cs ≡ 20 → isWhole x ≡ true → hasTable x ≡ false → TableGiven x (given cs) (withCells cs x)
-  unfolding marked cleared
+  unfolding marked givenCleared
   cells-given cs l w h =
       let a = take 18 x in
       let b = cellsOf x in
@@ -170,7 +170,7 @@ module _ (x : List ℕ) (f : CardFit x) where
       let alike = given-alike cs x l (f .long) in
       let m : marked (withCells cs x) ≡ joined a cs 3 d =
       rw (alike .whole, alike .table, w, h) (ap (withKind 3) g ∙ with-kind a cs k d front-18 l 3) in
-      let z : cleared (joined a cs 3 d) ≡ joined a (replicate 20 0) 0 d =
+      let z : givenCleared (joined a cs 3 d) ≡ joined a (replicate 20 0) 0 d =
       rw (kind-of a cs 3 d front-18 l)
       (ap (withKind 0) (with-cells a cs 3 d front-18 l (replicate 20 0))
       ∙ with-kind a (replicate 20 0) 3 d front-18 (length-replicate {A = ℕ} 20 0) 0) in
@@ -180,7 +180,7 @@ module _ (x : List ℕ) (f : CardFit x) where
         given-long = given-length cs x l (f .long);
         twenty = l;
         is = m;
-        back = ap cleared m ∙ z ∙ e ∙ sym p;
+        back = ap givenCleared m ∙ z ∙ e ∙ sym p;
       }
 
 -- The cells of a board that was found.
@@ -193,7 +193,7 @@ found-twenty tabled d xs fs q =
     let e : m ≡ suc (h .index) = omega (arith, h .number) in
     ap (λ (k : ℕ). length (cellsOf (cardAt xs k))) e ∙ fit-at fs (h .index) (h .below) .table .twenty
 
-module _ (olds news : List (List ℕ)) (of : All CardFit olds) (nf : All CardFit news) (js : List Judged) (answers : List ℕ) where
+module _ (olds news : List (List ℕ)) (of : All CardFit olds) (nf : All CardFit news) (js : List BoardPlan) (answers : List ℕ) where
   -- The state of a whole board without a table.
   abbrev sourced : List (List ℕ) → List ℕ → BoardState
   sourced earlier d =
@@ -225,7 +225,7 @@ module _ (olds news : List (List ℕ)) (of : All CardFit olds) (nf : All CardFit
       (λ q. rw q (record { cells = cellsOf (cardAt olds (firstWith true d olds)); is = refl; twenty = found-twenty true d olds of q }))
 
   -- A board of the new edition.
-  abbrev board : ℕ → List (List ℕ) → List ℕ → Judged
+  abbrev board : ℕ → List (List ℕ) → List ℕ → BoardPlan
   board p earlier x = record { position = p; card = x; state = stateOf olds news earlier x }
 
   board-given : (p : ℕ) (earlier : List (List ℕ)) (x : List ℕ) → CardFit x
@@ -237,14 +237,14 @@ module _ (olds news : List (List ℕ)) (of : All CardFit olds) (nf : All CardFit
       by-cases (hasTable x)
       (λ t. rw (w, t) (own-given x f (rw (w, t))))
       (λ t.
-      let s = sourced-cells p x earlier (dealOf x) in
+      let s = sourced-cells p x earlier (cardDeal x) in
       rw (w, t, s .is) (cells-given x f (s .cells) (s .twenty) w t)))
       (λ w. rw w (own-given x f (rw w)))
 
   -- THEOREM. So it is of all boards.
   pub boards-given : (p : ℕ) (earlier : List (List ℕ)) {xs : List (List ℕ)} → All CardFit xs
       → AllGiven xs
-      (map (tableOf olds news js answers) (judgedFrom olds news p earlier xs))
-      (map (givenCard olds news js answers) (judgedFrom olds news p earlier xs))
+      (map (tableOf olds news js answers) (boardPlansFrom olds news p earlier xs))
+      (map (givenCard olds news js answers) (boardPlansFrom olds news p earlier xs))
   boards-given p earlier none = no-board
   boards-given p earlier (one {x} f fs) = and-board (board-given p earlier x f) (boards-given (p + 1) (earlier ++ (x ∷ [])) fs)

@@ -12,7 +12,7 @@ use Rattle.reader.specs.Words.{same}
 use Rattle.reader.specs.Plain.{TagPair, PlainAuction, PlainBoard}
 use Rattle.writer.specs.Sections.{auctionLines, noteValues}
 use Rattle.writer.specs.Tags.{WrittenTag, seatText, headTags, earlyExtras, dealTags, lateExtras, noteTag, auctionTags, playTags, writtenTags}
-use Rattle.writer.specs.Remarks.{Anchored, Line, tagLine, dataLine, those, isUnder, wrote, blockLines, directivesAfter, blocksAfter, tagsLines}
+use Rattle.writer.specs.Remarks.{Anchored, WrittenLine, tagLine, dataLine, those, isUnder, wrote, blockLines, directivesAfter, blocksAfter, tagsLines}
 use Rattle.writer.proofs.NamesOnce.{Fresh, done, fresh, FreshTags, Noteless, noteless}
 
 -- ---- tags in a row
@@ -33,7 +33,7 @@ lines-append ds ks earlier [] vs = rw append-nil
 lines-append ds ks earlier (w ∷ ws) vs = rw (lines-append ds ks (earlier ++ w ∷ []) ws vs) (simp append-assoc)
 
 -- A tag that is the first of its name: its data lines, all directives and all blocks of the name.
-abbrev pub firstLines : List Anchored → List Anchored → List WrittenTag → List Line
+abbrev pub firstLines : List Anchored → List Anchored → List WrittenTag → List WrittenLine
 firstLines ds ks [] = []
 firstLines ds ks (w ∷ ws) =
     tagLine (w .name) (w .value)
@@ -52,11 +52,11 @@ lines-first ds ks (fresh {ws = ws} {w = w} h f) e =
 -- ---- the auction and its notes
 
 -- Notes after the first have no blocks.
-abbrev pub moreNotes : List Anchored → List (List ℕ) → List Line
+abbrev pub moreNotes : List Anchored → List (List ℕ) → List WrittenLine
 moreNotes ds [] = []
 moreNotes ds (v ∷ vs) = tagLine (ascii "Note") v ∷ (directivesAfter ds (noteTag v) ++ moreNotes ds vs)
 
-abbrev pub notesLines : List Anchored → List Anchored → List (List ℕ) → List Line
+abbrev pub notesLines : List Anchored → List Anchored → List (List ℕ) → List WrittenLine
 notesLines ds ks [] = []
 notesLines ds ks (v ∷ vs) = firstLines ds ks (noteTag v ∷ []) ++ moreNotes ds vs
 
@@ -77,7 +77,7 @@ lines-notes ds ks earlier (v ∷ vs) e =
 abbrev pub auctionTag : Conventions → PlainAuction → WrittenTag
 auctionTag c a = record { name = ascii "Auction"; value = seatText c (a .dealer); lines = auctionLines c a }
 
-abbrev pub auctionGroup : Conventions → List Anchored → List Anchored → List TagPair → Option PlainAuction → List Line
+abbrev pub auctionGroup : Conventions → List Anchored → List Anchored → List TagPair → Option PlainAuction → List WrittenLine
 auctionGroup c ds ks ts none = []
 auctionGroup c ds ks ts (some a) = firstLines ds ks (auctionTag c a ∷ []) ++ notesLines ds ks (noteValues (drop (a .before) ts))
 

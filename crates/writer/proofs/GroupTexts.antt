@@ -12,22 +12,22 @@ use Rattle.reader.specs.Plain.{Item, TagPair, PlainAuction, tagsIn}
 use Rattle.writer.specs.declared.remarks.Sought.the-variants.{Under}
 use Rattle.writer.specs.Sections.{noteValues}
 use Rattle.writer.specs.Tags.{WrittenTag, noteTag}
-use Rattle.writer.specs.Remarks.{Line, dataLine, those, isUnder, directiveLines, blockLines, directivesAfter, lineText, linesText}
-use Rattle.writer.specs.Items.{soughtBy, remarksText, afterText, tagLineText, rowsText, fullText, groupText, notesText, hasRemarks}
+use Rattle.writer.specs.Remarks.{WrittenLine, dataLine, those, isUnder, directiveLines, blockLines, directivesAfter, lineText, linesText}
+use Rattle.writer.specs.Items.{soughtBy, remarksText, afterText, tagLineText, dataText, fullText, groupText, notesText, hasRemarks}
 use Rattle.writer.proofs.GroupLines.{firstLines, moreNotes, notesLines, auctionTag, auctionGroup}
 use Rattle.writer.proofs.RemarkTexts.{MarkedItems, under-tells, directivesIn, blocksIn, DirectivesText, BlocksText, after-none}
 
 -- ---- lines in a row
 
-pub lines-join : (ls ms : List Line) → linesText (ls ++ ms) ≡ linesText ls ++ linesText ms
+pub lines-join : (ls ms : List WrittenLine) → linesText (ls ++ ms) ≡ linesText ls ++ linesText ms
 lines-join [] ms = refl
 lines-join (l ∷ ls) ms = rw (lines-join ls ms, append-assoc (lineText l) (linesText ls) (linesText ms))
 
-pub rows-join : (ds es : List (List ℕ)) → rowsText (ds ++ es) ≡ rowsText ds ++ rowsText es
+pub rows-join : (ds es : List (List ℕ)) → dataText (ds ++ es) ≡ dataText ds ++ dataText es
 rows-join [] es = refl
-rows-join (d ∷ ds) es = rw (rows-join ds es, append-assoc (d ++ 10 ∷ []) (rowsText ds) (rowsText es))
+rows-join (d ∷ ds) es = rw (rows-join ds es, append-assoc (d ++ 10 ∷ []) (dataText ds) (dataText es))
 
-pub data-lines : (ds : List (List ℕ)) → linesText (map dataLine ds) ≡ rowsText ds
+pub data-lines : (ds : List (List ℕ)) → linesText (map dataLine ds) ≡ dataText ds
 unfolding lineText
 data-lines [] = refl
 data-lines (d ∷ ds) = rw (data-lines ds)

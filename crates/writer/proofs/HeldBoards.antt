@@ -15,10 +15,10 @@ use Rattle.tables.proofs.Laws.{by-cases, clash}
 use Rattle.reader.specs.declared.store.Entry.{Entry}
 use Rattle.reader.specs.declared.board.Section.{Section}
 use Rattle.reader.specs.declared.edition.Reading.the-variants.{Taken}
-use Rattle.reader.specs.Store.{word, flat, padded, entryWords}
+use Rattle.reader.specs.Store.{lowWord, flat, padded, entryWords}
 use Rattle.reader.specs.Boards.{recordOut}
 use Rattle.reader.specs.Records.{recordsOf}
-use Rattle.reader.specs.Editions.{placed, headWords, backWords, cardWords, cardOf, cardsOf, entriesOf, isTaken, readingOf, IsRead}
+use Rattle.reader.specs.Editions.{entryPlace, headWords, backWords, cardWords, cardOf, cardsOf, entriesOf, isTaken, readingOf, IsRead}
 use Rattle.reader.specs.Fellows.{Stands, BoardAt}
 use Rattle.reader.specs.Plain.{Item, itemOf, itemsOf, valueAt, plainBy, plainOf, plainBoards}
 use Rattle.reader.proofs.EntryLaws.{All, none, one}
@@ -264,7 +264,7 @@ module _ (c : Conventions) (text cards entries : List ℕ) (t : Holds c text car
 
     -- ---- values
 
-    value-is : (w x : ℕ) → w ≡ placed n x → Points valueKind (recordOut c r .entries) x 1 → valueHeld text entries w ≡ valueAt x (itemsOf r (recordOut c r .entries))
+    value-is : (w x : ℕ) → w ≡ entryPlace n x → Points valueKind (recordOut c r .entries) x 1 → valueHeld text entries w ≡ valueAt x (itemsOf r (recordOut c r .entries))
     unfolding valueHeld
     value-is w x e (absent z) =
         let q : w ≡ 0 = e ∙ rw z in
@@ -311,7 +311,7 @@ module _ (c : Conventions) (text cards entries : List ℕ) (t : Holds c text car
       named-is : eqb (cardWord cards k i) 0 ≡ false
       first-some : eqb (s .first) 0 ≡ false
 
-    section-is : {P : Type 0} {K : ℕ → Type 0} (i : ℕ) (s : Section) → cardWord cards k i ≡ placed n (s .first) → cardWord cards k (i + 1) ≡ word (s .count) → Points K (recordOut c r .entries) (s .first) (s .count)
+    section-is : {P : Type 0} {K : ℕ → Type 0} (i : ℕ) (s : Section) → cardWord cards k i ≡ entryPlace n (s .first) → cardWord cards k (i + 1) ≡ lowWord (s .count) → Points K (recordOut c r .entries) (s .first) (s .count)
         → (cardWord cards k i ≡ 0 → s .first ≡ 0 → P) → (SectionHeld i s → P) → P
     unfolding itemsUpTo sectionItems
     section-is i s e f (absent z) missing held = missing (e ∙ rw z) z
@@ -399,7 +399,7 @@ module _ (c : Conventions) (text cards entries : List ℕ) (t : Holds c text car
     board-is =
         let bd = recordOut c r .state .board in
         let low = RecordBounded c r .id-low in
-        let v : word (vulnerability (bd .id)) ≡ vulnerability (bd .id) = by-cases (eqb (bd .id .vulnerability) 4) (λ u. rw u (omega arith)) (λ u. rw u (omega (arith, low .vulnerable-low))) in
+        let v : lowWord (vulnerability (bd .id)) ≡ vulnerability (bd .id) = by-cases (eqb (bd .id .vulnerability) 4) (λ u. rw u (omega arith)) (λ u. rw u (omega (arith, low .vulnerable-low))) in
         let e2 : cardWord cards k 2 ≡ bd .id .«number_met» = head-is 2 (omega arith) ∙ omega (arith, low .number-met-low) in
         let e3 : cardWord cards k 3 ≡ bd .id .number = head-is 3 (omega arith) ∙ omega (arith, low .number-low) in
         let e4 : cardWord cards k 4 ≡ bd .id .dealer = head-is 4 (omega arith) ∙ omega (arith, low .dealer-low) in

@@ -16,15 +16,15 @@ use Rattle.reader.specs.Plain.{Item, PlainBoard, PlainAuction, PlainPlay, tagsI
 use Rattle.reader.specs.TagBytes.{tagText}
 use Rattle.reader.specs.Editions.{cardsOf}
 use Rattle.writer.specs.declared.present.Present.{Present}
-use Rattle.writer.specs.declared.remarks.Sought.the-variants.{Leading, Lost}
+use Rattle.writer.specs.declared.remarks.Sought.the-variants.{Leading, Unwritten}
 use Rattle.writer.specs.Sections.{noteValues, playLines}
 use Rattle.writer.specs.Tags.{WrittenTag, tagOf, orEmpty, ifThere, dealerTags, seatText, resultText, dealValue, firstValue, headTags, tableTags, dealTags, earlyExtras, lateExtras, playTags, writtenTags}
-use Rattle.writer.specs.Remarks.{Line, tagLine, dataLine, directiveLine, blockLine, linesText, lineText, leadingLines, bodyLines}
-use Rattle.writer.specs.Pages.{ownPlay, bodyText, headerText, builtInHeader, firstPart, nextPart, nextParts, pageText, writtenText}
+use Rattle.writer.specs.Remarks.{WrittenLine, tagLine, dataLine, directiveLine, blockLine, linesText, lineText, leadingLines, bodyLines}
+use Rattle.writer.specs.Pages.{ownPlay, bodyText, pageHeader, builtInHeader, firstPart, nextPart, nextParts, pageText, writtenText}
 use Rattle.writer.specs.Steps.{isThere, isAny, hasNotes, presentOf}
 use Rattle.writer.specs.Held.{cardWord, cardPart, itemsAt, valueHeld, boardItems, itemsUpTo, sectionItems, auctionHeld, playHeld, valuesHeld, boardHeld, boardsHeld}
-use Rattle.writer.specs.Items.{soughtBy, isFirst, remarksText, afterText, tagLineText, taggedText, extrasText, rowsText, fullText, groupText, notesText, auctionText, playText, tagsAt, scoringAt, dealPlace, isRemark, hasRemarks, resultIn}
-use Rattle.writer.specs.BoardTexts.{scanned, valueOf, optionalText, titleText, playersText, dealerText, headText, dealHeld, contractText, tableText, analysisText, sectionText, noteTags, biddingText, cardsText, presentHeld, scanOf, early, frontText, lostText, backText, leadHeld, bodyHeld, headerHeld, nextHeld, partsHeld, pageHeld}
+use Rattle.writer.specs.Items.{soughtBy, isFirst, remarksText, afterText, tagLineText, taggedText, extrasText, dataText, fullText, groupText, notesText, auctionText, playText, tagsAt, scoringAt, dealPlace, isRemark, hasRemarks, resultIn}
+use Rattle.writer.specs.BoardTexts.{scannedItems, cardValue, optionalText, titleText, playersText, dealerText, headText, dealHeld, contractText, tableText, analysisText, sectionText, noteTags, biddingText, cardsText, presentHeld, scanOf, early, frontText, unwrittenText, backText, leadHeld, bodyHeld, headerHeld, nextHeld, partsHeld, pageHeld}
 use Rattle.writer.proofs.RemarkTexts.{MarkedItems, remarks-none, after-none}
 use Rattle.writer.proofs.GroupLines.{auctionTag}
 use Rattle.writer.proofs.GroupTexts.{groups-join, group-none, notes-none}
@@ -61,9 +61,9 @@ module _ (c : Conventions) (text cards entries : List ℕ) (k : ℕ) where
   unfolding headText titleText playersText headTags boardHeld valuesHeld
   head-group is = sym (
       rw (
-        groups-join (ifThere "Board" (valueOf text cards entries k 39)) _ is,
+        groups-join (ifThere "Board" (cardValue text cards entries k 39)) _ is,
         groups-join (dealerTags c (cardWord cards k 4)) _ is,
-        optional-group "Board" (valueOf text cards entries k 39) is,
+        optional-group "Board" (cardValue text cards entries k 39) is,
         dealer-group is,
       )
       (simp (tagged-full, append-assoc, append-nil)))
@@ -166,7 +166,7 @@ module _ (c : Conventions) (text cards entries : List ℕ) (k : ℕ) where
   abbrev whole : List Item → List ℕ
   whole is =
       remarksText (soughtBy Leading []) (isFirst Leading) 4 is
-      ++ (tagsPart c (boardHeld text cards entries k) play is ++ lostText (presentOf (boardHeld text cards entries k)) is)
+      ++ (tagsPart c (boardHeld text cards entries k) play is ++ unwrittenText (presentOf (boardHeld text cards entries k)) is)
 
   regroup : (r h e d a l b p x : List ℕ) → (r ++ h ++ e ++ d ++ a) ++ (l ++ b ++ p ++ x) ≡ r ++ ((h ++ (e ++ ((d ++ a) ++ (l ++ (b ++ p))))) ++ x)
   regroup r h e d a l b p x = simp append-assoc
@@ -199,7 +199,7 @@ module _ (c : Conventions) (text cards entries : List ℕ) (k : ℕ) where
       (extrasText text entries (cardWord cards k 0) is (cardWord cards k 0 + early text cards entries k) (cardWord cards k 1 - early text cards entries k))
       (biddingText c text cards entries k is)
       (cardsText c text cards entries k is)
-      (lostText (presentHeld text cards entries k) is)
+      (unwrittenText (presentHeld text cards entries k) is)
       ∙ rw (
         present-same f,
         head-group is,
@@ -229,18 +229,18 @@ module _ (c : Conventions) (text cards entries : List ℕ) (k : ℕ) where
         group-none (lateExtras (b .tags)) is e,
         auction-none is (b .auction) e,
         group-none (playTags c play (b .play)) is e,
-        remarks-none (soughtBy (Lost (presentOf b)) []) (isFirst (Lost (presentOf b))) 4 is refl e,
-        remarks-none (soughtBy (Lost (presentOf b)) []) (isFirst (Lost (presentOf b))) 3 is refl e,
+        remarks-none (soughtBy (Unwritten (presentOf b)) []) (isFirst (Unwritten (presentOf b))) 4 is refl e,
+        remarks-none (soughtBy (Unwritten (presentOf b)) []) (isFirst (Unwritten (presentOf b))) 3 is refl e,
       )
 
-  scan-whole : whole (scanned text cards entries k (scanOf text cards entries k)) ≡ whole (itemsAt text entries (cardWord cards k 0) (cardWord cards k 1))
+  scan-whole : whole (scannedItems text cards entries k (scanOf text cards entries k)) ≡ whole (itemsAt text entries (cardWord cards k 0) (cardWord cards k 1))
   unfolding scanOf boardItems
   scan-whole =
       by-cases (hasRemarks (itemsAt text entries (cardWord cards k 0) (cardWord cards k 1)))
       (λ q. rw q)
       (λ q. rw q (sym (whole-none (itemsAt text entries (cardWord cards k 0) (cardWord cards k 1)) q)))
 
-  scan-lead : remarksText (soughtBy Leading []) (isFirst Leading) 3 (scanned text cards entries k (scanOf text cards entries k))
+  scan-lead : remarksText (soughtBy Leading []) (isFirst Leading) 3 (scannedItems text cards entries k (scanOf text cards entries k))
       ≡ remarksText (soughtBy Leading []) (isFirst Leading) 3 (itemsAt text entries (cardWord cards k 0) (cardWord cards k 1))
   unfolding scanOf boardItems
   scan-lead =
@@ -257,7 +257,7 @@ module _ (c : Conventions) (text cards entries : List ℕ) (k : ℕ) where
   body-is : EntriesHeld text cards entries k → bodyHeld c text cards entries k ≡ bodyText c (boardHeld text cards entries k)
   unfolding bodyHeld
   body-is f =
-      board-whole f (scanned text cards entries k (scanOf text cards entries k))
+      board-whole f (scannedItems text cards entries k (scanOf text cards entries k))
       ∙ (scan-whole ∙ sym (BodyText (boardHeld text cards entries k) (itemsAt text entries (cardWord cards k 0) (cardWord cards k 1)) (held-of f) [] c play))
 
   next-is : EntriesHeld text cards entries k → nextHeld c text cards entries k ≡ nextPart c (boardHeld text cards entries k)
@@ -266,14 +266,14 @@ module _ (c : Conventions) (text cards entries : List ℕ) (k : ℕ) where
 
 -- ---- the page
 
-line-long : (l : Line) → 0 < length (lineText l)
+line-long : (l : WrittenLine) → 0 < length (lineText l)
 unfolding lineText tagText
 line-long (tagLine n v) = omega arith
 line-long (dataLine d) = rw (length-append d (10 ∷ [])) (omega arith)
 line-long (directiveLine i d) = rw (length-append d (10 ∷ [])) (omega arith)
 line-long (blockLine i v) = omega arith
 
-header-is : (ls : List Line) → headerHeld (linesText ls) ≡ headerText ls
+header-is : (ls : List WrittenLine) → headerHeld (linesText ls) ≡ pageHeader ls
 unfolding headerHeld
 header-is [] = refl
 header-is (l ∷ ls) =

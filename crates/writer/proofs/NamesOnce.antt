@@ -23,7 +23,7 @@ use Rattle.writer.specs.Sections.{noteValues}
 use Rattle.writer.specs.Tags.{WrittenTag, named, isExtra, extrasFrom, untilDeal, sinceDeal, beforeDeal, fromDeal, earlyExtras, lateExtras, ifThere, dealerTags, headTags, tableTags, dealTags, noteTag, auctionTags, playTags, writtenTags}
 use Rattle.writer.specs.Remarks.{wrote}
 use Rattle.writer.specs.declared.present.Present.{Present}
-use Rattle.writer.specs.Steps.{isThere, isAny, hasNotes, presentOf, isWritten}
+use Rattle.writer.specs.Steps.{isThere, isAny, hasNotes, presentOf, isTagWritten}
 
 -- ---- how often a name is written
 
@@ -258,7 +258,7 @@ abbrev allNumbers : Present → List ℕ
 allNumbers p = headNumbers p ++ (dealNumbers p ++ (ifSo (p .auction) 15 ++ ifSo (p .play) 16))
 
 abbrev timesRight : ℕ → Present → Bool
-timesRight k p = eqb (timesIn k (allNumbers p)) (once (not (eqb k 0 || eqb k 17) && isWritten p k))
+timesRight k p = eqb (timesIn k (allNumbers p)) (once (not (eqb k 0 || eqb k 17) && isTagWritten p k))
 
 abbrev allRight : ℕ → Bool
 allRight k =
@@ -273,7 +273,7 @@ allRight k =
     timesRight k (record { board = board; dealer = dealer; table = table; score = score; par = par; auction = auction; notes = notes; play = play })))))))))
 
 all-right : all-below allRight 23 ≡ true
-unfolding forBool isWritten
+unfolding forBool isTagWritten
 all-right = refl
 
 number-times : (k : ℕ) (p : Present) → k < 23 → timesRight k p ≡ true
@@ -314,12 +314,12 @@ groups-numbers : (k : ℕ) (c : Conventions) (b : PlainBoard) (play : List (List
     → timesIn k (numbersOf (headTags c b))
     + (timesIn k (numbersOf (dealTags c b))
     + (timesIn k (numbersOf (auctionTags c (b .tags) (b .auction))) + timesIn k (numbersOf (playTags c play (b .play)))))
-    ≡ once (not (eqb k 0 || eqb k 17) && isWritten (presentOf b) k) + cond (eqb k 17) (noteCount (b .tags) (b .auction)) 0
+    ≡ once (not (eqb k 0 || eqb k 17) && isTagWritten (presentOf b) k) + cond (eqb k 17) (noteCount (b .tags) (b .auction)) 0
 unfolding presentOf
 groups-numbers k c b play h =
     let p = presentOf b in
     let ends = ifSo (p .auction) 15 ++ ifSo (p .play) 16 in
-    let t = eqb-true (timesIn k (allNumbers p)) (once (not (eqb k 0 || eqb k 17) && isWritten p k)) (number-times k p h) in
+    let t = eqb-true (timesIn k (allNumbers p)) (once (not (eqb k 0 || eqb k 17) && isTagWritten p k)) (number-times k p h) in
     let x = times-in-append k (headNumbers p) (dealNumbers p ++ ends) in
     let y = times-in-append k (dealNumbers p) ends in
     let z = times-in-append k (ifSo (p .auction) 15) (ifSo (p .play) 16) in
@@ -345,7 +345,7 @@ supplemental-times c b play n z =
 
 known-times : (c : Conventions) (b : PlainBoard) (play : List (List ℕ)) (n : List ℕ) → 0 < number n
     → timesWritten n (writtenTags c b play)
-    ≡ once (not (eqb (number n) 0 || eqb (number n) 17) && isWritten (presentOf b) (number n)) + cond (eqb (number n) 17) (noteCount (b .tags) (b .auction)) 0
+    ≡ once (not (eqb (number n) 0 || eqb (number n) 17) && isTagWritten (presentOf b) (number n)) + cond (eqb (number n) 17) (noteCount (b .tags) (b .auction)) 0
 unfolding earlyExtras lateExtras
 known-times c b play n z =
     omega (
@@ -364,7 +364,7 @@ known-times c b play n z =
 -- other once or not at all.
 pub TimesWritten : (c : Conventions) (b : PlainBoard) (play : List (List ℕ)) (n : List ℕ)
     → timesWritten n (writtenTags c b play)
-    ≡ cond (eqb (number n) 0) (once (named n (b .tags))) (cond (eqb (number n) 17) (noteCount (b .tags) (b .auction)) (once (isWritten (presentOf b) (number n))))
+    ≡ cond (eqb (number n) 0) (once (named n (b .tags))) (cond (eqb (number n) 17) (noteCount (b .tags) (b .auction)) (once (isTagWritten (presentOf b) (number n))))
 TimesWritten c b play n =
     by-cases (eqb (number n) 0)
     (λ e. rw e (supplemental-times c b play n (eqb-true (number n) 0 e)))
@@ -391,14 +391,14 @@ NamesOnce c b play n h =
     (λ e.
     by-cases (eqb (number n) 17)
     (λ x. clash (sym h ∙ note-number n (eqb-true (number n) 17 x)))
-    (λ x. omega (arith, rw (e, x) at t, once-few (isWritten (presentOf b) (number n)))))
+    (λ x. omega (arith, rw (e, x) at t, once-few (isTagWritten (presentOf b) (number n)))))
 
 once-test : (x : Bool) → ltb 0 (once x) ≡ x
 once-test true = refl
 once-test false = refl
 
-known-test : (p : Present) (k i j : ℕ) → eqb k 0 ≡ false → eqb k 17 ≡ false → ltb 0 (cond (eqb k 0) i (cond (eqb k 17) j (once (isWritten p k)))) ≡ isWritten p k
-known-test p k i j x y = rw (x, y) (once-test (isWritten p k))
+known-test : (p : Present) (k i j : ℕ) → eqb k 0 ≡ false → eqb k 17 ≡ false → ltb 0 (cond (eqb k 0) i (cond (eqb k 17) j (once (isTagWritten p k)))) ≡ isTagWritten p k
+known-test p k i j x y = rw (x, y) (once-test (isTagWritten p k))
 
 notes-test : (ts : List TagPair) (o : Option PlainAuction) → ltb 0 (noteCount ts o) ≡ hasNotes ts o
 notes-test ts none = refl
@@ -411,8 +411,8 @@ notes-test ts (some a) = some-values (noteValues (drop (a .before) ts))
 -- THEOREM. A name that stands on the board is written by its number alone. One with a number need not stand there.
 pub Written : (c : Conventions) (b : PlainBoard) (play : List (List ℕ)) (n : List ℕ)
     → (tagNumber n ≡ 0 → named n (b .tags) ≡ true)
-    → wrote n (writtenTags c b play) ≡ isWritten (presentOf b) (tagNumber n)
-unfolding tagNames tagNumber isWritten presentOf
+    → wrote n (writtenTags c b play) ≡ isTagWritten (presentOf b) (tagNumber n)
+unfolding tagNames tagNumber isTagWritten presentOf
 Written c b play n h =
     wrote-times n (writtenTags c b play)
     ∙ (ap (ltb 0) (TimesWritten c b play n)

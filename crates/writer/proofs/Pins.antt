@@ -10,13 +10,13 @@ use Rattle.tables.specs.Tables.{digitOf, digitByte, digitsReading, tableOfDigit
 use Rattle.reader.specs.Tag.{trimSpan, trimPart, bracketOf, endsQuoted, nameOf, isQuoted, valueOf, isComment, commentOf, tagLine, dataBracket, dataAfter, splitOf}
 use Rattle.reader.specs.TagBytes.{tagText}
 use Rattle.reader.specs.Lines.{isBlank, hasBrace, splitLine, bracketLine, lineKind}
-use Rattle.reader.specs.Words.{levelOf, bidCode, isPass, underscoreCode, signCode, callOf, callToken, isMark, sectionEnd, isAllPass, cardNumber, cardOf, isDoubling, contractTrump, isNoSide, isBothSides, vulnerabilityOf, vulnerabilityToken}
+use Rattle.reader.specs.Words.{levelOf, bidCode, isPass, underscoreCode, signCode, callOf, callToken, isMark, sectionEnd, isAllPass, cardNumber, cardNamed, isDoubling, contractTrump, isNoSide, isBothSides, vulnerabilityOf, vulnerabilityToken}
 use Rattle.reader.specs.Names.{tagNames, tagNumber}
 use Rattle.reader.specs.Deals.{has, ones, cardsNamed, handsAfter, dealOf, handWords, handsOfWords, cardText, ranksText, suitText, handText, dealText}
 use Rattle.reader.specs.Auction.{callTokenOf, called, calledPiece}
-use Rattle.reader.specs.Play.{weight, bestSlot, opened, isDash, played, playedBytes, playedPiece, lastTrick}
-use Rattle.reader.specs.Sections.{noteAfter, stopsAt, pieceOf, sectionData, walked, noWalk, walkedAll}
-use Rattle.reader.specs.Boards.{identityBy, dealBy, tableBy, contractBy, isKeptValue, isKept, valuesBy, applied, openBy, closed, tagged, readTag, blocked, braced, inNote, lineOut, recordOut}
+use Rattle.reader.specs.Play.{weight, bestSlot, opened, isGap, played, playedBytes, playedPiece, lastTrick}
+use Rattle.reader.specs.Sections.{commentaryAfter, stopsAt, pieceOf, sectionData, walked, noWalk, walkedAll}
+use Rattle.reader.specs.Boards.{identityBy, dealBy, tableBy, contractBy, isKeptValue, isKept, valuesBy, applied, openBy, closed, tagged, tagLineOut, blocked, braced, inCommentary, lineOut, recordOut}
 use Rattle.reader.specs.Records.{scanned, closesRecord, recordsOf}
 use Rattle.reader.specs.Plain.{itemOf, plainBy, plainOf, plainBoards}
 use Rattle.writer.specs.Sections.{endLines, auctionLines, noteIn, notesFrom, noteValues, playLines}
@@ -26,7 +26,7 @@ use Rattle.writer.specs.Pages.{builtInHeader, firstPart, nextPart, writt
 
 -- The page of a text.
 unfoldable page : String → List ℕ
-unfolding isWhite isInside trimmed digits decimal builtIn capital seatOf suitOf honourOf rankOf digitOf digitByte digitsReading tableOfDigits trimSpan trimPart bracketOf endsQuoted nameOf isQuoted valueOf isComment commentOf tagLine dataBracket dataAfter splitOf tagText isBlank hasBrace splitLine bracketLine lineKind levelOf bidCode isPass underscoreCode signCode callOf callToken isMark sectionEnd isAllPass cardNumber cardOf isDoubling contractTrump isNoSide isBothSides vulnerabilityOf vulnerabilityToken tagNames tagNumber has ones cardsNamed handsAfter dealOf handWords handsOfWords cardText ranksText suitText handText dealText callTokenOf called calledPiece weight bestSlot opened isDash played playedBytes playedPiece lastTrick noteAfter stopsAt pieceOf sectionData walked noWalk walkedAll identityBy dealBy tableBy contractBy isKeptValue isKept valuesBy applied openBy closed tagged readTag blocked braced inNote lineOut recordOut scanned closesRecord recordsOf itemOf plainBy plainOf plainBoards endLines auctionLines noteIn notesFrom noteValues playLines seatText resultText isExtra earlyExtras lateExtras headTags tableTags dealTags auctionTags playTags writtenTags directivesOf blocksOf directivesAfter blocksAfter leadingLines bodyLines boardLines lineText builtInHeader firstPart nextPart writtenText
+unfolding isWhite isInside trimmed digits decimal builtIn capital seatOf suitOf honourOf rankOf digitOf digitByte digitsReading tableOfDigits trimSpan trimPart bracketOf endsQuoted nameOf isQuoted valueOf isComment commentOf tagLine dataBracket dataAfter splitOf tagText isBlank hasBrace splitLine bracketLine lineKind levelOf bidCode isPass underscoreCode signCode callOf callToken isMark sectionEnd isAllPass cardNumber cardNamed isDoubling contractTrump isNoSide isBothSides vulnerabilityOf vulnerabilityToken tagNames tagNumber has ones cardsNamed handsAfter dealOf handWords handsOfWords cardText ranksText suitText handText dealText callTokenOf called calledPiece weight bestSlot opened isGap played playedBytes playedPiece lastTrick commentaryAfter stopsAt pieceOf sectionData walked noWalk walkedAll identityBy dealBy tableBy contractBy isKeptValue isKept valuesBy applied openBy closed tagged tagLineOut blocked braced inCommentary lineOut recordOut scanned closesRecord recordsOf itemOf plainBy plainOf plainBoards endLines auctionLines noteIn notesFrom noteValues playLines seatText resultText isExtra earlyExtras lateExtras headTags tableTags dealTags auctionTags playTags writtenTags directivesOf blocksOf directivesAfter blocksAfter leadingLines bodyLines boardLines lineText builtInHeader firstPart nextPart writtenText
 page s = writtenText builtIn (ascii s)
 
 -- Lines of a board where nothing is on record: from Event to Date, the players and the vulnerability, from Declarer to Result.

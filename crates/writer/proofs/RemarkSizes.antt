@@ -19,13 +19,13 @@ use Rattle.reader.proofs.WordLaws.{same-self, same-is}
 use Rattle.reader.proofs.PlainSizes.{remarksSize}
 use Rattle.writer.specs.Sections.{noteAt, noteValue, notesFrom, noteValues}
 use Rattle.writer.specs.Tags.{WrittenTag, named, writtenTags}
-use Rattle.writer.specs.Steps.{presentOf, isWritten}
-use Rattle.writer.specs.Remarks.{Anchored, anchoredFrom, directivesOf, blocksOf, those, isLeading, isUnder, wrote, isLost, Line, tagLine, dataLine, directiveLine, blockLine, directiveLines, blockLines, directivesAfter, blocksAfter, tagsLines, leadingLines, bodyLines, lineText, linesText}
+use Rattle.writer.specs.Steps.{presentOf, isTagWritten}
+use Rattle.writer.specs.Remarks.{Anchored, anchoredFrom, directivesOf, blocksOf, those, isLeading, isUnder, wrote, tagUnwritten, WrittenLine, tagLine, dataLine, directiveLine, blockLine, directiveLines, blockLines, directivesAfter, blocksAfter, tagsLines, leadingLines, bodyLines, lineText, linesText}
 use Rattle.writer.proofs.NamesOnce.{once, timesWritten, wrote-times, number, noteCount, TimesWritten}
 
 -- ---- sums
 
-pub text-append : (ls ms : List Line) → length (linesText (ls ++ ms)) ≡ length (linesText ls) + length (linesText ms)
+pub text-append : (ls ms : List WrittenLine) → length (linesText (ls ++ ms)) ≡ length (linesText ls) + length (linesText ms)
 text-append [] ms = omega arith
 text-append (l ∷ ls) ms =
     omega (arith, length-append (lineText l) (linesText (ls ++ ms)), length-append (lineText l) (linesText ls), text-append ls ms)
@@ -48,7 +48,7 @@ spread-none m [] = refl
 spread-none m (k ∷ ks) = omega (arith, spread-none m ks)
 
 -- Those that meet a test, once each, on lines that are m bytes longer.
-remarks-spread : (m : ℕ) (f : Anchored → Line) → ((k : Anchored) → length (lineText (f k)) ≡ length (k .bytes) + m)
+remarks-spread : (m : ℕ) (f : Anchored → WrittenLine) → ((k : Anchored) → length (lineText (f k)) ≡ length (k .bytes) + m)
     → (p : Anchored → Bool) (ks : List Anchored) → length (linesText (map f (those p ks))) ≡ spread m (λ k. once (p k)) ks
 remarks-spread m f h p [] = refl
 remarks-spread m f h p (k ∷ ks) =
@@ -162,7 +162,7 @@ module _ (i : ℕ) (b : List ℕ) where
   under-times n (w ∷ ws) = rw (same-flip (w .name) n, under-times n ws)
 
   directive-most : (o : Option (List ℕ)) (ws : List WrittenTag) → ((n : List ℕ) → timesWritten n ws ≤ 256)
-      → once (isLeading (anchoredTo i b o)) + (under ws (anchoredTo i b o) + once (isLost ws (anchoredTo i b o))) ≤ 256
+      → once (isLeading (anchoredTo i b o)) + (under ws (anchoredTo i b o) + once (tagUnwritten ws (anchoredTo i b o))) ≤ 256
   directive-most none ws h = omega (arith, under-none ws)
   directive-most (some n) ws h = rw (wrote-times n ws) (lost (timesWritten n ws) (under-times n ws) (h n))
     where
@@ -195,7 +195,7 @@ module _ (i : ℕ) (b : List ℕ) where
       (λ t. rw (same-flip (w .name) n, t, and-false) (omega (arith, first-once n (earlier ++ w ∷ []) ws)))
 
   block-most : (o : Option (List ℕ)) (ws : List WrittenTag)
-      → once (isLeading (anchoredTo i b o)) + (first [] ws (anchoredTo i b o) + once (isLost ws (anchoredTo i b o))) ≤ 1
+      → once (isLeading (anchoredTo i b o)) + (first [] ws (anchoredTo i b o) + once (tagUnwritten ws (anchoredTo i b o))) ≤ 1
   block-most none ws = omega (arith, first-none [] ws)
   block-most (some n) ws =
       let f = first-once n [] ws in
@@ -234,7 +234,7 @@ TimesFew c b play n =
     (λ e.
     by-cases (eqb (number n) 17)
     (λ x. omega (arith, rw (e, x) at t, counted-few (b .tags) (b .auction)))
-    (λ x. omega (arith, rw (e, x) at t, once-few (isWritten (presentOf b) (number n)))))
+    (λ x. omega (arith, rw (e, x) at t, once-few (isTagWritten (presentOf b) (number n)))))
 
 -- THEOREM. The bytes of a board's lines: its written tags with their data once, each directive at most 256 times, each block at most once.
 pub LinesSize : (b : PlainBoard) (ws : List WrittenTag) → ((n : List ℕ) → timesWritten n ws ≤ 256)
@@ -245,16 +245,16 @@ LinesSize b ws h =
     let ds = directivesOf b in
     let ks = blocksOf b in
     let lead : Anchored → ℕ = λ k. once (isLeading k) in
-    let lost : Anchored → ℕ = λ k. once (isLost ws k) in
+    let lost : Anchored → ℕ = λ k. once (tagUnwritten ws k) in
     omega (
       arith,
-      text-append (blockLines (those isLeading ks)) (tagsLines ds ks [] ws ++ (blockLines (those (isLost ws) ks) ++ directiveLines (those (isLost ws) ds))),
-      text-append (tagsLines ds ks [] ws) (blockLines (those (isLost ws) ks) ++ directiveLines (those (isLost ws) ds)),
-      text-append (blockLines (those (isLost ws) ks)) (directiveLines (those (isLost ws) ds)),
+      text-append (blockLines (those isLeading ks)) (tagsLines ds ks [] ws ++ (blockLines (those (tagUnwritten ws) ks) ++ directiveLines (those (tagUnwritten ws) ds))),
+      text-append (tagsLines ds ks [] ws) (blockLines (those (tagUnwritten ws) ks) ++ directiveLines (those (tagUnwritten ws) ds)),
+      text-append (blockLines (those (tagUnwritten ws) ks)) (directiveLines (those (tagUnwritten ws) ds)),
       directives-spread isLeading ds,
-      directives-spread (isLost ws) ds,
+      directives-spread (tagUnwritten ws) ds,
       blocks-spread isLeading ks,
-      blocks-spread (isLost ws) ks,
+      blocks-spread (tagUnwritten ws) ks,
       tags-size ds ks [] ws,
       spread-add 1 (under ws) lost ds,
       spread-add 1 lead (λ k. under ws k + lost k) ds,

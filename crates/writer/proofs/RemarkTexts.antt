@@ -14,12 +14,12 @@ use Rattle.tables.proofs.Laws.{by-cases, neither, clash}
 use Rattle.reader.specs.declared.store.Entry.{Entry}
 use Rattle.reader.specs.Words.{same}
 use Rattle.reader.specs.Boards.{recordOut}
-use Rattle.reader.specs.Plain.{Item, itemOf, itemsOf, TagPair, Remark, PlainBoard, tagsIn, remarksIn, withoutReturns, blockValue, Anchored as AnchoredEntries, free, next}
+use Rattle.reader.specs.Plain.{Item, itemOf, itemsOf, TagPair, Remark, PlainBoard, tagsIn, remarksIn, withoutReturns, blockValue, AnchoredEntries as AnchoredEntries, free, next}
 use Rattle.reader.proofs.WordLaws.{same-self}
 use Rattle.reader.proofs.PlainAnchors.{TagsBefore}
-use Rattle.writer.specs.declared.remarks.Sought.the-variants.{Leading, Under, Lost}
+use Rattle.writer.specs.declared.remarks.Sought.the-variants.{Leading, Under, Unwritten}
 use Rattle.writer.specs.Tags.{named, writtenTags}
-use Rattle.writer.specs.Remarks.{Anchored, nameAt, anchorOf, anchoredFrom, those, isLeading, isUnder, isLost, Line, directiveLine, blockLine, directiveLines, blockLines, lineText, linesText}
+use Rattle.writer.specs.Remarks.{Anchored, nameAt, anchorOf, anchoredFrom, those, isLeading, isUnder, tagUnwritten, WrittenLine, directiveLine, blockLine, directiveLines, blockLines, lineText, linesText}
 use Rattle.writer.specs.Steps.{presentOf}
 use Rattle.writer.specs.Items.{soughtBy, isFirst, remarkText, remarksText, afterText, isRemark, hasRemarks}
 use Rattle.writer.proofs.NamesOnce.{Written}
@@ -70,7 +70,7 @@ name-stands (t ∷ ts) zero n e =
 name-stands (t ∷ ts) (suc k) n e = by-cases (same n (t .name)) (λ x. rw x) (λ x. rw x (name-stands ts k n e))
 
 pub lost-tells : (c : Conventions) (b : PlainBoard) (play : List (List ℕ)) (n : List ℕ) (ts : List TagPair) → b .tags ≡ ts
-    → Tells ts (isLost (writtenTags c b play)) (soughtBy (Lost (presentOf b)) n) (isFirst (Lost (presentOf b)))
+    → Tells ts (tagUnwritten (writtenTags c b play)) (soughtBy (Unwritten (presentOf b)) n) (isFirst (Unwritten (presentOf b)))
 lost-tells c b play n ts q =
     record {
       first-told = λ j bs. refl;
@@ -84,7 +84,7 @@ abbrev pub valued : (List ℕ → List ℕ) → Remark → Remark
 valued f r = record { bytes = f (r .bytes); before = r .before }
 
 -- The remarks of the kind k, each on lines as the kind has them.
-module _ (k : ℕ) (h : isRemark k ≡ true) (line : Anchored → Line) (f : List ℕ → List ℕ)
+module _ (k : ℕ) (h : isRemark k ≡ true) (line : Anchored → WrittenLine) (f : List ℕ → List ℕ)
     (puts : (j : ℕ) (bs : List ℕ) (o : Option (List ℕ)) → lineText (line (record { number = j; bytes = f bs; anchor = o })) ≡ remarkText k bs)
     (ts : List TagPair) (q : Anchored → Bool) (p : List ℕ → Bool) (u : Bool) (w : Tells ts q p u) where
   no-tag : (i : Item) → eqb (i .kind) 1 ≡ true → eqb (i .kind) k ≡ false

@@ -11,12 +11,12 @@ use Rattle.tables.proofs.Laws.{by-cases}
 use Rattle.reader.specs.Words.{cardToken}
 use Rattle.reader.specs.Plain.{Item, PlainCall, PlainAuction, PlainPlay, annotationsFirst, callsIn, slotsOf, tricksIn}
 use Rattle.writer.specs.Sections.{spaced, endLines, callText, rounds, endsContinued, auctionLines, inSlot, trickCards, cardsLines, tricksLines, playLines}
-use Rattle.writer.specs.Items.{beforeCall, callsText, lastCode, endText, auctionText, slotsText, fourSlots, tricksText, playText, rowsText}
+use Rattle.writer.specs.Items.{beforeCall, callsText, lastCode, endText, auctionText, slotsText, fourSlots, tricksText, playText, dataText}
 use Rattle.writer.proofs.GroupTexts.{rows-join}
 
 -- ---- ends
 
-end-text : (end : ℕ) → rowsText (endLines end) ≡ endText end
+end-text : (end : ℕ) → dataText (endLines end) ≡ endText end
 unfolding endLines endText
 end-text end = by-cases (eqb end 1) (λ e. rw e) (λ e. by-cases (eqb end 2) (λ f. rw (e, f)) (λ f. rw (e, f)))
 
@@ -65,7 +65,7 @@ tokens-end : (m r : ℕ) → 0 < r → tokensText (4 * m + r) [] ≡ 10 ∷ []
 tokens-end m r h = rw (ne-eqb (4 * m + r) 0 (λ w. omega arith))
 
 -- Lines of four, behind m lines.
-tokens-rounds : (m : ℕ) (ts : List (List ℕ)) → tokensText (4 * m) ts ≡ cond (eqb (4 * m) 0) [] (10 ∷ []) ++ rowsText (rounds ts)
+tokens-rounds : (m : ℕ) (ts : List (List ℕ)) → tokensText (4 * m) ts ≡ cond (eqb (4 * m) 0) [] (10 ∷ []) ++ dataText (rounds ts)
 tokens-rounds m [] = sym (append-nil _)
 tokens-rounds m (a ∷ []) = rw (tokens-end m 1 (omega arith), before-first m) (simp append-nil)
 tokens-rounds m (a ∷ b ∷ []) =
@@ -80,11 +80,11 @@ tokens-rounds m (a ∷ b ∷ d ∷ e ∷ ts) =
     let two : 4 * m + 1 + 1 ≡ 4 * m + 2 = omega arith in
     let three : 4 * m + 2 + 1 ≡ 4 * m + 3 = omega arith in
     let four : 4 * m + 3 + 1 ≡ 4 * (m + 1) = omega arith in
-    let more : tokensText (4 * (m + 1)) ts ≡ 10 ∷ rowsText (rounds ts) = tokens-rounds (m + 1) ts ∙ rw (ne-eqb (4 * (m + 1)) 0 (λ w. omega arith)) in
+    let more : tokensText (4 * (m + 1)) ts ≡ 10 ∷ dataText (rounds ts) = tokens-rounds (m + 1) ts ∙ rw (ne-eqb (4 * (m + 1)) 0 (λ w. omega arith)) in
     rw (two, three, four, before-first m, before-next m 1 (omega arith) (omega arith), before-next m 2 (omega arith) (omega arith), before-next m 3 (omega arith) (omega arith), more)
     (simp append-assoc)
 
-pub calls-text : (c : Conventions) (is : List Item) → callsText c 0 false is ≡ rowsText (rounds (map (callText c) (callsIn is)))
+pub calls-text : (c : Conventions) (is : List Item) → callsText c 0 false is ≡ dataText (rounds (map (callText c) (callsIn is)))
 calls-text c is = calls-tokens c 0 false is ∙ tokens-rounds 0 (map (callText c) (callsIn is))
 
 -- ---- the last call
@@ -110,13 +110,13 @@ last-text is = last-code 47 is ∙ none-before (callsIn is)
     none-before (l ∷ ls) = continued-is l ls
 
 -- THEOREM. An auction is put as its data lines.
-pub AuctionText : (c : Conventions) (a : PlainAuction) (is : List Item) → a .calls ≡ callsIn is → auctionText c (a .end) is ≡ rowsText (auctionLines c a)
+pub AuctionText : (c : Conventions) (a : PlainAuction) (is : List Item) → a .calls ≡ callsIn is → auctionText c (a .end) is ≡ dataText (auctionLines c a)
 unfolding auctionText auctionLines
 AuctionText c a is e =
     rw (rows-join (rounds (map (callText c) (a .calls))) (cond (endsContinued (a .calls)) [] (endLines (a .end))), e, calls-text c is, last-text is)
-    (ap (λ (x : List ℕ). rowsText (rounds (map (callText c) (callsIn is))) ++ x) (ended (endsContinued (callsIn is))))
+    (ap (λ (x : List ℕ). dataText (rounds (map (callText c) (callsIn is))) ++ x) (ended (endsContinued (callsIn is))))
   where
-    ended : (b : Bool) → cond b [] (endText (a .end)) ≡ rowsText (cond b [] (endLines (a .end)))
+    ended : (b : Bool) → cond b [] (endText (a .end)) ≡ dataText (cond b [] (endLines (a .end)))
     ended true = refl
     ended false = sym (end-text (a .end))
 
@@ -144,17 +144,17 @@ cards-spaced c n k [] = rw (ne-eqb (n + 1) 0 (λ w. omega arith))
 cards-spaced c n k (l ∷ ks) =
     rw (ne-eqb (n + 1) 0 (λ w. omega arith), append-assoc (cardToken c k) (32 ∷ spaced (map (cardToken c) (l ∷ ks))) (10 ∷ []), cards-spaced c (n + 1) l ks)
 
-cards-lines : (c : Conventions) (ks : List ℕ) → cardsText c 0 ks ≡ rowsText (cardsLines c ks)
+cards-lines : (c : Conventions) (ks : List ℕ) → cardsText c 0 ks ≡ dataText (cardsLines c ks)
 cards-lines c [] = refl
 cards-lines c (k ∷ ks) = sym (append-nil _ ∙ cards-spaced c 0 k ks)
 
-pub trick-text : (c : Conventions) (z : ℕ) → slotsText c 0 (fourSlots z) ≡ rowsText (cardsLines c (trickCards (slotsOf z)))
+pub trick-text : (c : Conventions) (z : ℕ) → slotsText c 0 (fourSlots z) ≡ dataText (cardsLines c (trickCards (slotsOf z)))
 trick-text c z =
     slots-cards c 0 (fourSlots z)
     ∙ (ap (λ (ks : List ℕ). cardsText c 0 (inSlot (z % 256) ++ (inSlot (z / 256 % 256) ++ (inSlot (z / 65536 % 256) ++ ks)))) (append-nil (inSlot (z / 16777216 % 256)))
     ∙ cards-lines c (trickCards (slotsOf z)))
 
-pub tricks-text : (c : Conventions) (is : List Item) → tricksText c is ≡ rowsText (tricksLines c (tricksIn is))
+pub tricks-text : (c : Conventions) (is : List Item) → tricksText c is ≡ dataText (tricksLines c (tricksIn is))
 tricks-text c [] = refl
 tricks-text c (i ∷ is) =
     by-cases (eqb (i .kind) 8)
@@ -163,7 +163,7 @@ tricks-text c (i ∷ is) =
     (λ e. rw e (tricks-text c is))
 
 -- THEOREM. A play is put as its data lines.
-pub PlayText : (c : Conventions) (p : PlainPlay) (is : List Item) → p .tricks ≡ tricksIn is → playText c (p .end) is ≡ rowsText (playLines c p)
+pub PlayText : (c : Conventions) (p : PlainPlay) (is : List Item) → p .tricks ≡ tricksIn is → playText c (p .end) is ≡ dataText (playLines c p)
 unfolding playText playLines
 PlayText c p is e =
     rw (rows-join (tricksLines c (p .tricks)) (endLines (p .end)), e, tricks-text c is, end-text (p .end))

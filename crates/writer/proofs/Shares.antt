@@ -28,16 +28,16 @@ use Rattle.reader.specs.declared.board.State.{State}
 use Rattle.reader.specs.Tag.{cut, trimSpan, isComment, withComment, tagLine, splitOf, splitPlaced}
 use Rattle.reader.specs.TagBytes.{Cut, past, close, unquote, filled, TagBytes, readTag, tagBytes, SplitBytes, readSplit, splitBytes}
 use Rattle.reader.specs.Lines.{lastBrace, isBlank, splitAs, splitLine, bracketAs, bracketLine, kindBy, lineKind, opensBoard}
-use Rattle.reader.specs.Pieces.{Out, entry, glue, rawLines}
+use Rattle.reader.specs.Pieces.{Out, entry, joinLine, rawLines}
 use Rattle.reader.specs.Records.{endsLine}
-use Rattle.reader.specs.Boards.{closed, noSpan, at, tagged, directed, dated, readBy, blocked, isAllWhite, noState, recordOut}
+use Rattle.reader.specs.Boards.{closed, noSpan, at, tagged, directed, dataAdded, readBy, blocked, isAllWhite, noState, recordOut}
 use Rattle.reader.specs.Plain.{Item, itemOf, itemsOf, Remark, tagsIn, remarksIn, startsLine, withoutReturns, blockValue, plainBy, plainOf}
 use Rattle.reader.proofs.EntryLaws.{All, none, one}
 use Rattle.reader.proofs.SectionLaws.{LineAt, line-at}
 use Rattle.reader.proofs.Tags.{trim-whole, front-whole, close-at, unquote-is, commentAs, placeValue, placeName, placeTag, line-by, tag-placed, no-tag, never, some-inj, bind-some, past-at, TagStands, SplitStands}
 use Rattle.reader.proofs.Inside.{SplitInsideLine}
 use Rattle.reader.proofs.Counts.{chosen, cut-len}
-use Rattle.reader.proofs.PlainSteps.{Late, closed-late, closed-keeps, RecordSteps}
+use Rattle.reader.proofs.PlainSteps.{Late, closed-late, closed-keeps, HoldsOfRecord}
 use Rattle.reader.proofs.PlainTags.{Paired, over, tag, other, TagsPaired}
 use Rattle.reader.proofs.PlainSizes.{tagsSize, remarksSize, bytes-few}
 
@@ -227,7 +227,7 @@ line-ended (b ∷ bs) l m ls e = glued (eqb b 10) refl (rawLines bs) (λ k j js 
     more [] h = clash h
     more (x ∷ xs) h = h
 
-    glued : (t : Bool) → eqb b 10 ≡ t → (ks : List (List ℕ)) → ((k j : List ℕ) (js : List (List ℕ)) → ks ≡ k ∷ j ∷ js → endsLine false k ≡ true) → glue t b ks ≡ l ∷ m ∷ ls → endsLine false l ≡ true
+    glued : (t : Bool) → eqb b 10 ≡ t → (ks : List (List ℕ)) → ((k j : List ℕ) (js : List (List ℕ)) → ks ≡ k ∷ j ∷ js → endsLine false k ≡ true) → joinLine t b ks ≡ l ∷ m ∷ ls → endsLine false l ≡ true
     glued true h ks i e = let z : b ∷ [] ≡ l = cc in rw (← z) h
     glued false h [] i e = let z : _≡_ {A = List (List ℕ)} [] (m ∷ ls) = cc in let y : _≡_ {A = ℕ} 0 1 = cc in absurd (omega arith)
     glued false h (k ∷ []) i e = let z : _≡_ {A = List (List ℕ)} [] (m ∷ ls) = cc in let y : _≡_ {A = ℕ} 0 1 = cc in absurd (omega arith)
@@ -272,7 +272,7 @@ shares-late (one {x = e} l a) = omega (arith, share-late e (omega (arith, l .lat
 
 -- What was read up to the place p: all, or all up to an open block.
 abbrev done : State → ℕ → ℕ
-done s p = cond (s .noting) (s .block - 1) p
+done s p = cond (s .commentary) (s .block - 1) p
 
 -- A step from s at p to o at q: an open block starts at the next byte at the latest; the bytes read are enough.
 record Shared (r : List ℕ) (p : ℕ) (s : State) (q : ℕ) (o : Out State) : Type 0 where
@@ -282,18 +282,18 @@ record Shared (r : List ℕ) (p : ℕ) (s : State) (q : ℕ) (o : Out State) : T
 closed-shared : (c : Conventions) (r : List ℕ) (p : ℕ) (s : State) → Shared r p s p (closed c r s)
 closed-shared c r p s =
     let k = closed-keeps c r s in
-    let e : done (closed c r s .state) p ≡ done s p = ap (λ (b : Bool). cond b (closed c r s .state .block - 1) p) (k .noting-kept) ∙ ap (λ (x : ℕ). cond (s .noting) (x - 1) p) (k .block-kept) in
+    let e : done (closed c r s .state) p ≡ done s p = ap (λ (b : Bool). cond b (closed c r s .state .block - 1) p) (k .commentary-kept) ∙ ap (λ (x : ℕ). cond (s .commentary) (x - 1) p) (k .block-kept) in
     record { fits = λ h. omega (arith, e, shares-late (closed-late c r s)); next = λ h. omega (arith, e) }
 
 idle-shared : (r : List ℕ) (p : ℕ) (s : State) (l : List ℕ) → LineAt r p l → Shared r p s (p + length l) (record { state = s; entries = [] })
 idle-shared r p s l i =
     let z = line-starts r p l i in
-    by-cases (s .noting)
+    by-cases (s .commentary)
     (λ e. rw e (record { fits = λ h. omega arith; next = λ h. omega arith }))
     (λ e. rw e (record { fits = λ h. omega arith; next = λ h. omega arith }))
 
 -- Entries of no more than the line, after which no block is open.
-flat-shared : (r : List ℕ) (p : ℕ) (s : State) (l : List ℕ) (o : Out State) → LineAt r p l → o .state .noting ≡ false → shares (o .entries) ≤ length l + ended r (p + length l)
+flat-shared : (r : List ℕ) (p : ℕ) (s : State) (l : List ℕ) (o : Out State) → LineAt r p l → o .state .commentary ≡ false → shares (o .entries) ≤ length l + ended r (p + length l)
     → Shared r p s (p + length l) o
 flat-shared r p s l o i e h =
     let a : done (o .state) (p + length l) ≡ p + length l = ap (λ (b : Bool). cond b (o .state .block - 1) (p + length l)) e in
@@ -303,9 +303,9 @@ share-maybe : (b : Bool) (i n k : ℕ) → shares (cond b [] (entry 4 i n k ∷ 
 share-maybe true i n k = omega arith
 share-maybe false i n k = omega arith
 
-blocked-noting : (r : List ℕ) (s : State) (i j : ℕ) → blocked r s i j .state .noting ≡ false
+blocked-commentary : (r : List ℕ) (s : State) (i j : ℕ) → blocked r s i j .state .commentary ≡ false
 unfolding blocked
-blocked-noting r s i j = refl
+blocked-commentary r s i j = refl
 
 blocked-share : (r : List ℕ) (s : State) (i j : ℕ) → shares (blocked r s i j .entries) ≤ j - i
 unfolding blocked
@@ -315,39 +315,39 @@ brace-inside : (l : List ℕ) → lastBrace l ≤ length l
 brace-inside [] = omega arith
 brace-inside (b ∷ bs) = by-cases (eqb b 125 && not (among 125 bs)) (λ e. rw e (omega arith)) (λ e. rw e (omega (arith, brace-inside bs)))
 
-noting-shared : (r : List ℕ) (p : ℕ) (s : State) (l : List ℕ) → LineAt r p l → s .noting ≡ true → Shared r p s (p + length l) (blocked r s (s .block) (p + lastBrace l))
-noting-shared r p s l i e =
+commentary-shared : (r : List ℕ) (p : ℕ) (s : State) (l : List ℕ) → LineAt r p l → s .commentary ≡ true → Shared r p s (p + length l) (blocked r s (s .block) (p + lastBrace l))
+commentary-shared r p s l i e =
     let j = p + lastBrace l in
     let o = blocked r s (s .block) j in
-    let a : done (o .state) (p + length l) ≡ p + length l = ap (λ (b : Bool). cond b (o .state .block - 1) (p + length l)) (blocked-noting r s (s .block) j) in
+    let a : done (o .state) (p + length l) ≡ p + length l = ap (λ (b : Bool). cond b (o .state .block - 1) (p + length l)) (blocked-commentary r s (s .block) j) in
     let b : done s p ≡ s .block - 1 = ap (λ (b : Bool). cond b (s .block - 1) p) e in
     record { fits = λ h. omega (arith, line-starts r p l i, blocked-share r s (s .block) j, brace-inside l); next = λ h. omega arith }
 
-dated-share : (s : State) (p : ℕ) (d : Span) → shares (dated s p d .entries) ≡ 0
-dated-share s p d = chosen (λ es. shares es ≡ 0) (eqb (s .section .kind) 0) [] (entry 5 (p + d .start) (d .len) (s .section .kind) ∷ []) (λ e. refl) (λ e. refl)
+data-share : (s : State) (p : ℕ) (d : Span) → shares (dataAdded s p d .entries) ≡ 0
+data-share s p d = chosen (λ es. shares es ≡ 0) (eqb (s .section .kind) 0) [] (entry 5 (p + d .start) (d .len) (s .section .kind) ∷ []) (λ e. refl) (λ e. refl)
 
 tagged-share : (c : Conventions) (s : State) (p : ℕ) (l : List ℕ) (q : ℕ) (t : TagPlaces) (split : Span) → shares (tagged c s p l q t split .entries) ≡ t .name .len + t .value .len + 4
 unfolding tagged
 tagged-share c s p l q t split = omega arith
 
-tagged-noting : (c : Conventions) (s : State) (p : ℕ) (l : List ℕ) (q : ℕ) (t : TagPlaces) (split : Span) → tagged c s p l q t split .state .noting ≡ false
+tagged-commentary : (c : Conventions) (s : State) (p : ℕ) (l : List ℕ) (q : ℕ) (t : TagPlaces) (split : Span) → tagged c s p l q t split .state .commentary ≡ false
 unfolding tagged
-tagged-noting c s p l q t split = refl
+tagged-commentary c s p l q t split = refl
 
 reading-shared : (c : Conventions) (r : List ℕ) (p : ℕ) (s : State) (l : List ℕ) (t : TagReading) → LineAt r p l → readingFits t (length l) → Shared r p s (p + length l) (readBy c s p l (p + length l) t)
 reading-shared c r p s l (Plain t) i h =
     let q = p + length l in
-    flat-shared r p s l (tagged c s p l q t noSpan) i (tagged-noting c s p l q t noSpan) (omega (arith, tagged-share c s p l q t noSpan))
+    flat-shared r p s l (tagged c s p l q t noSpan) i (tagged-commentary c s p l q t noSpan) (omega (arith, tagged-share c s p l q t noSpan))
 reading-shared c r p s l (WithComment t d) i h =
     let q = p + length l in
     let o = tagged c s p l q t noSpan in
-    flat-shared r p s l (readBy c s p l q (WithComment t d)) i (tagged-noting c s p l q t noSpan)
+    flat-shared r p s l (readBy c s p l q (WithComment t d)) i (tagged-commentary c s p l q t noSpan)
     (rw shares-append (omega (arith, tagged-share c s p l q t noSpan)))
 reading-shared c r p s l (WithData t d) i h =
     let q = p + length l in
     let o = tagged c s p l q t (at p d) in
-    flat-shared r p s l (readBy c s p l q (WithData t d)) i (tagged-noting c s p l q t (at p d))
-    (rw shares-append (omega (arith, tagged-share c s p l q t (at p d), dated-share (o .state) p d)))
+    flat-shared r p s l (readBy c s p l q (WithData t d)) i (tagged-commentary c s p l q t (at p d))
+    (rw shares-append (omega (arith, tagged-share c s p l q t (at p d), data-share (o .state) p d)))
 
 kind-fits : (l : List ℕ) (t : TagReading) → lineKind l ≡ TagOn t → readingFits t (length l)
 kind-fits l t e = rw e at (line-fits l)
@@ -384,7 +384,7 @@ directive-trims l d e = go (isBlank l) e
 
 record-shared : (c : Conventions) (r : List ℕ) → Shared r 0 noState (length r) (recordOut c r)
 record-shared c r =
-    RecordSteps c r (Shared r)
+    HoldsOfRecord c r (Shared r)
     record {
       together = λ p q z s o k a b.
           record {
@@ -398,10 +398,10 @@ record-shared c r =
       bracing = λ p s l i n k b.
           let x = p + length (lead l) + 1 in
           let y = p + lastBrace l in
-          flat-shared r p s l (blocked r s x y) i (blocked-noting r s x y) (omega (arith, blocked-share r s x y, brace-inside l));
-      noting = λ p s l i n k. noting-shared r p s l i n;
+          flat-shared r p s l (blocked r s x y) i (blocked-commentary r s x y) (omega (arith, blocked-share r s x y, brace-inside l));
+      commentary = λ p s l i n k. commentary-shared r p s l i n;
       directing = λ p s l d i n k. flat-shared r p s l (directed s p d) i n (omega (arith, directive-trims l d k, line-short r p l i));
-      dating = λ p s l d i n k. flat-shared r p s l (dated s p d) i n (omega (arith, dated-share s p d));
+      dating = λ p s l d i n k. flat-shared r p s l (dataAdded s p d) i n (omega (arith, data-share s p d));
       tagging = λ p s l t i k. reading-shared c r p s l t i (kind-fits l t k);
     }
 

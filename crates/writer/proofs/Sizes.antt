@@ -29,8 +29,8 @@ use Rattle.reader.proofs.PlainCalls.{CallWritable, PlainCalls}
 use Rattle.reader.proofs.PlainAnnotations.{callsSize, PlainAnnotations}
 use Rattle.reader.proofs.PlainBounds.{PlainBounds}
 use Rattle.writer.specs.Tags.{orEmpty, writtenTags}
-use Rattle.writer.specs.Remarks.{Line, linesText, leadingLines}
-use Rattle.writer.specs.Pages.{ownPlay, bodyText, builtInHeader, headerText, firstPart, nextPart, nextParts, pageText, writtenText}
+use Rattle.writer.specs.Remarks.{WrittenLine, linesText, leadingLines}
+use Rattle.writer.specs.Pages.{ownPlay, bodyText, builtInHeader, pageHeader, firstPart, nextPart, nextParts, pageText, writtenText}
 use Rattle.writer.proofs.NamesOnce.{once}
 use Rattle.writer.proofs.Shares.{TagLineLong, PlainShares}
 use Rattle.writer.proofs.RemarkSizes.{TimesFew, LinesSize}
@@ -51,7 +51,7 @@ pub data BoardsSized : List (List ℕ) → List PlainBoard → Type 0 where
   over : BoardsSized [] []
   next : {r : List ℕ} {rs : List (List ℕ)} {b : PlainBoard} {bs : List PlainBoard} → BoardSized (length r) b → BoardsSized rs bs → BoardsSized (r ∷ rs) (b ∷ bs)
 
-header-few : (ls : List Line) → length (headerText ls) ≤ length (linesText ls) + 20
+header-few : (ls : List WrittenLine) → length (pageHeader ls) ≤ length (linesText ls) + 20
 unfolding builtInHeader
 header-few [] = omega arith
 header-few (l ∷ ls) = omega (arith, length-append (linesText (l ∷ ls)) (10 ∷ []))
@@ -77,7 +77,7 @@ PageSize c (next {r = r} {rs = rs} {b = b} {bs = bs} m h) =
     omega (
       arith,
       length-append (firstPart c b) (nextParts c bs),
-      length-append (headerText (leadingLines b)) (bodyText c b),
+      length-append (pageHeader (leadingLines b)) (bodyText c b),
       header-few (leadingLines b),
       length-append r (flat rs),
       PartSize c (length r) b m,
@@ -217,7 +217,7 @@ met-long : (s : Scan) (text l : List ℕ) → (s .met ≡ true → 5 ≤ length 
 unfolding scanned
 met-long s text l h e =
     let n = length-append text l in
-    by-cases (s .noting)
+    by-cases (s .commentary)
     (λ t. omega (arith, h (rw t at e)))
     (λ t. either (s .met) (opensBoard (lineKind l)) (rw t at e) (λ m. omega (arith, h m)) (λ o. omega (arith, TagLineLong l o)))
 
@@ -226,7 +226,7 @@ unfolding closesRecord
 records-long s text [] h = emit-long (s .met) text [] h none
 records-long s text (l ∷ ls) h =
     emit-long (closesRecord s l) (text ++ l) _
-    (λ t. omega (arith, h (both (s .met) (isBlank l) (both (not (s .noting)) (s .met && isBlank l) t .1) .0), length-append text l))
+    (λ t. omega (arith, h (both (s .met) (isBlank l) (both (not (s .commentary)) (s .met && isBlank l) t .1) .0), length-append text l))
     (records-long (cond (closesRecord s l) fresh (scanned s l)) (cond (closesRecord s l) [] (text ++ l)) ls (kept (closesRecord s l)))
   where
     kept : (b : Bool) → (cond b fresh (scanned s l)) .met ≡ true → 5 ≤ length (cond b [] (text ++ l))

@@ -13,8 +13,8 @@ use Rattle.reader.specs.Words.{same}
 use Rattle.reader.proofs.WordLaws.{same-is}
 use Rattle.planning.specs.declared.state.BoardState.{BoardState}
 use Rattle.planning.specs.declared.state.BoardState.the-variants.{Blank, Own, Old, Near, Twin, Solve}
-use Rattle.planning.specs.Cards.{dealOf, isWhole, hasTable, hasDeal, fits}
-use Rattle.planning.specs.States.{Judged, firstFrom, firstWith, orElse, stateNumber, stateOf, judgedFrom, judged}
+use Rattle.planning.specs.Cards.{cardDeal, isWhole, hasTable, hasDeal, fits}
+use Rattle.planning.specs.States.{BoardPlan, firstFrom, firstWith, orElse, stateNumber, stateOf, boardPlansFrom, boardPlans}
 use Rattle.planning.specs.Slips.{countOf, cardFrom}
 use Rattle.planning.specs.Steps.{tally}
 use Rattle.planning.proofs.FoundLaws.{found, found-none, none-found, card-among, numbered, take-card}
@@ -25,7 +25,7 @@ use Rattle.planning.proofs.FoundLaws.{found, found-none, none-found, card-among
 pub record Alike (x y : List ℕ) : Type 0 where
   pub whole : isWhole x ≡ isWhole y
   pub table : hasTable x ≡ hasTable y
-  pub deal : dealOf x ≡ dealOf y
+  pub deal : cardDeal x ≡ cardDeal y
 
 -- Card by card.
 pub data Likes : List (List ℕ) → List (List ℕ) → Type 0 where
@@ -66,7 +66,7 @@ first-likes tabled d p (one a l) = rw (fits-alike tabled d a, first-likes tabled
 pub state-likes : (os : List (List ℕ)) {ns ms es fs : List (List ℕ)} (card : List ℕ) → Likes ns ms → Likes es fs
     → stateOf os ns es card ≡ stateOf os ms fs card
 unfolding stateOf firstWith
-state-likes os card n e = rw (first-likes true (dealOf card) 1 n, first-likes false (dealOf card) 1 e)
+state-likes os card n e = rw (first-likes true (cardDeal card) 1 n, first-likes false (cardDeal card) 1 e)
 
 -- ---- what stands behind near and twin
 
@@ -78,19 +78,19 @@ abbrev Sought : List (List ℕ) → List (List ℕ) → List (List ℕ) → List
 Sought os ns es x Blank = Unit {0}
 Sought os ns es x Own = Unit {0}
 Sought os ns es x (Old k) = Unit {0}
-Sought os ns es x (Near k) = firstWith true (dealOf x) ns ≡ k
-Sought os ns es x (Twin k) = (firstWith true (dealOf x) os ≡ 0) × (firstWith true (dealOf x) ns ≡ 0) × (firstWith false (dealOf x) es ≡ k)
+Sought os ns es x (Near k) = firstWith true (cardDeal x) ns ≡ k
+Sought os ns es x (Twin k) = (firstWith true (cardDeal x) os ≡ 0) × (firstWith true (cardDeal x) ns ≡ 0) × (firstWith false (cardDeal x) es ≡ k)
 Sought os ns es x Solve = Unit {0}
 
 module _ (os ns es : List (List ℕ)) (x : List ℕ) where
   sought : Sought os ns es x (stateOf os ns es x)
   unfolding stateOf
   sought =
-      let d = dealOf x in
+      let d = cardDeal x in
       go (isWhole x) (hasTable x) (firstWith true d os) (firstWith true d ns) (firstWith false d es) refl refl refl
     where
-      go : (w t : Bool) (a b c : ℕ) → firstWith true (dealOf x) os ≡ a → firstWith true (dealOf x) ns ≡ b
-          → firstWith false (dealOf x) es ≡ c
+      go : (w t : Bool) (a b c : ℕ) → firstWith true (cardDeal x) os ≡ a → firstWith true (cardDeal x) ns ≡ b
+          → firstWith false (cardDeal x) es ≡ c
           → Sought os ns es x (cond w (cond t Own (orElse Old a (orElse Near b (orElse Twin c Solve)))) Blank)
       go false t a b c ea eb ec = tt
       go true true a b c ea eb ec = tt
@@ -108,13 +108,13 @@ pub near-own : (os ns es : List (List ℕ)) (x : List ℕ) (i : ℕ) → stateOf
     → (i < length ns) × (stateHere os ns i ≡ Own)
 unfolding firstWith fits hasDeal stateOf
 near-own os ns es x i e =
-    let d = dealOf x in
+    let d = cardDeal x in
     let s : firstFrom (fits true d) 1 ns ≡ suc i = rw e at (sought os ns es x) in
     let f = found (fits true d) 1 (suc i) ns s (λ z. omega arith) in
     let q : f .index ≡ i = omega (arith, f .number) in
     let y = cardFrom ns i in
     let h = both (hasDeal d y) (hasTable y) (rw q at (f .passes)) in
-    let w = both (isWhole y) (same d (dealOf y)) (h .0) in
+    let w = both (isWhole y) (same d (cardDeal y)) (h .0) in
     (omega (arith, f .below), rw (w .0, h .1))
 
 -- The source of a twin, the first board before it with the deal, is a solve board.
@@ -136,14 +136,14 @@ module _ (os ns : List (List ℕ)) (k : ℕ) (inside : k ≤ length ns) (x : Lis
       → stateOf os ns (take i ns) y ≡ Solve
   unfolding stateOf fits hasDeal
   solves d y h f eo en et =
-      let w = both (isWhole y) (same d (dealOf y)) h in
+      let w = both (isWhole y) (same d (cardDeal y)) h in
       let t : hasTable y ≡ false = by-cases (hasTable y) (λ q. clash (sym (rw (w .0, w .1, q) at f))) (λ q. q) in
-      rw (w .0, t, ← same-is d (dealOf y) (w .1), eo, en, et)
+      rw (w .0, t, ← same-is d (cardDeal y) (w .1), eo, en, et)
 
   pub twin-solve : stateOf os ns (take k ns) x ≡ Twin (suc i) → (i < k) × (stateHere os ns i ≡ Solve)
   unfolding firstWith fits
   twin-solve e =
-      let d = dealOf x in
+      let d = cardDeal x in
       let s = rw e at (sought os ns (take k ns) x) in
       let f = found (fits false d) 1 (suc i) (take k ns) (s .2) (λ z. omega arith) in
       let q : f .index ≡ i = omega (arith, f .number) in
@@ -157,11 +157,11 @@ module _ (os ns : List (List ℕ)) (k : ℕ) (inside : k ≤ length ns) (x : Lis
 -- ---- the boards one by one
 
 -- The board number i, from 0.
-abbrev pub boardOf : List (List ℕ) → List (List ℕ) → ℕ → Judged
+abbrev pub boardOf : List (List ℕ) → List (List ℕ) → ℕ → BoardPlan
 boardOf os ns i = record { position = i + 1; card = cardFrom ns i; state = stateHere os ns i }
 
-map-from : (f : Judged → List ℕ) (os ns : List (List ℕ)) (p : ℕ) (e xs : List (List ℕ)) (i : ℕ) → i < length xs
-    → cardFrom (map f (judgedFrom os ns p e xs)) i
+map-from : (f : BoardPlan → List ℕ) (os ns : List (List ℕ)) (p : ℕ) (e xs : List (List ℕ)) (i : ℕ) → i < length xs
+    → cardFrom (map f (boardPlansFrom os ns p e xs)) i
     ≡ f (record { position = i + p; card = cardFrom xs i; state = stateOf os ns (e ++ take i xs) (cardFrom xs i) })
 map-from f os ns p e [] i h = absurd (omega arith)
 map-from f os ns p e (x ∷ xs) zero h =
@@ -172,10 +172,10 @@ map-from f os ns p e (x ∷ xs) (suc i) h =
     map-from f os ns (p + 1) (e ++ (x ∷ [])) xs i (omega arith) ∙ rw (append-snoc e x (take i xs), z)
 
 -- What is made of each board.
-pub map-judged : (f : Judged → List ℕ) (os ns : List (List ℕ)) (i : ℕ) → i < length ns
-    → cardFrom (map f (judged os ns)) i ≡ f (boardOf os ns i)
-unfolding judged
-map-judged f os ns i h = map-from f os ns 1 [] ns i h
+pub map-plans : (f : BoardPlan → List ℕ) (os ns : List (List ℕ)) (i : ℕ) → i < length ns
+    → cardFrom (map f (boardPlans os ns)) i ≡ f (boardOf os ns i)
+unfolding boardPlans
+map-plans f os ns i h = map-from f os ns 1 [] ns i h
 
 swap : (a b : Bool) (n : ℕ) → cond a (cond b (n + 1) n + 1) (cond b (n + 1) n) ≡ cond b (cond a (n + 1) n + 1) (cond a (n + 1) n)
 swap true true n = refl
@@ -184,12 +184,12 @@ swap false true n = refl
 swap false false n = refl
 
 count-from : (c : ℕ) (os ns : List (List ℕ)) (p : ℕ) (e xs : List (List ℕ)) (i : ℕ) → i < length xs
-    → countOf c (take (suc i) (judgedFrom os ns p e xs))
-    ≡ tally c (stateOf os ns (e ++ take i xs) (cardFrom xs i)) (countOf c (take i (judgedFrom os ns p e xs)))
+    → countOf c (take (suc i) (boardPlansFrom os ns p e xs))
+    ≡ tally c (stateOf os ns (e ++ take i xs) (cardFrom xs i)) (countOf c (take i (boardPlansFrom os ns p e xs)))
 count-from c os ns p e [] i h = absurd (omega arith)
 count-from c os ns p e (x ∷ xs) zero h = rw append-nil
 count-from c os ns p e (x ∷ xs) (suc i) h =
-    let js = judgedFrom os ns (p + 1) (e ++ (x ∷ [])) xs in
+    let js = boardPlansFrom os ns (p + 1) (e ++ (x ∷ [])) xs in
     let s = stateOf os ns (e ++ (x ∷ take i xs)) (cardFrom xs i) in
     let r : countOf c (take (suc i) js) ≡ tally c s (countOf c (take i js)) =
     count-from c os ns (p + 1) (e ++ (x ∷ [])) xs i (omega arith) ∙ rw (append-snoc e x (take i xs)) in
@@ -197,8 +197,8 @@ count-from c os ns p e (x ∷ xs) (suc i) h =
 
 -- One board more is counted.
 pub count-more : (c : ℕ) (os ns : List (List ℕ)) (i : ℕ) → i < length ns
-    → countOf c (take (i + 1) (judged os ns)) ≡ tally c (stateHere os ns i) (countOf c (take i (judged os ns)))
-unfolding judged
+    → countOf c (take (i + 1) (boardPlans os ns)) ≡ tally c (stateHere os ns i) (countOf c (take i (boardPlans os ns)))
+unfolding boardPlans
 count-more c os ns i h =
     let z : i + 1 ≡ suc i = omega arith in
     rw z (count-from c os ns 1 [] ns i h)

@@ -13,7 +13,7 @@ use Rattle.tables.specs.declared.page.Written.{Written as PageWritten}
 use Rattle.tables.specs.declared.page.Written.the-variants.{Bytes}
 use Rattle.tables.specs.declared.page.Written.the-variants as paged
 use Rattle.tables.specs.declared.refusal.Refusal.the-variants as refusal
-use Rattle.tables.specs.Page.{Put, Finished, Wrote, cleared, pageOf, answerOf}
+use Rattle.tables.specs.Page.{Put, PageEnded, Wrote, cleared, pageOf, answerOf}
 use Rattle.tables.proofs.PageLaws.{finished}
 use Rattle.tables.proofs.Laws.{by-cases, clash}
 use Rattle.reader.specs.declared.edition.Reading.the-variants.{Taken}
@@ -27,7 +27,7 @@ use Rattle.writer.specs.declared.write.Writing.the-variants.{Written, Re
 use Rattle.writer.specs.Puts.{Puts}
 use Rattle.writer.specs.Pages.{writtenText}
 use Rattle.writer.specs.BoardTexts.{pageHeld}
-use Rattle.writer.specs.Writings.{pageAnswer, writtenBy, writingOf, isOut, pageAfter, Ended, IsWritten}
+use Rattle.writer.specs.Writings.{pageAnswer, writtenBy, writingOf, isWritten, pageAfter, WritingEnded, IsWritten}
 use Rattle.writer.proofs.HeldBoards.{Holds, taken-holds}
 use Rattle.writer.proofs.HeldPages.{PageHeld}
 use Rattle.writer.proofs.Sizes.{BytesFew}
@@ -47,18 +47,18 @@ taken-boards c text lc le b e i =
     (λ v. let w = rw (t, u, v) at i in cc)))
 
 -- What a page of bs comes to, by the answer.
-page-out : (bs : List ℕ) (m : ℕ) → pageOf bs m ≡ pageAfter (isOut (pageAnswer (length bs) m)) bs m
+page-out : (bs : List ℕ) (m : ℕ) → pageOf bs m ≡ pageAfter (isWritten (pageAnswer (length bs) m)) bs m
 unfolding pageOf
 page-out bs m = by-cases (leb (length bs) m) (λ q. rw q) (λ q. rw q)
 
-out-is : (n m : ℕ) → isOut (pageAnswer n m) ≡ leb n m
+out-is : (n m : ℕ) → isWritten (pageAnswer n m) ≡ leb n m
 out-is n m = by-cases (leb n m) (λ q. rw q) (λ q. rw q)
 
 -- The edition was taken, its text put and the page ended.
 pub written-taken : {c : Conventions} {text cards entries page cards₁ entries₁ page₁ cards₂ entries₂ page₂ : List ℕ} {b e n : ℕ} {r : Writing}
     → IsRead c text cards entries (Taken b e) cards₁ entries₁
     → Puts page 0 (pageHeld c text cards₁ entries₁ b) page₁ n
-    → Ended n cards₁ entries₁ page₁ r cards₂ entries₂ page₂
+    → WritingEnded n cards₁ entries₁ page₁ r cards₂ entries₂ page₂
     → length cards₁ ≡ length cards → length entries₁ ≡ length entries
     → IsWritten c text cards entries page r cards₂ entries₂ page₂
 unfolding writingOf
@@ -71,9 +71,9 @@ written-taken {c} {text} {cards} {entries} {page} {cards₁} {entries₁} {page�
     let put = text-put .put (omega arith) in
     let en : n ≡ length (writtenText c text) = omega (arith, put .next) in
     let el = text-put .kept in
-    let ended : Finished n page₁ page₂ (cond (leb n (length page₁)) (Bytes n) (paged.Refused (refusal.PageFull n))) = record { told = refl; page-after = d .page-after } in
+    let ended : PageEnded n page₁ page₂ (cond (leb n (length page₁)) (Bytes n) (paged.Refused (refusal.PageFull n))) = record { told = refl; page-after = d .page-after } in
     let out : r ≡ pageAnswer (length (writtenText c text)) (length page) = rw (← en, ← el) (d .answer) in
-    let lent : isOut r ≡ leb n (length page₁) = ap isOut (d .answer) ∙ out-is n (length page₁) in
+    let lent : isWritten r ≡ leb n (length page₁) = ap isWritten (d .answer) ∙ out-is n (length page₁) in
     record {
       answer = out ∙ ap (writtenBy (writtenText c text) (length page)) (i .answer);
       page-after = finished put ended .page-after ∙ (page-out (writtenText c text) (length page) ∙ rw out);
@@ -96,19 +96,19 @@ written-refused {c} {text} {cards} {entries} {page} i z =
     }
 
 -- A page of which nothing is kept.
-pub cleared-none : (page page′ : List ℕ) (r : PageWritten) → Finished 0 page page′ r → page′ ≡ zeros page
+pub cleared-none : (page page′ : List ℕ) (r : PageWritten) → PageEnded 0 page page′ r → page′ ≡ zeros page
 cleared-none page page′ r f =
     let z : leb 0 (length page) ≡ true = le-leb 0 (length page) (omega arith) in
     rw z at (f .page-after) ∙ ap (λ (k : ℕ). replicate k 0) (sub-zero (length page))
 
 -- The answer for n bytes that fit, and for more.
-pub ended-in : {n : ℕ} {cards entries page page′ : List ℕ} {w : PageWritten} → n ≤ length page → Finished n page page′ w → Ended n cards entries page (Written n) cards entries page′
+pub ended-in : {n : ℕ} {cards entries page page′ : List ℕ} {w : PageWritten} → n ≤ length page → PageEnded n page page′ w → WritingEnded n cards entries page (Written n) cards entries page′
 ended-in {n} {cards} {entries} {page} h f =
     let q = le-leb n (length page) h in
     record { answer = rw q; page-after = f .page-after; cards-after = rw q; entries-after = rw q }
 
 pub ended-out : {n : ℕ} {cards entries page cards′ entries′ page′ : List ℕ} → length page < n → page′ ≡ zeros page → cards′ ≡ zeros cards → entries′ ≡ zeros entries
-    → Ended n cards entries page (Refused (PageFull n)) cards′ entries′ page′
+    → WritingEnded n cards entries page (Refused (PageFull n)) cards′ entries′ page′
 ended-out {n} {cards} {entries} {page} h x y z =
     let q = lt-leb n (length page) h in
     record { answer = rw q; page-after = rw q x; cards-after = rw q y; entries-after = rw q z }

@@ -12,7 +12,7 @@ use Rattle.reader.specs.Words.{vulnerabilityToken}
 use Rattle.reader.specs.Deals.{handsOfWords, dealText}
 use Rattle.reader.specs.Plain.{Item, PlainValues}
 use Rattle.writer.specs.declared.present.Present.{Present}
-use Rattle.writer.specs.declared.remarks.Sought.the-variants.{Leading, Lost}
+use Rattle.writer.specs.declared.remarks.Sought.the-variants.{Leading, Unwritten}
 use Rattle.writer.specs.Sections.{noteValues}
 use Rattle.writer.specs.Steps.{isAny}
 use Rattle.writer.specs.Pages.{builtInHeader}
@@ -21,12 +21,12 @@ use Rattle.writer.specs.Held.{cardWord, cardPart, itemsAt, boardItems, s
 use Rattle.writer.specs.Items.{soughtBy, isFirst, hasRemarks, remarksText, afterText, tagLineText, taggedText, extrasText, resultIn, auctionText, playText, notesText, tagsAt, scoringAt, dealPlace}
 
 -- The entries from first on, scan of them.
-abbrev pub scanned : List ℕ → List ℕ → List ℕ → ℕ → ℕ → List Item
-scanned text cards entries b scan = itemsAt text entries (cardWord cards b 0) scan
+abbrev pub scannedItems : List ℕ → List ℕ → List ℕ → ℕ → ℕ → List Item
+scannedItems text cards entries b scan = itemsAt text entries (cardWord cards b 0) scan
 
 -- The value of the word i of the card b.
-abbrev pub valueOf : List ℕ → List ℕ → List ℕ → ℕ → ℕ → Option (List ℕ)
-valueOf text cards entries b i = valueHeld text entries (cardWord cards b i)
+abbrev pub cardValue : List ℕ → List ℕ → List ℕ → ℕ → ℕ → Option (List ℕ)
+cardValue text cards entries b i = valueHeld text entries (cardWord cards b i)
 
 abbrev pub optionalText : List ℕ → Option (List ℕ) → List Item → List ℕ
 optionalText n none is = []
@@ -36,17 +36,17 @@ optionalText n (some v) is = taggedText n v is
 
 unfoldable pub titleText : List ℕ → List ℕ → List ℕ → ℕ → List Item → List ℕ
 titleText text cards entries b is =
-    taggedText (ascii "Event") (orEmpty (valueOf text cards entries b 40)) is
-    ++ taggedText (ascii "Site") (orEmpty (valueOf text cards entries b 41)) is
-    ++ taggedText (ascii "Date") (orEmpty (valueOf text cards entries b 42)) is
-    ++ optionalText (ascii "Board") (valueOf text cards entries b 39) is
+    taggedText (ascii "Event") (orEmpty (cardValue text cards entries b 40)) is
+    ++ taggedText (ascii "Site") (orEmpty (cardValue text cards entries b 41)) is
+    ++ taggedText (ascii "Date") (orEmpty (cardValue text cards entries b 42)) is
+    ++ optionalText (ascii "Board") (cardValue text cards entries b 39) is
 
 unfoldable pub playersText : List ℕ → List ℕ → List ℕ → ℕ → List Item → List ℕ
 playersText text cards entries b is =
-    taggedText (ascii "West") (orEmpty (valueOf text cards entries b 47)) is
-    ++ taggedText (ascii "North") (orEmpty (valueOf text cards entries b 44)) is
-    ++ taggedText (ascii "East") (orEmpty (valueOf text cards entries b 45)) is
-    ++ taggedText (ascii "South") (orEmpty (valueOf text cards entries b 46)) is
+    taggedText (ascii "West") (orEmpty (cardValue text cards entries b 47)) is
+    ++ taggedText (ascii "North") (orEmpty (cardValue text cards entries b 44)) is
+    ++ taggedText (ascii "East") (orEmpty (cardValue text cards entries b 45)) is
+    ++ taggedText (ascii "South") (orEmpty (cardValue text cards entries b 46)) is
 
 unfoldable pub dealerText : Conventions → ℕ → List Item → List ℕ
 dealerText c dealer is = cond (ltb dealer 4) (taggedText (ascii "Dealer") (seatText c dealer) is) []
@@ -70,10 +70,10 @@ dealHeld c cards b (some v) = v
 
 unfoldable pub contractText : Conventions → List ℕ → List ℕ → List ℕ → ℕ → List Item → List ℕ
 contractText c text cards entries b is =
-    taggedText (ascii "Deal") (dealHeld c cards b (valueOf text cards entries b 48)) is
+    taggedText (ascii "Deal") (dealHeld c cards b (cardValue text cards entries b 48)) is
     ++ taggedText (ascii "Scoring") (scoringAt text entries (cardWord cards b 0) (cardWord cards b 1)) is
     ++ taggedText (ascii "Declarer") (seatText c (cardWord cards b 6)) is
-    ++ taggedText (ascii "Contract") (orEmpty (valueOf text cards entries b 43)) is
+    ++ taggedText (ascii "Contract") (orEmpty (cardValue text cards entries b 43)) is
     ++ taggedText (ascii "Result") (resultText (resultIn (cardWord cards b 7) (cardWord cards b 8))) is
 
 unfoldable pub tableText : List ℕ → ℕ → List Item → List ℕ
@@ -82,8 +82,8 @@ tableText cards b is = cond (eqb (cardWord cards b 38) 0) [] (taggedText (ascii 
 unfoldable pub analysisText : List ℕ → List ℕ → List ℕ → ℕ → List Item → List ℕ
 analysisText text cards entries b is =
     tableText cards b is
-    ++ optionalText (ascii "OptimumScore") (valueOf text cards entries b 49) is
-    ++ optionalText (ascii "ParContract") (valueOf text cards entries b 50) is
+    ++ optionalText (ascii "OptimumScore") (cardValue text cards entries b 49) is
+    ++ optionalText (ascii "ParContract") (cardValue text cards entries b 50) is
 
 -- ---- sections
 
@@ -130,8 +130,8 @@ abbrev pub early : List ℕ → List ℕ → List ℕ → ℕ → ℕ
 early text cards entries b = dealPlace text entries (cardWord cards b 0) (cardWord cards b 1)
 
 -- What belongs to a tag that is not written, p saying what there is: blocks, then directives.
-abbrev pub lostText : Present → List Item → List ℕ
-lostText p is = remarksText (soughtBy (Lost p) []) (isFirst (Lost p)) 4 is ++ remarksText (soughtBy (Lost p) []) (isFirst (Lost p)) 3 is
+abbrev pub unwrittenText : Present → List Item → List ℕ
+unwrittenText p is = remarksText (soughtBy (Unwritten p) []) (isFirst (Unwritten p)) 4 is ++ remarksText (soughtBy (Unwritten p) []) (isFirst (Unwritten p)) 3 is
 
 -- Up to the late supplemental tags, and from there on.
 unfoldable pub frontText : Conventions → List ℕ → List ℕ → List ℕ → ℕ → List Item → List ℕ
@@ -147,16 +147,16 @@ backText c text cards entries b is =
     extrasText text entries (cardWord cards b 0) is (cardWord cards b 0 + early text cards entries b) (cardWord cards b 1 - early text cards entries b)
     ++ biddingText c text cards entries b is
     ++ cardsText c text cards entries b is
-    ++ lostText (presentHeld text cards entries b) is
+    ++ unwrittenText (presentHeld text cards entries b) is
 
 -- The directives before every tag; the other lines.
 unfoldable pub leadHeld : List ℕ → List ℕ → List ℕ → ℕ → List ℕ
-leadHeld text cards entries b = remarksText (soughtBy Leading []) (isFirst Leading) 3 (scanned text cards entries b (scanOf text cards entries b))
+leadHeld text cards entries b = remarksText (soughtBy Leading []) (isFirst Leading) 3 (scannedItems text cards entries b (scanOf text cards entries b))
 
 unfoldable pub bodyHeld : Conventions → List ℕ → List ℕ → List ℕ → ℕ → List ℕ
 bodyHeld c text cards entries b =
-    frontText c text cards entries b (scanned text cards entries b (scanOf text cards entries b))
-    ++ backText c text cards entries b (scanned text cards entries b (scanOf text cards entries b))
+    frontText c text cards entries b (scannedItems text cards entries b (scanOf text cards entries b))
+    ++ backText c text cards entries b (scannedItems text cards entries b (scanOf text cards entries b))
 
 -- ---- the page
 

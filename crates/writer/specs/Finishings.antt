@@ -10,7 +10,7 @@ use Rattle.planning.specs.declared.editions.Editions.{Editions}
 use Rattle.planning.specs.declared.editions.Editions.the-variants.{Both}
 use Rattle.planning.specs.declared.editions.Editions.the-variants as editions
 use Rattle.planning.specs.Slips.{totalsOf}
-use Rattle.planning.specs.Plans.{editionsNumber, editionsCarries, editionRefused, Boxes, editionsOf, boardsOf, BoxesAfter}
+use Rattle.planning.specs.Plans.{editionsNumber, editionsCarries, editionRefused, Boxes, editionsOf, plansOf, BoxesAfter}
 use Rattle.writer.specs.declared.finish.FinishRefusal.{FinishRefusal}
 use Rattle.writer.specs.declared.finish.FinishRefusal.the-variants.{Edition, Answers, Impossible, PageFull}
 use Rattle.writer.specs.declared.finish.Finishing.{Finishing}
@@ -65,7 +65,7 @@ finishedBy (editions.Refused f) solve answers done = Refused (Edition f)
 -- For both texts, with these boxes, answers and a page of m bytes lent.
 unfoldable pub finishingOf : Conventions → List ℕ → List ℕ → Boxes → List ℕ → ℕ → Finishing
 finishingOf c old new boxes answers m =
-    finishedBy (editionsOf c old new boxes) (totalsOf (boardsOf c old new) .solve) answers (finishedOn (length (finishedText c old new answers)) m)
+    finishedBy (editionsOf c old new boxes) (totalsOf (plansOf c old new) .solve) answers (finishedOn (length (finishedText c old new answers)) m)
 
 abbrev pub isFinished : Finishing → Bool
 isFinished (Finished n) = true

@@ -10,15 +10,15 @@ use Rattle.reader.specs.Editions.{cardsOf}
 use Rattle.reader.specs.Plain.{PlainBoard, plainBoards}
 use Rattle.planning.specs.declared.state.BoardState.{BoardState}
 use Rattle.planning.specs.declared.state.BoardState.the-variants.{Blank, Own, Old, Near, Twin, Solve}
-use Rattle.planning.specs.States.{Judged}
+use Rattle.planning.specs.States.{BoardPlan}
 use Rattle.planning.specs.Slips.{countOf, cardAt}
-use Rattle.planning.specs.Plans.{boardsOf}
+use Rattle.planning.specs.Plans.{plansOf}
 use Rattle.writer.specs.Pages.{pageText}
 
 -- ---- answers
 
 -- The index, from 0, of the slip of the board at a position from 1: slips stand in board order, one for each solve board (5).
-abbrev pub slipIndex : List Judged → ℕ → ℕ
+abbrev pub slipIndex : List BoardPlan → ℕ → ℕ
 slipIndex js p = countOf 5 (take (p - 1) js)
 
 -- The 20 bytes for the slip of an index, in cell order; zeros where there are none, which refusal 5 shuts out.
@@ -41,7 +41,7 @@ given cells = record { kind = 3; cells = cells }
 
 -- The table of a board of the new edition at a position, in a state: its own, or none, where it is blank or own; the cells of the source
 -- board for old and near; the answer for its own slip; for a twin, that for its source's.
-abbrev pub tableFor : List (List ℕ) → List (List ℕ) → List Judged → List ℕ → ℕ → List ℕ → BoardState → TableCard
+abbrev pub tableFor : List (List ℕ) → List (List ℕ) → List BoardPlan → List ℕ → ℕ → List ℕ → BoardState → TableCard
 tableFor olds news js answers p card Blank = ownTable card
 tableFor olds news js answers p card Own = ownTable card
 tableFor olds news js answers p card (Old k) = given (cellsOf (cardAt olds k))
@@ -49,7 +49,7 @@ tableFor olds news js answers p card (Near k) = given (cellsOf (cardAt news k))
 tableFor olds news js answers p card (Twin k) = given (answerAt answers (slipIndex js k))
 tableFor olds news js answers p card Solve = given (answerAt answers (slipIndex js p))
 
-unfoldable pub tableOf : List (List ℕ) → List (List ℕ) → List Judged → List ℕ → Judged → TableCard
+unfoldable pub tableOf : List (List ℕ) → List (List ℕ) → List BoardPlan → List ℕ → BoardPlan → TableCard
 tableOf olds news js answers j = tableFor olds news js answers (j .position) (j .card) (j .state)
 
 -- ---- the finished edition
@@ -78,7 +78,7 @@ withTables (t ∷ ts) (b ∷ bs) = withTable t b ∷ withTables ts bs
 
 -- The tables of all boards of the new edition.
 unfoldable pub tablesOf : Conventions → List ℕ → List ℕ → List ℕ → List TableCard
-tablesOf c old new answers = map (tableOf (cardsOf c old) (cardsOf c new) (boardsOf c old new) answers) (boardsOf c old new)
+tablesOf c old new answers = map (tableOf (cardsOf c old) (cardsOf c new) (plansOf c old new) answers) (plansOf c old new)
 
 -- The boards of the new edition, each with its table; and the page of them.
 unfoldable pub finishedBoards : Conventions → List ℕ → List ℕ → List ℕ → List PlainBoard

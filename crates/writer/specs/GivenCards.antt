@@ -13,10 +13,10 @@ use Rattle.reader.specs.Store.{flat, zeros}
 use Rattle.planning.specs.declared.state.BoardState.{BoardState}
 use Rattle.planning.specs.declared.state.BoardState.the-variants.{Blank, Own, Old, Near, Twin, Solve}
 use Rattle.planning.specs.Cards.{isWhole, hasTable, cardsIn, cardHere}
-use Rattle.planning.specs.States.{Judged, judged}
+use Rattle.planning.specs.States.{BoardPlan, boardPlans}
 use Rattle.planning.specs.Slips.{totalsOf}
 use Rattle.planning.specs.Plans.{Boxes}
-use Rattle.planning.specs.Steps.{Kept}
+use Rattle.planning.specs.Steps.{BoxesKept}
 use Rattle.writer.specs.declared.finish.FinishRefusal.the-variants.{Answers, Impossible}
 use Rattle.writer.specs.declared.finish.Checked.{Checked}
 use Rattle.writer.specs.declared.finish.Checked.the-variants.{Right, Wrong}
@@ -36,10 +36,10 @@ unfoldable pub withKind : ℕ → List ℕ → List ℕ
 withKind kind card = take 38 card ++ kind ∷ drop 39 card
 
 -- A board's card with the cells that it gets; its kind stays, so that no state changes.
-unfoldable pub givenCard : List (List ℕ) → List (List ℕ) → List Judged → List ℕ → Judged → List ℕ
+unfoldable pub givenCard : List (List ℕ) → List (List ℕ) → List BoardPlan → List ℕ → BoardPlan → List ℕ
 givenCard olds news js answers j = withCells (tableOf olds news js answers j .cells) (j .card)
 
-abbrev pub givenCards : List (List ℕ) → List (List ℕ) → List Judged → List ℕ → List (List ℕ)
+abbrev pub givenCards : List (List ℕ) → List (List ℕ) → List BoardPlan → List ℕ → List (List ℕ)
 givenCards olds news js answers = map (givenCard olds news js answers) js
 
 -- A whole board without a table was given its cells: its kind becomes 3.
@@ -47,8 +47,8 @@ unfoldable pub marked : List ℕ → List ℕ
 marked card = cond (isWhole card && not (hasTable card)) (withKind 3 card) card
 
 -- A card of the kind 3 loses its table.
-unfoldable pub cleared : List ℕ → List ℕ
-cleared card = cond (eqb (getD card 38 0) 3) (withKind 0 (withCells (replicate 20 0) card)) card
+unfoldable pub givenCleared : List ℕ → List ℕ
+givenCleared card = cond (eqb (getD card 38 0) 3) (withKind 0 (withCells (replicate 20 0) card)) card
 
 -- ---- board after board
 
@@ -69,8 +69,8 @@ sourceCells old new k Solve answers slip = answerAt answers slip
 -- The contract of give_tables, box being the words of the new edition's n cards: the number of boards to be solved, and every word
 -- afterwards, each board's cells on its card.
 pub record Gave (olds news : List (List ℕ)) (box : List ℕ) (n : ℕ) (answers : List ℕ) (r : ℕ) (box′ : List ℕ) : Type 0 where
-  pub solve-count : r ≡ totalsOf (judged olds news) .solve
-  pub cards-after : box′ ≡ flat (givenCards olds news (judged olds news) answers) ++ drop (64 * n) box
+  pub solve-count : r ≡ totalsOf (boardPlans olds news) .solve
+  pub cards-after : box′ ≡ flat (givenCards olds news (boardPlans olds news) answers) ++ drop (64 * n) box
 
 -- ---- what the functions of finishing leave
 
@@ -91,22 +91,22 @@ checkedOf solve answers =
 -- n bytes were put on the page: zeros behind them, or nothing but zeros, in the boxes too, where they did not fit.
 pub record FinishEnded (n : ℕ) (boxes : Boxes) (page : List ℕ) (r : Finishing) (boxes′ : Boxes) (page′ : List ℕ) : Type 0 where
   pub answer : r ≡ finishedOn n (length page)
-  pub boxes-after : Kept (leb n (length page)) boxes boxes′
+  pub boxes-after : BoxesKept (leb n (length page)) boxes boxes′
   pub page-after : page′ ≡ cond (leb n (length page)) (ended page n) (zeros page)
 
 -- The page of n boards was put, their given tables marked; then these were taken away.
 pub record FinishPut (c : Conventions) (new : List ℕ) (n : ℕ) (cards entries page : List ℕ) (r : ℕ) (cards′ page′ : List ℕ) : Type 0 where
   pub put : Puts page 0 (pageHeld c new (changedAll marked n cards) entries n) page′ r
-  pub cards-after : cards′ ≡ changedAll cleared n (changedAll marked n cards)
+  pub cards-after : cards′ ≡ changedAll givenCleared n (changedAll marked n cards)
 
 -- The boards of the new edition, of n cards, the old one having m.
-abbrev pub judgedIn : ℕ → ℕ → Boxes → List Judged
-judgedIn m n boxes = judged (cardsIn m (boxes .old-cards)) (cardsIn n (boxes .new-cards))
+abbrev pub plansIn : ℕ → ℕ → Boxes → List BoardPlan
+plansIn m n boxes = boardPlans (cardsIn m (boxes .old-cards)) (cardsIn n (boxes .new-cards))
 
 -- The words of its cards, each with the cells that it gets.
 abbrev pub givenBox : ℕ → ℕ → Boxes → List ℕ → List ℕ
 givenBox m n boxes answers =
-    flat (givenCards (cardsIn m (boxes .old-cards)) (cardsIn n (boxes .new-cards)) (judgedIn m n boxes) answers)
+    flat (givenCards (cardsIn m (boxes .old-cards)) (cardsIn n (boxes .new-cards)) (plansIn m n boxes) answers)
     ++ drop (64 * n) (boxes .new-cards)
 
 -- The page of the new edition with these tables.
@@ -119,7 +119,7 @@ clearedBoxes m n boxes answers =
     record {
       old-cards = boxes .old-cards;
       old-entries = boxes .old-entries;
-      new-cards = changedAll cleared n (changedAll marked n (givenBox m n boxes answers));
+      new-cards = changedAll givenCleared n (changedAll marked n (givenBox m n boxes answers));
       new-entries = boxes .new-entries;
     }
 
@@ -128,8 +128,8 @@ clearedBoxes m n boxes answers =
 pub record BoardsFinished (c : Conventions) (new : List ℕ) (m n : ℕ) (boxes : Boxes) (answers page : List ℕ) (r : Finishing)
     (boxes′ : Boxes) (page′ : List ℕ) : Type 0 where
   pub answer : length (tabledPage c new m n boxes answers) ≤ 549755813888
-      → r ≡ answeredBy (totalsOf (judgedIn m n boxes) .solve) answers
+      → r ≡ answeredBy (totalsOf (plansIn m n boxes) .solve) answers
       (finishedOn (length (tabledPage c new m n boxes answers)) (length page))
-  pub boxes-after : Kept (isFinished r) (clearedBoxes m n boxes answers) boxes′
+  pub boxes-after : BoxesKept (isFinished r) (clearedBoxes m n boxes answers) boxes′
   pub page-after : length (tabledPage c new m n boxes answers) ≤ 549755813888
       → page′ ≡ pageAfter (isFinished r) (tabledPage c new m n boxes answers) (length page)

@@ -13,12 +13,12 @@ use Rattle.reader.specs.Names.{tagNumber, noteName}
 use Rattle.reader.specs.Plain.{Item, TagPair, withoutReturns}
 use Rattle.writer.specs.declared.present.Present.{Present}
 use Rattle.writer.specs.declared.remarks.Sought.{Sought}
-use Rattle.writer.specs.declared.remarks.Sought.the-variants.{Leading, Under, Lost}
+use Rattle.writer.specs.declared.remarks.Sought.the-variants.{Leading, Under, Unwritten}
 use Rattle.tables.specs.Text.{ascii, trimmed, before}
 use Rattle.tables.specs.Numbers.{numberOf, decimal}
 use Rattle.writer.specs.declared.notes.Note.{Note}
 use Rattle.writer.specs.Tags.{WrittenTag}
-use Rattle.writer.specs.Steps.{isWritten}
+use Rattle.writer.specs.Steps.{isTagWritten}
 use Rattle.writer.specs.Held.{entryWord, placeBytes, itemsAt}
 
 -- ---- names
@@ -34,12 +34,12 @@ nameIndex n (i ∷ is) = cond (eqb (i .kind) 1 && same n (i .bytes)) 0 (suc (nam
 abbrev pub soughtBy : Sought → List ℕ → List ℕ → Bool
 soughtBy Leading n m = false
 soughtBy Under n m = same n m
-soughtBy (Lost p) n m = not (isWritten p (tagNumber m))
+soughtBy (Unwritten p) n m = not (isTagWritten p (tagNumber m))
 
 abbrev pub isFirst : Sought → Bool
 isFirst Leading = true
 isFirst Under = false
-isFirst (Lost p) = false
+isFirst (Unwritten p) = false
 
 -- A directive (3) on its line, a block (4) in braces, `{` (123) and `}` (125); an LF (10) ends each.
 abbrev pub remarkText : ℕ → List ℕ → List ℕ
@@ -123,13 +123,13 @@ abbrev pub slotText : Conventions → ℕ → ℕ → List ℕ
 slotText c n k = cond (ltb k 52) (cond (eqb n 0) [] (32 ∷ []) ++ cardToken c k) []
 
 -- One more where a slot has a card.
-abbrev pub oneMore : ℕ → ℕ → ℕ
-oneMore n k = cond (ltb k 52) (n + 1) n
+abbrev pub oneMoreCard : ℕ → ℕ → ℕ
+oneMoreCard n k = cond (ltb k 52) (n + 1) n
 
 -- A trick's line from its slots, n cards before them; the LF (10) where there are any.
 abbrev pub slotsText : Conventions → ℕ → List ℕ → List ℕ
 slotsText c n [] = cond (eqb n 0) [] (10 ∷ [])
-slotsText c n (k ∷ ks) = slotText c n k ++ slotsText c (oneMore n k) ks
+slotsText c n (k ∷ ks) = slotText c n k ++ slotsText c (oneMoreCard n k) ks
 
 -- The four slots of a trick's number, lowest first.
 abbrev pub fourSlots : ℕ → List ℕ
@@ -145,13 +145,13 @@ playText c end is = tricksText c is ++ endText end
 -- ---- tags in a row
 
 -- Data lines, each with its LF (10).
-abbrev pub rowsText : List (List ℕ) → List ℕ
-rowsText [] = []
-rowsText (d ∷ ds) = (d ++ 10 ∷ []) ++ rowsText ds
+abbrev pub dataText : List (List ℕ) → List ℕ
+dataText [] = []
+dataText (d ∷ ds) = (d ++ 10 ∷ []) ++ dataText ds
 
 -- A written tag that is the first of its name, with its data lines and what follows it.
 unfoldable pub fullText : WrittenTag → List Item → List ℕ
-fullText w is = tagLineText (w .name) (w .value) ++ rowsText (w .lines) ++ afterText true (w .name) is
+fullText w is = tagLineText (w .name) (w .value) ++ dataText (w .lines) ++ afterText true (w .name) is
 
 abbrev pub groupText : List WrittenTag → List Item → List ℕ
 groupText [] is = []

@@ -8,7 +8,7 @@ use Rattle.tables.specs.Text.{ascii}
 use Rattle.reader.specs.Plain.{PlainPlay, PlainBoard, plainBoards}
 use Rattle.writer.specs.Sections.{playLines}
 use Rattle.writer.specs.Tags.{writtenTags}
-use Rattle.writer.specs.Remarks.{Line, linesText, leadingLines, bodyLines}
+use Rattle.writer.specs.Remarks.{WrittenLine, linesText, leadingLines, bodyLines}
 
 -- The data lines of a board's own play.
 abbrev pub ownPlay : Conventions → Option PlainPlay → List (List ℕ)
@@ -24,13 +24,13 @@ unfoldable pub builtInHeader : List ℕ
 builtInHeader = ascii "% PBN 2.1\n% EXPORT\n\n"
 
 -- Directives before the first board's first tag are the file's header, and an empty line (an LF, 10) follows them.
-abbrev pub headerText : List Line → List ℕ
-headerText [] = builtInHeader
-headerText (l ∷ ls) = linesText (l ∷ ls) ++ 10 ∷ []
+abbrev pub pageHeader : List WrittenLine → List ℕ
+pageHeader [] = builtInHeader
+pageHeader (l ∷ ls) = linesText (l ∷ ls) ++ 10 ∷ []
 
 -- The part of the first board, with the file's header; and that of any other, an empty line (an LF, 10) before it.
 unfoldable pub firstPart : Conventions → PlainBoard → List ℕ
-firstPart c b = headerText (leadingLines b) ++ bodyText c b
+firstPart c b = pageHeader (leadingLines b) ++ bodyText c b
 
 unfoldable pub nextPart : Conventions → PlainBoard → List ℕ
 nextPart c b = 10 ∷ (linesText (leadingLines b) ++ bodyText c b)

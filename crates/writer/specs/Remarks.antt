@@ -71,34 +71,34 @@ abbrev pub unwritten : List WrittenTag → Option (List ℕ) → Bool
 unwritten ws none = false
 unwritten ws (some n) = not (wrote n ws)
 
-abbrev pub isLost : List WrittenTag → Anchored → Bool
-isLost ws k = unwritten ws (k .anchor)
+abbrev pub tagUnwritten : List WrittenTag → Anchored → Bool
+tagUnwritten ws k = unwritten ws (k .anchor)
 
 -- ---- lines
 
 -- A written line: a tag, a data line of its section, the directive or the block of a number.
-pub data Line : Type 0 where
-  tagLine : List ℕ → List ℕ → Line
-  dataLine : List ℕ → Line
-  directiveLine : ℕ → List ℕ → Line
-  blockLine : ℕ → List ℕ → Line
+pub data WrittenLine : Type 0 where
+  tagLine : List ℕ → List ℕ → WrittenLine
+  dataLine : List ℕ → WrittenLine
+  directiveLine : ℕ → List ℕ → WrittenLine
+  blockLine : ℕ → List ℕ → WrittenLine
 
-abbrev pub directiveLines : List Anchored → List Line
+abbrev pub directiveLines : List Anchored → List WrittenLine
 directiveLines ks = map (λ k. directiveLine (k .number) (k .bytes)) ks
 
-abbrev pub blockLines : List Anchored → List Line
+abbrev pub blockLines : List Anchored → List WrittenLine
 blockLines ks = map (λ k. blockLine (k .number) (k .bytes)) ks
 
 -- The directives after a written tag: all whose anchor has its name.
-unfoldable pub directivesAfter : List Anchored → WrittenTag → List Line
+unfoldable pub directivesAfter : List Anchored → WrittenTag → List WrittenLine
 directivesAfter ds w = directiveLines (those (isUnder (w .name)) ds)
 
 -- The blocks after a written tag: all whose anchor has its name, if it is the first of that name; earlier are those written before it.
-unfoldable pub blocksAfter : List Anchored → List WrittenTag → WrittenTag → List Line
+unfoldable pub blocksAfter : List Anchored → List WrittenTag → WrittenTag → List WrittenLine
 blocksAfter ks earlier w = cond (wrote (w .name) earlier) [] (blockLines (those (isUnder (w .name)) ks))
 
 -- A tag with its data lines, its directives and its blocks; then the tags behind it.
-abbrev pub tagsLines : List Anchored → List Anchored → List WrittenTag → List WrittenTag → List Line
+abbrev pub tagsLines : List Anchored → List Anchored → List WrittenTag → List WrittenTag → List WrittenLine
 tagsLines ds ks earlier [] = []
 tagsLines ds ks earlier (w ∷ ws) =
     tagLine (w .name) (w .value)
@@ -108,31 +108,31 @@ tagsLines ds ks earlier (w ∷ ws) =
     ++ tagsLines ds ks (earlier ++ w ∷ []) ws)))
 
 -- The directives before every tag: on the first board, the file's header.
-unfoldable pub leadingLines : PlainBoard → List Line
+unfoldable pub leadingLines : PlainBoard → List WrittenLine
 leadingLines b = directiveLines (those isLeading (directivesOf b))
 
 -- The other lines of a board, ws being its written tags: blocks before every tag; each tag with what follows it; at the end the
 -- blocks, then the directives, whose tag is not written.
-unfoldable pub bodyLines : PlainBoard → List WrittenTag → List Line
+unfoldable pub bodyLines : PlainBoard → List WrittenTag → List WrittenLine
 bodyLines b ws =
     blockLines (those isLeading (blocksOf b))
     ++ (tagsLines (directivesOf b) (blocksOf b) [] ws
-    ++ (blockLines (those (isLost ws) (blocksOf b))
-    ++ directiveLines (those (isLost ws) (directivesOf b))))
+    ++ (blockLines (those (tagUnwritten ws) (blocksOf b))
+    ++ directiveLines (those (tagUnwritten ws) (directivesOf b))))
 
 -- All lines of a board; play are the data lines of its play.
-unfoldable pub boardLines : Conventions → PlainBoard → List (List ℕ) → List Line
+unfoldable pub boardLines : Conventions → PlainBoard → List (List ℕ) → List WrittenLine
 boardLines c b play = leadingLines b ++ bodyLines b (writtenTags c b play)
 
 -- ---- bytes
 
 -- A line with its LF (10). A block stands in braces, `{` (123) and `}` (125).
-unfoldable pub lineText : Line → List ℕ
+unfoldable pub lineText : WrittenLine → List ℕ
 lineText (tagLine n v) = tagText n v ++ 10 ∷ []
 lineText (dataLine d) = d ++ 10 ∷ []
 lineText (directiveLine i d) = d ++ 10 ∷ []
 lineText (blockLine i v) = 123 ∷ (v ++ 125 ∷ 10 ∷ [])
 
-abbrev pub linesText : List Line → List ℕ
+abbrev pub linesText : List WrittenLine → List ℕ
 linesText [] = []
 linesText (l ∷ ls) = lineText l ++ linesText ls

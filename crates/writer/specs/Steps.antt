@@ -36,8 +36,8 @@ presentOf b =
     }
 
 -- Whether a tag is written whose name has the number k, and stands on the board where k is 0: OptimumResultTable never is.
-unfoldable pub isWritten : Present → ℕ → Bool
-isWritten p k =
+unfoldable pub isTagWritten : Present → ℕ → Bool
+isTagWritten p k =
     cond (eqb k boardName) (p .board)
     (cond (eqb k dealerName) (p .dealer)
     (cond (eqb k auctionName) (p .auction)

@@ -42,9 +42,9 @@ writtenBy bs m (reading.Refused f) = Refused (Edition f)
 unfoldable pub writingOf : Conventions → List ℕ → ℕ → ℕ → ℕ → Writing
 writingOf c text lc le m = writtenBy (writtenText c text) m (readingOf c text lc le)
 
-abbrev pub isOut : Writing → Bool
-isOut (Written n) = true
-isOut (Refused f) = false
+abbrev pub isWritten : Writing → Bool
+isWritten (Written n) = true
+isWritten (Refused f) = false
 
 -- ---- contracts
 
@@ -53,7 +53,7 @@ abbrev pub pageAfter : Bool → List ℕ → ℕ → List ℕ
 pageAfter well bs m = cond well (padded m bs) (replicate m 0)
 
 -- n bytes were put on the page: zeros behind them, or nothing but zeros, in the boxes too, where they did not fit.
-pub record Ended (n : ℕ) (cards entries page : List ℕ) (r : Writing) (cards′ entries′ page′ : List ℕ) : Type 0 where
+pub record WritingEnded (n : ℕ) (cards entries page : List ℕ) (r : Writing) (cards′ entries′ page′ : List ℕ) : Type 0 where
   pub answer : r ≡ pageAnswer n (length page)
   pub page-after : page′ ≡ cond (leb n (length page)) (cleared page n) (zeros page)
   pub cards-after : cards′ ≡ cond (leb n (length page)) cards (zeros cards)
@@ -62,6 +62,6 @@ pub record Ended (n : ℕ) (cards entries page : List ℕ) (r : Writing) (cards�
 -- The contract of writing: the answer, every byte of the page and every word of the boxes. What is not used is zero; after a refusal all is.
 pub record IsWritten (c : Conventions) (text cards entries page : List ℕ) (r : Writing) (cards′ entries′ page′ : List ℕ) : Type 0 where
   pub answer : r ≡ writingOf c text (length cards) (length entries) (length page)
-  pub page-after : page′ ≡ pageAfter (isOut r) (writtenText c text) (length page)
-  pub cards-after : cards′ ≡ lent (isOut r) (length cards) (cardsOf c text)
-  pub entries-after : entries′ ≡ lent (isOut r) (length entries) (entriesOf c text)
+  pub page-after : page′ ≡ pageAfter (isWritten r) (writtenText c text) (length page)
+  pub cards-after : cards′ ≡ lent (isWritten r) (length cards) (cardsOf c text)
+  pub entries-after : entries′ ≡ lent (isWritten r) (length entries) (entriesOf c text)

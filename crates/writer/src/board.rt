@@ -11,7 +11,7 @@ ghost use Rattle.writer.specs.Puts.{Puts};
 ghost use Rattle.writer.specs.Held.{cardWord, cardPart};
 ghost use Rattle.writer.specs.Tags.{orEmpty, seatText, resultText, firstSeat};
 ghost use Rattle.writer.specs.Items.{taggedText, resultIn, scoringAt};
-ghost use Rattle.writer.specs.BoardTexts.{scanned, valueOf, optionalText, titleText, playersText, dealerText, shownVulnerable, headText, dealHeld, contractText, tableText, analysisText, sectionText, noteTags, biddingText, cardsText};
+ghost use Rattle.writer.specs.BoardTexts.{scannedItems, cardValue, optionalText, titleText, playersText, dealerText, shownVulnerable, headText, dealHeld, contractText, tableText, analysisText, sectionText, noteTags, biddingText, cardsText};
 use crate::auction::put_auction;
 use crate::deal::hands_at;
 use crate::deal::put_deal;
@@ -43,7 +43,7 @@ fn put_value(
     at: usize,
 ) -> usize
     requires { ⌜ (scan ≤ 4294967296) × (i < 64) ⌝ }
-    ensures { λ r. ⌜ Puts (now (page .entry)) at (taggedText (now (name .entry)) (orEmpty (valueOf (now (text .entry)) (now (cards .entry)) (now (entries .entry)) b i)) (scanned (now (text .entry)) (now (cards .entry)) (now (entries .entry)) b scan)) (now (page .exit)) r ⌝ }
+    ensures { λ r. ⌜ Puts (now (page .entry)) at (taggedText (now (name .entry)) (orEmpty (cardValue (now (text .entry)) (now (cards .entry)) (now (entries .entry)) b i)) (scannedItems (now (text .entry)) (now (cards .entry)) (now (entries .entry)) b scan)) (now (page .exit)) r ⌝ }
 {
     let first = card_word(cards, b, 0);
     let w = card_word(cards, b, i);
@@ -67,7 +67,7 @@ fn put_optional(
     at: usize,
 ) -> usize
     requires { ⌜ (scan ≤ 4294967296) × (i < 64) ⌝ }
-    ensures { λ r. ⌜ Puts (now (page .entry)) at (optionalText (now (name .entry)) (valueOf (now (text .entry)) (now (cards .entry)) (now (entries .entry)) b i) (scanned (now (text .entry)) (now (cards .entry)) (now (entries .entry)) b scan)) (now (page .exit)) r ⌝ }
+    ensures { λ r. ⌜ Puts (now (page .entry)) at (optionalText (now (name .entry)) (cardValue (now (text .entry)) (now (cards .entry)) (now (entries .entry)) b i) (scannedItems (now (text .entry)) (now (cards .entry)) (now (entries .entry)) b scan)) (now (page .exit)) r ⌝ }
 {
     let first = card_word(cards, b, 0);
     let w = card_word(cards, b, i);
@@ -89,7 +89,7 @@ fn put_title(
     at: usize,
 ) -> usize
     requires { ⌜ scan ≤ 4294967296 ⌝ }
-    ensures { λ r. ⌜ Puts (now (page .entry)) at (titleText (now (text .entry)) (now (cards .entry)) (now (entries .entry)) b (scanned (now (text .entry)) (now (cards .entry)) (now (entries .entry)) b scan)) (now (page .exit)) r ⌝ }
+    ensures { λ r. ⌜ Puts (now (page .entry)) at (titleText (now (text .entry)) (now (cards .entry)) (now (entries .entry)) b (scannedItems (now (text .entry)) (now (cards .entry)) (now (entries .entry)) b scan)) (now (page .exit)) r ⌝ }
 {
     let d = put_value(text, cards, entries, b, scan, b"Event", 40, page, at);
     let e = put_value(text, cards, entries, b, scan, b"Site", 41, page, d);
@@ -108,7 +108,7 @@ fn put_players(
     at: usize,
 ) -> usize
     requires { ⌜ scan ≤ 4294967296 ⌝ }
-    ensures { λ r. ⌜ Puts (now (page .entry)) at (playersText (now (text .entry)) (now (cards .entry)) (now (entries .entry)) b (scanned (now (text .entry)) (now (cards .entry)) (now (entries .entry)) b scan)) (now (page .exit)) r ⌝ }
+    ensures { λ r. ⌜ Puts (now (page .entry)) at (playersText (now (text .entry)) (now (cards .entry)) (now (entries .entry)) b (scannedItems (now (text .entry)) (now (cards .entry)) (now (entries .entry)) b scan)) (now (page .exit)) r ⌝ }
 {
     let d = put_value(text, cards, entries, b, scan, b"West", 47, page, at);
     let e = put_value(text, cards, entries, b, scan, b"North", 44, page, d);
@@ -130,7 +130,7 @@ fn put_seated(
     at: usize,
 ) -> usize
     requires { ⌜ scan ≤ 4294967296 ⌝ }
-    ensures { λ r. ⌜ Puts (now (page .entry)) at (taggedText (now (name .entry)) (seatText c seat) (scanned (now (text .entry)) (now (cards .entry)) (now (entries .entry)) b scan)) (now (page .exit)) r ⌝ }
+    ensures { λ r. ⌜ Puts (now (page .entry)) at (taggedText (now (name .entry)) (seatText c seat) (scannedItems (now (text .entry)) (now (cards .entry)) (now (entries .entry)) b scan)) (now (page .exit)) r ⌝ }
 {
     let first = card_word(cards, b, 0);
     let d = put_open(page, at, name);
@@ -151,7 +151,7 @@ fn put_dealer(
     at: usize,
 ) -> usize
     requires { ⌜ scan ≤ 4294967296 ⌝ }
-    ensures { λ r. ⌜ Puts (now (page .entry)) at (dealerText c (cardWord (now (cards .entry)) b 4) (scanned (now (text .entry)) (now (cards .entry)) (now (entries .entry)) b scan)) (now (page .exit)) r ⌝ }
+    ensures { λ r. ⌜ Puts (now (page .entry)) at (dealerText c (cardWord (now (cards .entry)) b 4) (scannedItems (now (text .entry)) (now (cards .entry)) (now (entries .entry)) b scan)) (now (page .exit)) r ⌝ }
 {
     let dealer = card_word(cards, b, 4);
     if dealer < 4 {
@@ -191,7 +191,7 @@ fn put_vulnerable(
     at: usize,
 ) -> usize
     requires { ⌜ scan ≤ 4294967296 ⌝ }
-    ensures { λ r. ⌜ Puts (now (page .entry)) at (taggedText (ascii "Vulnerable") (vulnerabilityToken (shownVulnerable (cardWord (now (cards .entry)) b 5))) (scanned (now (text .entry)) (now (cards .entry)) (now (entries .entry)) b scan)) (now (page .exit)) r ⌝ }
+    ensures { λ r. ⌜ Puts (now (page .entry)) at (taggedText (ascii "Vulnerable") (vulnerabilityToken (shownVulnerable (cardWord (now (cards .entry)) b 5))) (scannedItems (now (text .entry)) (now (cards .entry)) (now (entries .entry)) b scan)) (now (page .exit)) r ⌝ }
 {
     let first = card_word(cards, b, 0);
     let v = shown(card_word(cards, b, 5));
@@ -213,7 +213,7 @@ pub fn put_head(
     at: usize,
 ) -> usize
     requires { ⌜ scan ≤ 4294967296 ⌝ }
-    ensures { λ r. ⌜ Puts (now (page .entry)) at (headText c (now (text .entry)) (now (cards .entry)) (now (entries .entry)) b (scanned (now (text .entry)) (now (cards .entry)) (now (entries .entry)) b scan)) (now (page .exit)) r ⌝ }
+    ensures { λ r. ⌜ Puts (now (page .entry)) at (headText c (now (text .entry)) (now (cards .entry)) (now (entries .entry)) b (scannedItems (now (text .entry)) (now (cards .entry)) (now (entries .entry)) b scan)) (now (page .exit)) r ⌝ }
 {
     let d = put_title(text, cards, entries, b, scan, page, at);
     let e = put_players(text, cards, entries, b, scan, page, d);
@@ -243,7 +243,7 @@ fn put_dealt(
     at: usize,
 ) -> usize
     requires { ⌜ scan ≤ 4294967296 ⌝ }
-    ensures { λ r. ⌜ Puts (now (page .entry)) at (taggedText (ascii "Deal") (dealHeld c (now (cards .entry)) b (valueOf (now (text .entry)) (now (cards .entry)) (now (entries .entry)) b 48)) (scanned (now (text .entry)) (now (cards .entry)) (now (entries .entry)) b scan)) (now (page .exit)) r ⌝ }
+    ensures { λ r. ⌜ Puts (now (page .entry)) at (taggedText (ascii "Deal") (dealHeld c (now (cards .entry)) b (cardValue (now (text .entry)) (now (cards .entry)) (now (entries .entry)) b 48)) (scannedItems (now (text .entry)) (now (cards .entry)) (now (entries .entry)) b scan)) (now (page .exit)) r ⌝ }
 {
     let first = card_word(cards, b, 0);
     let w = card_word(cards, b, 48);
@@ -270,7 +270,7 @@ fn put_scoring(
     at: usize,
 ) -> usize
     requires { ⌜ scan ≤ 4294967296 ⌝ }
-    ensures { λ r. ⌜ Puts (now (page .entry)) at (taggedText (ascii "Scoring") (scoringAt (now (text .entry)) (now (entries .entry)) (cardWord (now (cards .entry)) b 0) (cardWord (now (cards .entry)) b 1)) (scanned (now (text .entry)) (now (cards .entry)) (now (entries .entry)) b scan)) (now (page .exit)) r ⌝ }
+    ensures { λ r. ⌜ Puts (now (page .entry)) at (taggedText (ascii "Scoring") (scoringAt (now (text .entry)) (now (entries .entry)) (cardWord (now (cards .entry)) b 0) (cardWord (now (cards .entry)) b 1)) (scannedItems (now (text .entry)) (now (cards .entry)) (now (entries .entry)) b scan)) (now (page .exit)) r ⌝ }
 {
     let first = card_word(cards, b, 0);
     let count = card_word(cards, b, 1);
@@ -292,7 +292,7 @@ fn put_outcome(
     at: usize,
 ) -> usize
     requires { ⌜ scan ≤ 4294967296 ⌝ }
-    ensures { λ r. ⌜ Puts (now (page .entry)) at (taggedText (ascii "Result") (resultText (resultIn (cardWord (now (cards .entry)) b 7) (cardWord (now (cards .entry)) b 8))) (scanned (now (text .entry)) (now (cards .entry)) (now (entries .entry)) b scan)) (now (page .exit)) r ⌝ }
+    ensures { λ r. ⌜ Puts (now (page .entry)) at (taggedText (ascii "Result") (resultText (resultIn (cardWord (now (cards .entry)) b 7) (cardWord (now (cards .entry)) b 8))) (scannedItems (now (text .entry)) (now (cards .entry)) (now (entries .entry)) b scan)) (now (page .exit)) r ⌝ }
 {
     let first = card_word(cards, b, 0);
     let met = card_word(cards, b, 7);
@@ -315,7 +315,7 @@ pub fn put_contract(
     at: usize,
 ) -> usize
     requires { ⌜ scan ≤ 4294967296 ⌝ }
-    ensures { λ r. ⌜ Puts (now (page .entry)) at (contractText c (now (text .entry)) (now (cards .entry)) (now (entries .entry)) b (scanned (now (text .entry)) (now (cards .entry)) (now (entries .entry)) b scan)) (now (page .exit)) r ⌝ }
+    ensures { λ r. ⌜ Puts (now (page .entry)) at (contractText c (now (text .entry)) (now (cards .entry)) (now (entries .entry)) b (scannedItems (now (text .entry)) (now (cards .entry)) (now (entries .entry)) b scan)) (now (page .exit)) r ⌝ }
 {
     let declarer = card_word(cards, b, 6);
     let d = put_dealt(text, cards, entries, b, scan, c, page, at);
@@ -347,7 +347,7 @@ fn put_table(
     at: usize,
 ) -> usize
     requires { ⌜ scan ≤ 4294967296 ⌝ }
-    ensures { λ r. ⌜ Puts (now (page .entry)) at (tableText (now (cards .entry)) b (scanned (now (text .entry)) (now (cards .entry)) (now (entries .entry)) b scan)) (now (page .exit)) r ⌝ }
+    ensures { λ r. ⌜ Puts (now (page .entry)) at (tableText (now (cards .entry)) b (scannedItems (now (text .entry)) (now (cards .entry)) (now (entries .entry)) b scan)) (now (page .exit)) r ⌝ }
 {
     let first = card_word(cards, b, 0);
     if card_word(cards, b, 38) == 0 {
@@ -379,7 +379,7 @@ pub fn put_analysis(
     at: usize,
 ) -> usize
     requires { ⌜ scan ≤ 4294967296 ⌝ }
-    ensures { λ r. ⌜ Puts (now (page .entry)) at (analysisText (now (text .entry)) (now (cards .entry)) (now (entries .entry)) b (scanned (now (text .entry)) (now (cards .entry)) (now (entries .entry)) b scan)) (now (page .exit)) r ⌝ }
+    ensures { λ r. ⌜ Puts (now (page .entry)) at (analysisText (now (text .entry)) (now (cards .entry)) (now (entries .entry)) b (scannedItems (now (text .entry)) (now (cards .entry)) (now (entries .entry)) b scan)) (now (page .exit)) r ⌝ }
 {
     let d = put_table(text, cards, entries, b, scan, page, at);
     let e = put_optional(text, cards, entries, b, scan, b"OptimumScore", 49, page, d);
@@ -408,7 +408,7 @@ pub fn put_bidding(
     at: usize,
 ) -> usize
     requires { ⌜ scan ≤ 4294967296 ⌝ }
-    ensures { λ r. ⌜ Puts (now (page .entry)) at (biddingText c (now (text .entry)) (now (cards .entry)) (now (entries .entry)) b (scanned (now (text .entry)) (now (cards .entry)) (now (entries .entry)) b scan)) (now (page .exit)) r ⌝ }
+    ensures { λ r. ⌜ Puts (now (page .entry)) at (biddingText c (now (text .entry)) (now (cards .entry)) (now (entries .entry)) b (scannedItems (now (text .entry)) (now (cards .entry)) (now (entries .entry)) b scan)) (now (page .exit)) r ⌝ }
 {
     let w = card_word(cards, b, 51);
     if w == 0 {
@@ -446,7 +446,7 @@ pub fn put_cards(
     at: usize,
 ) -> usize
     requires { ⌜ scan ≤ 4294967296 ⌝ }
-    ensures { λ r. ⌜ Puts (now (page .entry)) at (cardsText c (now (text .entry)) (now (cards .entry)) (now (entries .entry)) b (scanned (now (text .entry)) (now (cards .entry)) (now (entries .entry)) b scan)) (now (page .exit)) r ⌝ }
+    ensures { λ r. ⌜ Puts (now (page .entry)) at (cardsText c (now (text .entry)) (now (cards .entry)) (now (entries .entry)) b (scannedItems (now (text .entry)) (now (cards .entry)) (now (entries .entry)) b scan)) (now (page .exit)) r ⌝ }
 {
     let w = card_word(cards, b, 55);
     if w == 0 {

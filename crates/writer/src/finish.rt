@@ -5,8 +5,8 @@ ghost use Prim.Native.Nat.{_+_, _*_, _≤_};
 ghost use lib.ListN.{length};
 ghost use Rattle.tables.specs.Letters.{builtIn};
 ghost use Rattle.reader.specs.Store.{zeros};
-ghost use Rattle.planning.specs.Steps.{Kept};
-ghost use Rattle.writer.specs.GivenCards.{marked, cleared, changedAt, changedAll, checkedOf, FinishEnded, FinishPut, BoardsFinished};
+ghost use Rattle.planning.specs.Steps.{BoxesKept};
+ghost use Rattle.writer.specs.GivenCards.{marked, givenCleared, changedAt, changedAll, checkedOf, FinishEnded, FinishPut, BoardsFinished};
 ghost use Rattle.writer.specs.Finishings.{finishNumber, finishCarries, finishEdition, firstAbove, IsFinished};
 use crate::give::give_tables;
 use crate::page::put_page;
@@ -105,7 +105,7 @@ fn mark_given(cards: &mut [u32], boards: usize)
 // Takes the table of the board at index k away, where it was given.
 fn clear_card(cards: &mut [u32], k: usize)
     requires { ⌜ 64 * k + 64 ≤ length (now cards) ⌝ }
-    ensures { λ _. ⌜ now (cards .exit) ≡ changedAt cleared k (now (cards .entry)) ⌝ }
+    ensures { λ _. ⌜ now (cards .exit) ≡ changedAt givenCleared k (now (cards .entry)) ⌝ }
 {
     if cards[64 * k + 38] == 3 {
         let none = [0u32; 21];
@@ -116,7 +116,7 @@ fn clear_card(cards: &mut [u32], k: usize)
 // Takes the given tables away again.
 fn clear_given(cards: &mut [u32], boards: usize)
     requires { ⌜ 64 * boards ≤ length (now cards) ⌝ }
-    ensures { λ _. ⌜ now (cards .exit) ≡ changedAll cleared boards (now (cards .entry)) ⌝ }
+    ensures { λ _. ⌜ now (cards .exit) ≡ changedAll givenCleared boards (now (cards .entry)) ⌝ }
 {
     let mut k = 0;
     while k < boards {
@@ -164,7 +164,7 @@ fn zero_all(
     new_entries: &mut [u32],
     page: &mut [u8],
 )
-    ensures { λ _. ⌜ (Kept false
+    ensures { λ _. ⌜ (BoxesKept false
         (record { old-cards = now («old_cards» .entry); old-entries = now («old_entries» .entry); new-cards = now («new_cards» .entry); new-entries = now («new_entries» .entry) })
         (record { old-cards = now («old_cards» .exit); old-entries = now («old_entries» .exit); new-cards = now («new_cards» .exit); new-entries = now («new_entries» .exit) }))
         × (now (page .exit) ≡ zeros (now (page .entry))) ⌝ }

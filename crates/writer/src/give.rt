@@ -80,7 +80,7 @@ fn put_cells(cards: &mut [u32], k: usize, cells: [u32; 20])
 }
 
 // The number of solve boards, with one board more.
-fn next_slip(slip: usize, s: BoardState) -> usize
+fn slip_after(slip: usize, s: BoardState) -> usize
     requires { ⌜ slip ≤ 2 ^ 60 ⌝ }
     ensures { λ r. ⌜ r ≡ tally 5 s slip ⌝ }
 {
@@ -107,7 +107,7 @@ pub fn give_tables(
         let s = state_of(old_cards, olds, new_cards, news, k);
         let cells = source_cells(old_cards, new_cards, k, s, answers, slip);
         put_cells(new_cards, k, cells);
-        slip = next_slip(slip, s);
+        slip = slip_after(slip, s);
         k += 1;
     }
     slip

@@ -21,7 +21,7 @@ use crate::tags::put_open;
 use reader::names::NOTE;
 use reader::names::tag_number;
 use tables::numbers::Number;
-use tables::numbers::read_number;
+use tables::numbers::parse_number;
 use tables::text::from;
 use tables::text::index_of;
 use tables::text::trim;
@@ -39,7 +39,7 @@ fn note_number(value: &[u8]) -> usize
 {
     let k = index_of(value, 58);
     if k < value.len() {
-        let Number::Value(n) = read_number(trim(upto(value, k)), 255) else {
+        let Number::Value(n) = parse_number(trim(upto(value, k)), 255) else {
             return 256;
         };
         return n as usize;

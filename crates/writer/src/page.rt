@@ -8,7 +8,7 @@ ghost use Rattle.writer.specs.Puts.{Puts};
 ghost use Rattle.writer.specs.Held.{cardWord, itemsAt};
 ghost use Rattle.writer.specs.Pages.{builtInHeader};
 ghost use Rattle.writer.specs.Items.{hasRemarks, dealPlace};
-ghost use Rattle.writer.specs.BoardTexts.{scanned, presentHeld, scanOf, frontText, lostText, backText, leadHeld, bodyHeld, headerHeld, nextHeld, partsHeld, pageHeld};
+ghost use Rattle.writer.specs.BoardTexts.{scannedItems, presentHeld, scanOf, frontText, unwrittenText, backText, leadHeld, bodyHeld, headerHeld, nextHeld, partsHeld, pageHeld};
 use crate::board::less;
 use crate::board::put_analysis;
 use crate::board::put_bidding;
@@ -108,7 +108,7 @@ fn put_front(
     at: usize,
 ) -> usize
     requires { ⌜ scan ≤ 4294967296 ⌝ }
-    ensures { λ r. ⌜ Puts (now (page .entry)) at (frontText c (now (text .entry)) (now (cards .entry)) (now (entries .entry)) b (scanned (now (text .entry)) (now (cards .entry)) (now (entries .entry)) b scan)) (now (page .exit)) r ⌝ }
+    ensures { λ r. ⌜ Puts (now (page .entry)) at (frontText c (now (text .entry)) (now (cards .entry)) (now (entries .entry)) b (scannedItems (now (text .entry)) (now (cards .entry)) (now (entries .entry)) b scan)) (now (page .exit)) r ⌝ }
 {
     let first = card_word(cards, b, 0);
     let early = deal_place(text, entries, first, card_word(cards, b, 1));
@@ -130,7 +130,7 @@ fn put_front(
 }
 
 // What belongs to a tag that is not written: blocks, then directives.
-fn put_lost(
+fn put_unwritten(
     text: &[u8],
     cards: &[u32],
     entries: &[u32],
@@ -140,10 +140,10 @@ fn put_lost(
     at: usize,
 ) -> usize
     requires { ⌜ scan ≤ 4294967296 ⌝ }
-    ensures { λ r. ⌜ Puts (now (page .entry)) at (lostText (presentHeld (now (text .entry)) (now (cards .entry)) (now (entries .entry)) b) (scanned (now (text .entry)) (now (cards .entry)) (now (entries .entry)) b scan)) (now (page .exit)) r ⌝ }
+    ensures { λ r. ⌜ Puts (now (page .entry)) at (unwrittenText (presentHeld (now (text .entry)) (now (cards .entry)) (now (entries .entry)) b) (scannedItems (now (text .entry)) (now (cards .entry)) (now (entries .entry)) b scan)) (now (page .exit)) r ⌝ }
 {
     let first = card_word(cards, b, 0);
-    let lost = Sought::Lost(present_at(text, cards, entries, b));
+    let lost = Sought::Unwritten(present_at(text, cards, entries, b));
     let d = put_remarks(text, entries, first, scan, lost, b"", 4, page, at);
     put_remarks(text, entries, first, scan, lost, b"", 3, page, d)
 }
@@ -160,7 +160,7 @@ fn put_back(
     at: usize,
 ) -> usize
     requires { ⌜ scan ≤ 4294967296 ⌝ }
-    ensures { λ r. ⌜ Puts (now (page .entry)) at (backText c (now (text .entry)) (now (cards .entry)) (now (entries .entry)) b (scanned (now (text .entry)) (now (cards .entry)) (now (entries .entry)) b scan)) (now (page .exit)) r ⌝ }
+    ensures { λ r. ⌜ Puts (now (page .entry)) at (backText c (now (text .entry)) (now (cards .entry)) (now (entries .entry)) b (scannedItems (now (text .entry)) (now (cards .entry)) (now (entries .entry)) b scan)) (now (page .exit)) r ⌝ }
 {
     let first = card_word(cards, b, 0);
     let count = card_word(cards, b, 1);
@@ -177,7 +177,7 @@ fn put_back(
     );
     let e = put_bidding(text, cards, entries, b, scan, c, page, d);
     let f = put_cards(text, cards, entries, b, scan, c, page, e);
-    put_lost(text, cards, entries, b, scan, page, f)
+    put_unwritten(text, cards, entries, b, scan, page, f)
 }
 
 // The directives before every tag.

@@ -3,7 +3,7 @@ ghost use mathlib.Core.Path.{_≡_};
 ghost use Prim.Native.Nat.{_+_, _≤_, _<_};
 ghost use Rattle.writer.specs.Puts.{Puts};
 ghost use Rattle.writer.specs.Held.{itemsAt};
-ghost use Rattle.writer.specs.Items.{slotText, oneMore, slotsText, fourSlots, tricksText, playText};
+ghost use Rattle.writer.specs.Items.{slotText, oneMoreCard, slotsText, fourSlots, tricksText, playText};
 use crate::auction::put_end;
 use crate::auction::put_last;
 use crate::held::entry_word;
@@ -28,7 +28,7 @@ fn put_slot(page: &mut [u8], at: usize, c: Conventions, n: usize, k: usize) -> u
 // One more where a slot has a card.
 fn one_more(n: usize, k: usize) -> usize
     requires { ⌜ n < 4 ⌝ }
-    ensures { λ r. ⌜ (r ≡ oneMore n k) × (r ≤ n + 1) ⌝ }
+    ensures { λ r. ⌜ (r ≡ oneMoreCard n k) × (r ≤ n + 1) ⌝ }
 {
     if k < 52 {
         return n + 1;

@@ -1,6 +1,6 @@
 // Which tags of a board are written, decided by the numbers of their names.
 ghost use mathlib.Core.Path.{_≡_};
-ghost use Rattle.writer.specs.Steps.{isWritten};
+ghost use Rattle.writer.specs.Steps.{isTagWritten};
 use reader::names;
 
 // What of a board there is: an id, a dealer, a table, an optimum score, a par contract, an auction, notes of it, a play.
@@ -17,7 +17,7 @@ pub struct Present {
 
 // Whether a tag is written whose name has the number k.
 pub fn is_written(p: Present, k: u8) -> bool
-    ensures { λ r. ⌜ r ≡ isWritten p k ⌝ }
+    ensures { λ r. ⌜ r ≡ isTagWritten p k ⌝ }
 {
     match k {
         names::BOARD => p.board,

@@ -22,7 +22,7 @@ use tables::text::byte_at;
 pub enum Sought {
     Leading,
     Under,
-    Lost(Present),
+    Unwritten(Present),
 }
 
 // Whether the remarks behind a tag are sought.
@@ -32,7 +32,7 @@ fn is_sought(s: Sought, name: &[u8], tag: &[u8]) -> bool
     match s {
         Sought::Leading => false,
         Sought::Under => same(name, tag),
-        Sought::Lost(p) => {
+        Sought::Unwritten(p) => {
             let written = is_written(p, tag_number(tag));
             !written
         }
@@ -46,7 +46,7 @@ fn is_first(s: Sought) -> bool
     match s {
         Sought::Leading => true,
         Sought::Under => false,
-        Sought::Lost(_) => false,
+        Sought::Unwritten(_) => false,
     }
 }
 

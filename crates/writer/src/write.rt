@@ -2,7 +2,7 @@
 ghost use mathlib.Core.Path.{_≡_};
 ghost use Rattle.tables.specs.Letters.{builtIn};
 ghost use Rattle.reader.specs.Store.{zeros};
-ghost use Rattle.writer.specs.Writings.{writeNumber, writeCarries, Ended, IsWritten};
+ghost use Rattle.writer.specs.Writings.{writeNumber, writeCarries, WritingEnded, IsWritten};
 use crate::page::put_page;
 use reader::edition::ReadRefusal;
 use reader::edition::Reading;
@@ -53,7 +53,7 @@ pub fn clear(page: &mut [u8])
 
 // The answer for n bytes; all that was lent is set to 0 where they do not fit.
 fn end_writing(n: usize, cards: &mut [u32], entries: &mut [u32], page: &mut [u8]) -> Writing
-    ensures { λ r. ⌜ Ended n (now (cards .entry)) (now (entries .entry)) (now (page .entry)) r (now (cards .exit)) (now (entries .exit)) (now (page .exit)) ⌝ }
+    ensures { λ r. ⌜ WritingEnded n (now (cards .entry)) (now (entries .entry)) (now (page .entry)) r (now (cards .exit)) (now (entries .exit)) (now (page .exit)) ⌝ }
 {
     if n <= page.len() {
         finish(page, n);

@@ -1,5 +1,5 @@
 use Rattle.listing_text.proofs.ListingLaws.{listed-low, boards-refused, boards-listed}
-use Rattle.planning.specs.States.{judged}
+use Rattle.planning.specs.States.{boardPlans}
 use Rattle.planning.specs.Cards.{cardsIn}
 use denote.Ref.{now}
 use mathlib.Core.Path.{refl, _∙_}
@@ -11,12 +11,12 @@ use Rattle.listing_text.proofs.listing.list_taken.Reads as reads
 use Rattle.listing_text.proofs.listing.list_taken.Lts as lts
 use Rattle.listing_text.proofs.listing.write_refused.Reads as write-refused-reads
 use Rattle.listing_text.proofs.listing.finish_listing.Reads as finish-listing-reads
-use Rattle.listing_text.proofs.listing.put_listed.Reads as put-listed-reads
+use Rattle.listing_text.proofs.listing.put_listing.Reads as put-listing-reads
 use Rattle.planning.proofs.plan.finish_plan.Reads as finish-plan-reads
-use Rattle.planning.proofs.plan.list_boards.Reads as list-boards-reads
+use Rattle.planning.proofs.plan.put_slips.Reads as put-slips-reads
 
-list-boards-requires : tie.Need-list-boards-requires
-list-boards-requires c κs = search needs
+put-slips-requires : tie.Need-put-slips-requires
+put-slips-requires c κs = search needs
 
 finish-plan-requires : tie.Need-finish-plan-requires
 finish-plan-requires c κs = search needs
@@ -30,8 +30,8 @@ write-refused-requires c κs = search needs
 enum-known-t : tie.Need-enum-known-t
 enum-known-t c = search needs
 
-put-listed-requires : tie.Need-put-listed-requires
-put-listed-requires c κs = let a = c .before .before .before .before .before .before .before .before .before .before .before .before .before .before .before .before .before .before .before .before .before .before .before .before .before .before .before .before .before .before .before .before .before .before .args in let k = c .before .before .before .before .before .before .before .before .before .before .before .before .before .before .before .before .finish-plan .kept in (omega (arith, k .0, c .before .before .before .before .before .before .before .before .before .before .before .before .before .before .before .before .before .before .before .before .before .before .before .before .before .before .before .before .before .before .before .before .before .before .pre .0), omega (arith, k .1 .1 .0, c .before .before .before .before .before .before .before .before .before .before .before .before .before .before .before .before .before .before .before .before .before .before .before .before .before .before .before .before .before .before .before .before .before .before .pre .1), c .before .before .before .before .before .before .before .before .before .before .before .before .before .before .before .before .before .before .before .before .before .before .before .before .before .before .before .before .before .before .before .before .before .before .pre .2, c .before .before .before .before .before .before .before .before .before .before .before .before .before .before .before .before .before .before .before .before .before .before .before .before .before .before .before .before .before .before .before .before .before .before .pre .3, listed-low (cardsIn (a .olds) (now (a .old-cards))) (a .news) (now (a .new-cards)) (c .before .before .before .before .before .before .before .before .before .before .before .before .before .before .before .before .before .before .before .before .before .before .before .before .list-boards .ensures .0) (c .before .before .before .before .before .before .before .before .before .before .before .before .before .before .before .before .before .before .before .before .before .before .before .before .before .before .before .before .before .before .before .before .before .before .pre .3) (c .before .before .before .before .before .before .before .before .before .before .before .before .before .before .before .before .finish-plan .ensures) (c .before .before .before .before .t .given .1))
+put-listing-requires : tie.Need-put-listing-requires
+put-listing-requires c κs = let a = c .before .before .before .before .before .before .before .before .before .before .before .before .before .before .before .before .before .before .before .before .before .before .before .before .before .before .before .before .before .before .before .before .before .before .args in let k = c .before .before .before .before .before .before .before .before .before .before .before .before .before .before .before .before .finish-plan .kept in (omega (arith, k .0, c .before .before .before .before .before .before .before .before .before .before .before .before .before .before .before .before .before .before .before .before .before .before .before .before .before .before .before .before .before .before .before .before .before .before .pre .0), omega (arith, k .1 .1 .0, c .before .before .before .before .before .before .before .before .before .before .before .before .before .before .before .before .before .before .before .before .before .before .before .before .before .before .before .before .before .before .before .before .before .before .pre .1), c .before .before .before .before .before .before .before .before .before .before .before .before .before .before .before .before .before .before .before .before .before .before .before .before .before .before .before .before .before .before .before .before .before .before .pre .2, c .before .before .before .before .before .before .before .before .before .before .before .before .before .before .before .before .before .before .before .before .before .before .before .before .before .before .before .before .before .before .before .before .before .before .pre .3, listed-low (cardsIn (a .olds) (now (a .old-cards))) (a .news) (now (a .new-cards)) (c .before .before .before .before .before .before .before .before .before .before .before .before .before .before .before .before .before .before .before .before .before .before .before .before .put-slips .ensures .0) (c .before .before .before .before .before .before .before .before .before .before .before .before .before .before .before .before .before .before .before .before .before .before .before .before .before .before .before .before .before .before .before .before .before .before .pre .3) (c .before .before .before .before .before .before .before .before .before .before .before .before .before .before .before .before .finish-plan .ensures) (c .before .before .before .before .t .given .1))
 
 finish-listing-requires : tie.Need-finish-listing-requires
 finish-listing-requires c κs = search needs
@@ -55,7 +55,7 @@ same-length-6 : tie.Need-same-length-6
 same-length-6 c = search needs
 
 returns : tie.Need-returns
-returns c = let a = c .before .before .before .before .before .before .before .before .before .before .before .before .before .before .before .before .before .before .before .before .before .before .before .before .before .before .before .before .before .before .before .before .before .before .before .args in let js = judged (cardsIn (a .olds) (now (a .old-cards))) (cardsIn (a .news) (now (a .new-cards))) in let l = c .before .before .before .before .before .before .before .before .before .before .before .before .before .before .before .before .before .before .before .before .before .before .before .before .before .list-boards in let p = c .before .before .before .before .before .before .before .before .before .before .before .before .before .before .before .before .before .finish-plan in boards-refused js (now (a .slips)) (l .ensures) (l .kept .1 .1 .1 .1 .0) (p .ensures) (c .before .before .before .before .before .f .given .1) (c .before .before .write-refused .ensures)
+returns c = let a = c .before .before .before .before .before .before .before .before .before .before .before .before .before .before .before .before .before .before .before .before .before .before .before .before .before .before .before .before .before .before .before .before .before .before .before .args in let js = boardPlans (cardsIn (a .olds) (now (a .old-cards))) (cardsIn (a .news) (now (a .new-cards))) in let l = c .before .before .before .before .before .before .before .before .before .before .before .before .before .before .before .before .before .before .before .before .before .before .before .before .before .put-slips in let p = c .before .before .before .before .before .before .before .before .before .before .before .before .before .before .before .before .before .finish-plan in boards-refused js (now (a .slips)) (l .ensures) (l .kept .1 .1 .1 .1 .0) (p .ensures) (c .before .before .before .before .before .f .given .1) (c .before .before .write-refused .ensures)
 
 same-length-7 : tie.Need-same-length-7
 same-length-7 c = c .before .before .before .before .before .before .before .before .before .before .before .before .finish-listing .kept .0 ∙ c .before .before .before .before .before .before .before .before .before .before .before .before .before .before .before .before .before .before .before .before .before .before .before .before .before .before .before .before .before .before .before .before .before .before .before .before .before .before .finish-plan .kept .0
@@ -70,24 +70,24 @@ same-length-10 : tie.Need-same-length-10
 same-length-10 c = search needs
 
 same-length-11 : tie.Need-same-length-11
-same-length-11 c = c .before .before .before .before .before .before .before .before .before .before .before .before .finish-listing .kept .1 .1 .1 .1 .0 ∙ c .before .before .before .before .before .before .before .before .before .before .before .before .before .before .before .before .before .before .before .before .before .before .before .before .before .before .before .before .before .before .before .before .before .before .before .before .before .before .finish-plan .kept .1 .1 .1 .1 .0 ∙ c .before .before .before .before .before .before .before .before .before .before .before .before .before .before .before .before .before .before .before .before .before .before .before .before .before .before .before .before .before .before .before .before .before .before .before .before .before .before .before .before .before .before .before .before .before .before .list-boards .kept .1 .1 .1 .1 .0
+same-length-11 c = c .before .before .before .before .before .before .before .before .before .before .before .before .finish-listing .kept .1 .1 .1 .1 .0 ∙ c .before .before .before .before .before .before .before .before .before .before .before .before .before .before .before .before .before .before .before .before .before .before .before .before .before .before .before .before .before .before .before .before .before .before .before .before .before .before .finish-plan .kept .1 .1 .1 .1 .0 ∙ c .before .before .before .before .before .before .before .before .before .before .before .before .before .before .before .before .before .before .before .before .before .before .before .before .before .before .before .before .before .before .before .before .before .before .before .before .before .before .before .before .before .before .before .before .before .before .put-slips .kept .1 .1 .1 .1 .0
 
 same-length-12 : tie.Need-same-length-12
 same-length-12 c = search needs
 
 returns-2 : tie.Need-returns-2
-returns-2 c = let a = c .before .before .before .before .before .before .before .before .before .before .before .before .before .before .before .before .before .before .before .before .before .before .before .before .before .before .before .before .before .before .before .before .before .before .before .before .before .before .before .before .before .before .before .before .before .before .before .before .before .before .before .before .before .before .before .before .args in let js = judged (cardsIn (a .olds) (now (a .old-cards))) (cardsIn (a .news) (now (a .new-cards))) in let l = c .before .before .before .before .before .before .before .before .before .before .before .before .before .before .before .before .before .before .before .before .before .before .before .before .before .before .before .before .before .before .before .before .before .before .before .before .before .before .before .before .before .before .before .before .before .before .list-boards in let p = c .before .before .before .before .before .before .before .before .before .before .before .before .before .before .before .before .before .before .before .before .before .before .before .before .before .before .before .before .before .before .before .before .before .before .before .before .before .before .finish-plan in boards-listed js (now (a .slips)) (l .ensures) (l .kept .1 .1 .1 .1 .0) (p .ensures) (a .olds) (a .news) refl (c .before .before .before .before .before .before .before .before .before .before .before .before .before .before .before .before .before .before .before .before .before .before .before .before .before .before .t .given .1) (c .before .before .before .before .before .before .before .before .before .before .before .before .before .before .before .before .before .before .before .before .before .put-listed .ensures) (c .before .before .before .before .before .before .before .before .before .before .before .before .finish-listing .ensures)
+returns-2 c = let a = c .before .before .before .before .before .before .before .before .before .before .before .before .before .before .before .before .before .before .before .before .before .before .before .before .before .before .before .before .before .before .before .before .before .before .before .before .before .before .before .before .before .before .before .before .before .before .before .before .before .before .before .before .before .before .before .before .args in let js = boardPlans (cardsIn (a .olds) (now (a .old-cards))) (cardsIn (a .news) (now (a .new-cards))) in let l = c .before .before .before .before .before .before .before .before .before .before .before .before .before .before .before .before .before .before .before .before .before .before .before .before .before .before .before .before .before .before .before .before .before .before .before .before .before .before .before .before .before .before .before .before .before .before .put-slips in let p = c .before .before .before .before .before .before .before .before .before .before .before .before .before .before .before .before .before .before .before .before .before .before .before .before .before .before .before .before .before .before .before .before .before .before .before .before .before .before .finish-plan in boards-listed js (now (a .slips)) (l .ensures) (l .kept .1 .1 .1 .1 .0) (p .ensures) (a .olds) (a .news) refl (c .before .before .before .before .before .before .before .before .before .before .before .before .before .before .before .before .before .before .before .before .before .before .before .before .before .before .t .given .1) (c .before .before .before .before .before .before .before .before .before .before .before .before .before .before .before .before .before .before .before .before .before .put-listing .ensures) (c .before .before .before .before .before .before .before .before .before .before .before .before .finish-listing .ensures)
 
 pub list-taken-spec : {M : Type 1} → statement M
 list-taken-spec =
     tie.close
     (tie.spec
-    list-boards-requires
+    put-slips-requires
     finish-plan-requires
     enum-known-f
     write-refused-requires
     enum-known-t
-    put-listed-requires
+    put-listing-requires
     finish-listing-requires
     same-length
     same-length-2

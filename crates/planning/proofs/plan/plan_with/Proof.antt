@@ -16,8 +16,8 @@ enum-known-f c = search needs
 enum-known-olds : tie.Need-enum-known-olds
 enum-known-olds c = search needs
 
-list-boards-requires : tie.Need-list-boards-requires
-list-boards-requires c κs = (there (c .before .before .before .before .before .before .before .before .before .before .before .before .before .before .read-both .ensures) (c .before .before .before .before .olds .given .1) .0 .room, there (c .before .before .before .before .before .before .before .before .before .before .before .before .before .before .read-both .ensures) (c .before .before .before .before .olds .given .1) .1 .room)
+put-slips-requires : tie.Need-put-slips-requires
+put-slips-requires c κs = (there (c .before .before .before .before .before .before .before .before .before .before .before .before .before .before .read-both .ensures) (c .before .before .before .before .olds .given .1) .0 .room, there (c .before .before .before .before .before .before .before .before .before .before .before .before .before .before .read-both .ensures) (c .before .before .before .before .olds .given .1) .1 .room)
 
 finish-plan-requires : tie.Need-finish-plan-requires
 finish-plan-requires c κs = search needs
@@ -53,11 +53,11 @@ same-length-9 : tie.Need-same-length-9
 same-length-9 c = search needs
 
 same-length-10 : tie.Need-same-length-10
-same-length-10 c = c .before .before .before .before .before .before .before .before .before .before .finish-plan .kept .1 .1 .1 .1 .0 ∙ c .before .before .before .before .before .before .before .before .before .before .before .before .before .before .before .before .before .before .list-boards .kept .1 .1 .1 .1 .0 ∙ c .before .before .before .before .before .before .before .before .before .before .before .before .before .before .before .before .before .before .before .before .before .before .before .before .before .before .before .before .before .before .before .before .before .before .before .before .before .before .before .before .zero-numbers .kept .0
+same-length-10 c = c .before .before .before .before .before .before .before .before .before .before .finish-plan .kept .1 .1 .1 .1 .0 ∙ c .before .before .before .before .before .before .before .before .before .before .before .before .before .before .before .before .before .before .put-slips .kept .1 .1 .1 .1 .0 ∙ c .before .before .before .before .before .before .before .before .before .before .before .before .before .before .before .before .before .before .before .before .before .before .before .before .before .before .before .before .before .before .before .before .before .before .before .before .before .before .before .before .zero-numbers .kept .0
 
 returns-2 : tie.Need-returns-2
 returns-2 c = let b = c .before .before .before .before .before .before .before .before .before .before .before .before .before .before .before .before .before .before .before .before .before .before .before .before .before .before .before .before .before .before .before .before .before .read-both in
-    let p = c .before .before .before .before .before .before .before .before .before .before .before .before .before .before .before .before .before .before .list-boards in
+    let p = c .before .before .before .before .before .before .before .before .before .before .before .before .before .before .before .before .before .before .put-slips in
     plan-listed (b .ensures) (c .before .before .before .before .before .before .before .before .before .before .before .before .before .before .before .before .before .before .before .before .before .before .before .olds .given .1) (record { old-cards = b .kept .1 .1 .1 .0; old-entries = b .kept .1 .1 .1 .1 .0; new-cards = b .kept .1 .1 .1 .1 .1 .0; new-entries = b .kept .1 .1 .1 .1 .1 .1 .0 })
     (c .before .before .before .before .before .before .before .before .before .before .before .before .before .before .before .before .before .before .before .before .before .before .before .before .before .before .before .before .before .before .before .before .before .before .before .before .before .before .before .before .zero-numbers .ensures) (p .kept .1 .1 .1 .1 .0) (p .ensures) (c .before .before .before .before .before .before .before .before .before .before .finish-plan .ensures)
 
@@ -69,7 +69,7 @@ plan-with-spec =
     read-both-requires
     enum-known-f
     enum-known-olds
-    list-boards-requires
+    put-slips-requires
     finish-plan-requires
     same-length
     same-length-2

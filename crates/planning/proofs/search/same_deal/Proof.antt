@@ -6,13 +6,13 @@ use native.Mathlib.Omega.{arith}
 use borrow.Author.Tests.{eq-eqb, ne-eqb}
 use denote.Ref.{now}
 use Rattle.reader.specs.Words.{same}
-use Rattle.planning.specs.Cards.{dealOf, cardHere}
+use Rattle.planning.specs.Cards.{cardDeal, cardHere}
 use lib.ListN.{length, drop}
 use Rattle.planning.proofs.search.same_deal.Statement.{statement}
 use Rattle.planning.proofs.search.same_deal.Tie as tie
 
 abbrev Inv-loop : tie.InvT-loop
-Inv-loop cards k words at i₀ i = (same words (dealOf (cardHere k cards)) ≡ same (drop i words) (drop i (dealOf (cardHere k cards)))) × (i ≤ 8)
+Inv-loop cards k words at i₀ i = (same words (cardDeal (cardHere k cards)) ≡ same (drop i words) (drop i (cardDeal (cardHere k cards)))) × (i ≤ 8)
 
 abbrev μ-loop : tie.MeasureT-loop
 μ-loop cards k words at i₀ i = 8 - i
@@ -47,9 +47,9 @@ returns c =
     let a = c .before .before .before .before .before .args in
     let n = deal-length (a .k) (now (a .cards)) (omega arith) in
     let h : l .i < length (now (a .words)) = omega arith in
-    let g : l .i < length (dealOf (cardHere (a .k) (now (a .cards)))) = omega arith in
+    let g : l .i < length (cardDeal (cardHere (a .k) (now (a .cards)))) = omega arith in
     let e = deal-word (a .k) (l .i) (now (a .cards)) (omega arith) in
-    rw (l .inv .0, step (now (a .words)) (l .i) h, step (dealOf (cardHere (a .k) (now (a .cards)))) (l .i) g, e, ne-eqb _ _ (c .if1 .taken))
+    rw (l .inv .0, step (now (a .words)) (l .i) h, step (cardDeal (cardHere (a .k) (now (a .cards)))) (l .i) g, e, ne-eqb _ _ (c .if1 .taken))
 
 add-i : tie.Need-add-i Inv-loop μ-loop
 add-i c = omega arith
@@ -63,16 +63,16 @@ loop-again c =
     let a = c .before .before .before .before .before .args in
     let n = deal-length (a .k) (now (a .cards)) (omega arith) in
     let h : l .i < length (now (a .words)) = omega arith in
-    let g : l .i < length (dealOf (cardHere (a .k) (now (a .cards)))) = omega arith in
+    let g : l .i < length (cardDeal (cardHere (a .k) (now (a .cards)))) = omega arith in
     let e = deal-word (a .k) (l .i) (now (a .cards)) (omega arith) in
-    (rw (l .inv .0, step (now (a .words)) (l .i) h, step (dealOf (cardHere (a .k) (now (a .cards)))) (l .i) g, e, eq-eqb _ _ (c .if1 .left)), omega arith)
+    (rw (l .inv .0, step (now (a .words)) (l .i) h, step (cardDeal (cardHere (a .k) (now (a .cards)))) (l .i) g, e, eq-eqb _ _ (c .if1 .left)), omega arith)
 
 returns-2 : tie.Need-returns-2 Inv-loop μ-loop
 returns-2 c =
     let l = c .before .loop in
     let a = c .before .before .args in
     let n = deal-length (a .k) (now (a .cards)) (omega arith) in
-    rw (l .inv .0, stop (now (a .words)) (l .i) (omega arith), stop (dealOf (cardHere (a .k) (now (a .cards)))) (l .i) (omega arith))
+    rw (l .inv .0, stop (now (a .words)) (l .i) (omega arith), stop (cardDeal (cardHere (a .k) (now (a .cards)))) (l .i) (omega arith))
 
 pub same-deal-spec : {M : Type 1} → statement M
 same-deal-spec =

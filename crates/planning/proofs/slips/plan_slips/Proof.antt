@@ -39,15 +39,15 @@ use denote.Triple.Table.{entered, cited}
 use denote.Triple.Walked.{says, Stays, stay-dropped, gave-slice, walkOf, Walks, ends-at, walked, goes-dropped, goes-gave-slice, walk-meets}
 use Rattle.planning.specs.declared.slips.Slip.{Slip}
 use Rattle.tables.specs.declared.letters.Conventions.{Conventions}
-use Rattle.planning.specs.declared.plan.Planned.{Planned}
+use Rattle.planning.specs.declared.plan.Planning.{Planning}
 use Rattle.tables.specs.Letters.{builtIn}
 use Rattle.planning.specs.Slips.{slipNumbers}
 use Rattle.planning.specs.Plans.{IsPlanned}
 use Rattle.planning.proofs.slips.Slip as S
 use Rattle.tables.proofs.letters.Conventions as Cv
 use Rattle.tables.proofs.letters.Conventions.Laws as Cv′
-use Rattle.planning.proofs.plan.Planned as P
-use Rattle.planning.proofs.plan.Planned.Laws as P′
+use Rattle.planning.proofs.plan.Planning as P
+use Rattle.planning.proofs.plan.Planning.Laws as P′
 use Rattle.tables.proofs.letters.built_in as built
 use Rattle.tables.proofs.letters.built_in.Symbol as built-def
 use Rattle.tables.proofs.letters.built_in.Symbol.{name as #built-in}
@@ -141,21 +141,21 @@ module _ {M : Type 1} (𝓤 : URA M) (H : Heap 𝓤) (A : Atoms 𝓤) (W : Given
   abbrev Lasts′ : Last → Fml
   Lasts′ ws = fsep (finally u32 (oc .name) (ws .1 .1 .1 .0)) (fsep (finally u32 (oe .name) (ws .1 .1 .1 .1 .0)) (fsep (finally u32 (nc .name) (ws .1 .1 .1 .1 .1 .0)) (fsep (finally u32 (ne .name) (ws .1 .1 .1 .1 .1 .1 .0)) (fsep (finally S.the-row (sl .name) (ws .1 .1 .1 .1 .1 .1 .1 .0)) ftrue))))
 
-  abbrev Plans : Conventions → Last → Planned → Type 0
+  abbrev Plans : Conventions → Last → Planning → Type 0
   Plans r ws p =
       IsPlanned r (now old) (now new) (record { old-cards = now oc; old-entries = now oe; new-cards = now nc; new-entries = now ne }) (slipNumbers (now sl))
       (record { old-cards = ws .1 .1 .1 .0; old-entries = ws .1 .1 .1 .1 .0; new-cards = ws .1 .1 .1 .1 .1 .0; new-entries = ws .1 .1 .1 .1 .1 .1 .0 })
       (slipNumbers (ws .1 .1 .1 .1 .1 .1 .1 .0)) p
 
-  abbrev Facts : Conventions → Planned × Last → Type 0
+  abbrev Facts : Conventions → Planning × Last → Type 0
   Facts r s = Plans r (s .1) (s .0) × (length (s .1 .1 .1 .1 .0) ≡ length (now oc)) × (length (s .1 .1 .1 .1 .1 .0) ≡ length (now oe)) × (length (s .1 .1 .1 .1 .1 .1 .0) ≡ length (now nc)) × (length (s .1 .1 .1 .1 .1 .1 .1 .0) ≡ length (now ne))
       × (length (s .1 .1 .1 .1 .1 .1 .1 .1 .0) ≡ length (now sl))
 
   plans : (r : Conventions) (w : Val) → ent 𝓤 (PlanSlipsWith 𝓤 H A mem run .post (to₂ r) w)
-      (H .⇛ (ex 𝓤 (λ (s : Planned × Last). guard 𝓤 (Facts r s) (sep 𝓤 (sep 𝓤 (sem 𝓤 H A (P.the-row .own (s .0) (w ∷ []))) (mean 𝓤 H A T₀)) (sem 𝓤 H A (Lasts′ (s .1)))))))
+      (H .⇛ (ex 𝓤 (λ (s : Planning × Last). guard 𝓤 (Facts r s) (sep 𝓤 (sep 𝓤 (sem 𝓤 H A (P.the-row .own (s .0) (w ∷ []))) (mean 𝓤 H A T₀)) (sem 𝓤 H A (Lasts′ (s .1)))))))
   plans r w =
       qed W (raw (PlanSlipsWith 𝓤 H A mem run .post (to₂ r) w) ∷ []) ∵ updating ! $
-      use1 W (later (some (λ (p : Planned). (T₀ ⊛ ‵ (P.the-row .own p (w ∷ []))) ⊛ raw (ensured 𝓤 H A with.ended (with.clauses 𝓤 H A mem run) κs (args r) tt p)))) (id⊢ 𝓤 _) $
+      use1 W (later (some (λ (p : Planning). (T₀ ⊛ ‵ (P.the-row .own p (w ∷ []))) ⊛ raw (ensured 𝓤 H A with.ended (with.clauses 𝓤 H A mem run) κs (args r) tt p)))) (id⊢ 𝓤 _) $
       await ! tt $ pick ! (λ p. split ! $ move ! (1 ∷ []) $
       use1 W (some (λ (ws : Last). ‵ (lasts with.ended κs (args r) ws) ⊛ raw (fact 𝓤 (Plans r ws p)))) (id⊢ 𝓤 _) $
       pick ! (λ ws. split ! $ move ! (1 ∷ []) $ heard ! (Plans r ws p) (λ h. fsplit ! $ drop ! $ fsplit ! $ drop ! $ fsplit ! $ drop ! $
@@ -165,10 +165,10 @@ module _ {M : Type 1} (𝓤 : URA M) (H : Heap 𝓤) (A : Atoms 𝓤) (W : Given
       drop ! $ move ! (5 ∷ []) $ split ! $ nothing ! $ move ! (3 ∷ 0 ∷ []) $ fjoin ! $ move ! (3 ∷ 0 ∷ []) $ fjoin ! $
       move ! (3 ∷ 0 ∷ []) $ fjoin ! $ move ! (3 ∷ 0 ∷ []) $ fjoin ! $ move ! (3 ∷ 0 ∷ []) $ fjoin ! $ move ! (2 ∷ 1 ∷ []) $ join ! $
       at-once ! $
-      show ! (λ (s : Planned × Last). guard 𝓤 (Facts r s) (sep 𝓤 (sep 𝓤 (sem 𝓤 H A (P.the-row .own (s .0) (w ∷ []))) (mean 𝓤 H A T₀)) (sem 𝓤 H A (Lasts′ (s .1))))) (p, ws) $
+      show ! (λ (s : Planning × Last). guard 𝓤 (Facts r s) (sep 𝓤 (sep 𝓤 (sem 𝓤 H A (P.the-row .own (s .0) (w ∷ []))) (mean 𝓤 H A T₀)) (sem 𝓤 H A (Lasts′ (s .1))))) (p, ws) $
       check ! (h, eOc, eOe, eNc, eNe, eSl) $ done !))))))))
 
-  exits : (u : Val) (r : Conventions) (w : Val) (s : Planned × Last) → Told u r → Facts r s → ent 𝓤 (⋆ 𝓤 H A (‵ (P.the-row .own (s .0) (w ∷ [])) ∷ T₀ ∷ ‵ (Lasts′ (s .1)) ∷ [])) (Post w)
+  exits : (u : Val) (r : Conventions) (w : Val) (s : Planning × Last) → Told u r → Facts r s → ent 𝓤 (⋆ 𝓤 H A (‵ (P.the-row .own (s .0) (w ∷ [])) ∷ T₀ ∷ ‵ (Lasts′ (s .1)) ∷ [])) (Post w)
   exits u r w s f h =
       qed W (‵ (P.the-row .own (s .0) (w ∷ [])) ∷ T₀ ∷ ‵ (Lasts′ (s .1)) ∷ []) ∵
       suffices ! _ (ends-at 𝓤 H A plan.ended stayed (plan.clauses 𝓤 H A mem run) W bound w (s .0)
@@ -212,7 +212,7 @@ module _ {M : Type 1} (𝓤 : URA M) (H : Heap 𝓤) (A : Atoms 𝓤) (W : Given
       assigns ! (agg ! (and-then ! (load ! (from ! (stop !)) (look ! 3 refl)) (and-then ! (load ! (from ! (fld ! refl (stop !))) (look-in ! 23 (sub ! 1 refl (whole !)))) (no-more !)))) (from ! (stop !)) (init ! 1 refl (tt, (tt, (record { fits = sl-room .0 }, tt)))) $
       move ! (0 ∷ 39 ∷ []) $ use2 W (raw (PlanSlipsWith 𝓤 H A mem run .pre (to₂ r))) (asked r) $
       calls-at ! (fmOf 𝓤 H (W .laws) 𝓣) (PlanSlipsWith 𝓤 H A mem run) known₂ (to₂ r) (and-then ! (load ! (from ! (stop !)) (look ! 21 refl)) (and-then ! (load ! (from ! (stop !)) (look ! 35 refl)) (and-then ! (load ! (from ! (stop !)) (look ! 33 refl)) (and-then ! (load ! (from ! (stop !)) (look ! 17 refl)) (and-then ! (load ! (from ! (stop !)) (look ! 13 refl)) (and-then ! (load ! (from ! (stop !)) (look ! 9 refl)) (and-then ! (load ! (from ! (stop !)) (look ! 5 refl)) (and-then ! (load ! (from ! (stop !)) (look ! 1 refl)) (no-more !))))))))) (λ w.
-      use1 W (later (some (λ (s : Planned × Last). given (Facts r s) ((‵ (P.the-row .own (s .0) (w ∷ [])) ⊛ T₀) ⊛ ‵ (Lasts′ (s .1)))))) (plans r w) $
+      use1 W (later (some (λ (s : Planning × Last). given (Facts r s) ((‵ (P.the-row .own (s .0) (w ∷ [])) ⊛ T₀) ⊛ ‵ (Lasts′ (s .1)))))) (plans r w) $
       await ! tt $ pick ! (λ s. learn ! (λ h. split ! $ split ! $
       peeks ! P.the-row (Is P.the-row) (shows 𝓤 H A P.the-row) (s .0) (w ∷ []) (λ is.
       land ! (from ! (stop !)) (init ! 39 refl (EL.lawful P.the-type P′.the-laws 𝓤 H A W tt .typed (s .0) _ is .0)) $

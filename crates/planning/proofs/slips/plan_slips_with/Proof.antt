@@ -44,7 +44,7 @@ use borrow.Rule.Slice.Lend.{keptF}
 use Rattle.planning.specs.declared.slips.Slip.{Slip}
 use Rattle.planning.specs.declared.slips.Counted.{Counted}
 use Rattle.tables.specs.declared.letters.Conventions.{Conventions}
-use Rattle.planning.specs.declared.plan.Planned.{Planned}
+use Rattle.planning.specs.declared.plan.Planning.{Planning}
 use Rattle.planning.specs.Slips.{slipNumbers}
 use Rattle.planning.specs.Plans.{Boxes, IsPlanned}
 use Rattle.planning.specs.Fills.{nextOf, filledFrom, IsCounted}
@@ -55,8 +55,8 @@ use Rattle.tables.proofs.letters.Conventions as Cv
 use Rattle.tables.proofs.letters.Conventions.Laws as Cv′
 use Rattle.planning.proofs.slips.Counted as N
 use Rattle.planning.proofs.slips.Counted.Laws as N′
-use Rattle.planning.proofs.plan.Planned as P
-use Rattle.planning.proofs.plan.Planned.Laws as P′
+use Rattle.planning.proofs.plan.Planning as P
+use Rattle.planning.proofs.plan.Planning.Laws as P′
 use Rattle.planning.proofs.slips.plan_counted as counted
 use Rattle.planning.proofs.slips.plan_counted.Symbol as counted-def
 use Rattle.planning.proofs.slips.plan_counted.Symbol.{name as #plan-counted}

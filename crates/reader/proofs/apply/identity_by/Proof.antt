@@ -4,8 +4,8 @@ use Rattle.reader.specs.Boards.{identityBy}
 use Rattle.reader.proofs.apply.identity_by.Statement.{statement}
 use Rattle.reader.proofs.apply.identity_by.Tie as tie
 
-read-number-requires : tie.Need-read-number-requires
-read-number-requires c κs = search needs
+parse-number-requires : tie.Need-parse-number-requires
+parse-number-requires c κs = search needs
 
 with-number-requires : tie.Need-with-number-requires
 with-number-requires c κs = search needs
@@ -19,8 +19,8 @@ vulnerability-in-requires c κs = search needs
 seat-in-requires-2 : tie.Need-seat-in-requires-2
 seat-in-requires-2 c κs = search needs
 
-read-signed-requires : tie.Need-read-signed-requires
-read-signed-requires c κs = search needs
+parse-signed-requires : tie.Need-parse-signed-requires
+parse-signed-requires c κs = search needs
 
 with-result-requires : tie.Need-with-result-requires
 with-result-requires c κs = search needs
@@ -28,7 +28,7 @@ with-result-requires c κs = search needs
 returns : tie.Need-returns
 unfolding identityBy
 returns c =
-    rw (c .before .before .match .keys1, ← c .before .read-number .ensures .0) (c .with-number .ensures)
+    rw (c .before .before .match .keys1, ← c .before .parse-number .ensures .0) (c .with-number .ensures)
 
 returns-2 : tie.Need-returns-2
 unfolding identityBy
@@ -48,7 +48,7 @@ returns-4 c =
 returns-5 : tie.Need-returns-5
 unfolding identityBy
 returns-5 c =
-    rw (c .before .before .match .keys5, ← c .before .read-signed .ensures) (c .with-result .ensures)
+    rw (c .before .before .match .keys5, ← c .before .parse-signed .ensures) (c .with-result .ensures)
 
 returns-6 : tie.Need-returns-6
 unfolding identityBy
@@ -59,12 +59,12 @@ pub identity-by-spec : {M : Type 1} → statement M
 identity-by-spec =
     tie.close
     (tie.spec
-    read-number-requires
+    parse-number-requires
     with-number-requires
     seat-in-requires
     vulnerability-in-requires
     seat-in-requires-2
-    read-signed-requires
+    parse-signed-requires
     with-result-requires
     returns
     returns-2

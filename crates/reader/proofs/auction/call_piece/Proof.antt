@@ -5,7 +5,7 @@ use lib.ListN.{length-take, length-drop, length}
 use denote.Ref.{now}
 use Rattle.reader.specs.Pieces.{piece}
 use Rattle.reader.specs.Auction.{called, calledPiece}
-use Rattle.reader.proofs.TokenLaws.{Reading, reading-start, reading-some, reading-next, reading-done}
+use Rattle.reader.proofs.TokenLaws.{AtToken, reading-start, reading-some, reading-next, reading-done}
 use Rattle.reader.proofs.AuctionLaws.{next-call-count}
 use borrow.Author.Needs.{needs}
 use Rattle.reader.proofs.auction.call_piece.Statement.{statement}
@@ -14,7 +14,7 @@ use Rattle.reader.proofs.auction.call_piece.Tie as tie
 abbrev Inv-loop : tie.InvT-loop
 Inv-loop c s at a base entries₀ w₀ i₀ entries w i =
     (i ≤ length s)
-    × Reading (called c) a (base + w₀ .count) entries₀ (calledPiece c w₀ (piece at s)) at s entries w (base + w .count) i
+    × AtToken (called c) a (base + w₀ .count) entries₀ (calledPiece c w₀ (piece at s)) at s entries w (base + w .count) i
     × (w .count ≤ w₀ .count + 3 * i)
     × (length entries ≡ length entries₀)
 

@@ -2,7 +2,7 @@ use mathlib.Core.Path.{sym, _∙_}
 use Prim.Native.Nat.{_+_}
 use denote.Ref.{now}
 use Rattle.reader.specs.Pieces.{piece}
-use Rattle.reader.proofs.AuctionLaws.{step-stopped, step-plus, step-star, step-note, step-lost, step-none, step-as}
+use Rattle.reader.proofs.AuctionLaws.{step-stopped, step-plus, step-star, step-annotation, step-lost, step-none, step-as}
 use borrow.Author.Needs.{needs}
 use Rattle.reader.proofs.auction.call_step.Statement.{statement}
 use Rattle.reader.proofs.auction.call_step.Tie as tie
@@ -63,7 +63,7 @@ same-length c = search needs
 returns-2 : tie.Need-returns-2
 returns-2 c =
     let x = c .before .before .before .before .before .before .before .before .before .before .before .before .before .before .args in
-    step-note (x .c) (x .b) (piece (x .at) (now (x .t))) (x .a) (x .base + x .b .count) (c .before .before .before .before .before .before .before .before .before .before .before .if1 .left) (sym (c .before .before .before .before .before .before .before .before .before .before .call-token .ensures .0) ∙ c .before .before .before .before .before .before .before .before .enum-told4 .given .1) (c .before .before .before .before .before .before .before .if2 .taken) (c .before .before .before .before .put-annotation .ensures) (c .bid3 .ensures)
+    step-annotation (x .c) (x .b) (piece (x .at) (now (x .t))) (x .a) (x .base + x .b .count) (c .before .before .before .before .before .before .before .before .before .before .before .if1 .left) (sym (c .before .before .before .before .before .before .before .before .before .before .call-token .ensures .0) ∙ c .before .before .before .before .before .before .before .before .enum-told4 .given .1) (c .before .before .before .before .before .before .before .if2 .taken) (c .before .before .before .before .put-annotation .ensures) (c .bid3 .ensures)
 
 bid-requires-4 : tie.Need-bid-requires-4
 bid-requires-4 c κs = search needs

@@ -1,5 +1,5 @@
 use Prim.Native.Nat.{_+_}
-use Rattle.reader.proofs.AuctionLaws.{call-noted, call-plain}
+use Rattle.reader.proofs.AuctionLaws.{call-annotated, call-plain}
 use borrow.Author.Needs.{needs}
 use Rattle.reader.proofs.auction.put_call.Statement.{statement}
 use Rattle.reader.proofs.auction.put_call.Tie as tie
@@ -34,7 +34,7 @@ same-length c = search needs
 returns : tie.Need-returns
 returns c =
     let x = c .before .before .before .before .before .before .before .before .before .before .before .before .before .args in
-    call-noted (x .a) (x .base + x .b .count) (x .b) (x .at) (x .len) (x .k) (x .code) (c .before .before .before .before .before .before .if1 .taken) (c .before .before .before .before .before .before .before .before .before .put-call-entry .ensures) (c .before .before .before .before .put-annotation .ensures) (c .bid .ensures)
+    call-annotated (x .a) (x .base + x .b .count) (x .b) (x .at) (x .len) (x .k) (x .code) (c .before .before .before .before .before .before .if1 .taken) (c .before .before .before .before .before .before .before .before .before .put-call-entry .ensures) (c .before .before .before .before .put-annotation .ensures) (c .bid .ensures)
 
 add-bid-2 : tie.Need-add-bid-2
 add-bid-2 c = search needs

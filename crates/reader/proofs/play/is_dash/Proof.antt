@@ -1,5 +1,5 @@
 use borrow.Author.Needs.{needs}
-use Rattle.reader.specs.Play.{isDash}
+use Rattle.reader.specs.Play.{isGap}
 use Rattle.reader.proofs.play.is_dash.Statement.{statement}
 use Rattle.reader.proofs.play.is_dash.Tie as tie
 
@@ -10,7 +10,7 @@ same-requires : tie.Need-same-requires
 same-requires c κs = search needs
 
 returns : tie.Need-returns
-unfolding isDash
+unfolding isGap
 returns c =
     c .same .ensures
 

@@ -5,7 +5,7 @@ use lib.ListN.{length-drop, length}
 use denote.Ref.{now}
 use Rattle.reader.specs.Pieces.{piece}
 use Rattle.reader.specs.Play.{playedToken, playedPiece, Seated}
-use Rattle.reader.proofs.TokenLaws.{Reading, reading-start, reading-some, reading-next, reading-done}
+use Rattle.reader.proofs.TokenLaws.{AtToken, reading-start, reading-some, reading-next, reading-done}
 use Rattle.reader.proofs.PlayLaws.{next-trick-count, next-trick-few}
 use borrow.Author.Needs.{needs}
 use Rattle.reader.proofs.play.play_piece.Statement.{statement}
@@ -14,7 +14,7 @@ use Rattle.reader.proofs.play.play_piece.Tie as tie
 abbrev Inv-loop : tie.InvT-loop
 Inv-loop c lead trump s at a base entries₀ w₀ i₀ entries w i =
     (i ≤ length s)
-    × Reading (playedToken c lead trump) a (base + w₀ .count) entries₀ (playedPiece c lead trump w₀ (piece at s)) at s entries w (base + w .count) i
+    × AtToken (playedToken c lead trump) a (base + w₀ .count) entries₀ (playedPiece c lead trump w₀ (piece at s)) at s entries w (base + w .count) i
     × (w .count ≤ w₀ .count + i)
     × Seated w
     × (length entries ≡ length entries₀)

@@ -40,8 +40,8 @@ unfolding played
 returns-3 c =
     (rw (← c .before .before .before .before .before .before .section-end .ensures .0, ne-eqb _ _ (c .before .before .before .before .before .if1 .left), ne-eqb _ _ (c .before .before .before .before .if2 .left), ← c .before .before .before .is-dash .ensures, c .before .before .if3 .taken) (c .take-seat3 .ensures .0), search needs)
 
-card-of-requires : tie.Need-card-of-requires
-card-of-requires c κs = search needs
+card-named-requires : tie.Need-card-named-requires
+card-named-requires c κs = search needs
 
 cast-play-card : tie.Need-cast-play-card
 cast-play-card c = search needs
@@ -52,12 +52,12 @@ play-card-requires c κs = search needs
 returns-4 : tie.Need-returns-4
 unfolding played
 returns-4 c =
-    (rw (← c .before .before .before .before .before .before .before .section-end .ensures .0, ne-eqb _ _ (c .before .before .before .before .before .before .if1 .left), ne-eqb _ _ (c .before .before .before .before .before .if2 .left), ← c .before .before .before .before .is-dash .ensures, c .before .before .before .if3 .left, ← c .before .before .card-of .ensures .0, lt-ltb _ _ (c .before .if4 .taken)) (c .play-card .ensures .0), search needs)
+    (rw (← c .before .before .before .before .before .before .before .section-end .ensures .0, ne-eqb _ _ (c .before .before .before .before .before .before .if1 .left), ne-eqb _ _ (c .before .before .before .before .before .if2 .left), ← c .before .before .before .before .is-dash .ensures, c .before .before .before .if3 .left, ← c .before .before .card-named .ensures .0, lt-ltb _ _ (c .before .if4 .taken)) (c .play-card .ensures .0), search needs)
 
 returns-5 : tie.Need-returns-5
 unfolding played
 returns-5 c =
-    (rw (← c .before .before .before .before .before .before .section-end .ensures .0, ne-eqb _ _ (c .before .before .before .before .before .if1 .left), ne-eqb _ _ (c .before .before .before .before .if2 .left), ← c .before .before .before .is-dash .ensures, c .before .before .if3 .left, ← c .before .card-of .ensures .0, le-ltb _ _ (c .if4 .left)), search needs)
+    (rw (← c .before .before .before .before .before .before .section-end .ensures .0, ne-eqb _ _ (c .before .before .before .before .before .if1 .left), ne-eqb _ _ (c .before .before .before .before .if2 .left), ← c .before .before .before .is-dash .ensures, c .before .before .if3 .left, ← c .before .card-named .ensures .0, le-ltb _ _ (c .if4 .left)), search needs)
 
 pub play-token-spec : {M : Type 1} → statement M
 play-token-spec =
@@ -73,7 +73,7 @@ play-token-spec =
     add-take-seat-2
     take-seat-requires-3
     returns-3
-    card-of-requires
+    card-named-requires
     cast-play-card
     play-card-requires
     returns-4

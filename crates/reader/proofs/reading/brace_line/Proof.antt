@@ -12,7 +12,7 @@ use Rattle.reader.proofs.reading.brace_line.Lts as lts
 use Rattle.reader.proofs.line.has_brace.Reads as has-brace-reads
 use Rattle.reader.proofs.line.last_brace.Reads as last-brace-reads
 use Rattle.reader.proofs.reading.block_step.Reads as block-step-reads
-use Rattle.reader.proofs.reading.noted_state.Reads as noted-state-reads
+use Rattle.reader.proofs.reading.with_commentary.Reads as with-commentary-reads
 use Rattle.tables.proofs.text.lead_len.Reads as lead-len-reads
 
 lead-len-requires : tie.Need-lead-len-requires
@@ -45,17 +45,17 @@ returns c =
     let e = c .before .before .block-step .ensures in
     (rw (← c .before .before .before .before .before .before .has-brace .ensures, c .before .before .before .before .before .if1 .taken, ← c .before .before .before .before .before .before .before .lead-len .ensures .0, ← c .before .before .before .before .last-brace .ensures .0) e, omega (arith, block-zero _ _ _ _ _ _ _ e))
 
-noted-state-requires : tie.Need-noted-state-requires
-noted-state-requires c κs = search needs
+with-commentary-requires : tie.Need-with-commentary-requires
+with-commentary-requires c κs = search needs
 
 returns-2 : tie.Need-returns-2
 unfolding braced
 returns-2 c = (
   record {
-    answer = rw (← c .before .before .has-brace .ensures, c .before .if1 .left, ← c .before .before .before .lead-len .ensures .0) (c .noted-state .ensures);
+    answer = rw (← c .before .before .has-brace .ensures, c .before .if1 .left, ← c .before .before .before .lead-len .ensures .0) (c .with-commentary .ensures);
     words = rw (← c .before .before .has-brace .ensures, c .before .if1 .left);
   },
-  omega (arith, ap (λ (x : State). x .block) (c .noted-state .ensures), c .before .before .before .lead-len .ensures .1),
+  omega (arith, ap (λ (x : State). x .block) (c .with-commentary .ensures), c .before .before .before .lead-len .ensures .1),
 )
 
 pub brace-line-spec : {M : Type 1} → statement M
@@ -71,5 +71,5 @@ brace-line-spec =
     block-step-requires
     same-length
     returns
-    noted-state-requires
+    with-commentary-requires
     returns-2)

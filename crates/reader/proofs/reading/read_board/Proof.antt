@@ -1,5 +1,5 @@
 use Rattle.reader.proofs.LinesLaws.{LinesLeft, lines-start, left-few, lines-next, lines-done}
-use Rattle.reader.proofs.ReadingLaws.{section-none, kind-data, kind-directive, kind-tag, kind-brace, kind-bracket, line-bracket, line-directed, line-dated, line-tag, line-braced, line-quiet}
+use Rattle.reader.proofs.ReadingLaws.{section-none, kind-data, kind-directive, kind-tag, kind-brace, kind-bracket, line-bracket, line-directed, line-data, line-tag, line-braced, line-quiet}
 use Rattle.reader.proofs.TagStepLaws.{sound-later, closed-tags, closed-sound, read-closed}
 use Rattle.reader.proofs.SectionLaws.{LineAt, line-at}
 use Rattle.reader.specs.Boards.{countedState, closed}
@@ -87,7 +87,7 @@ loop-again c =
     let v = c .before .before .before .before .before .before .before .before .before .before .before .before .before .loop in
     let k = kind-data (c .before .before .before .before .before .before .before .before .before .kind-in .ensures .0) (c .before .before .before .before .before .before .before .d .given .1) in
     lines-next (v .inv) _ (line-of (c .before .before .before .before .before .before .before .before .before .before .before)) _ _
-    (line-dated (a .c) (now (a .r)) (v .s) (v .p) (now (c .before .before .before .before .before .before .before .before .before .before .before .line-at .result)) (a .a) _ (v .inv .sound) _ (k .0) (k .1) (record { answer = ap (countedState (v .s)) (c .before .before .before .put-data .ensures .0 .answer); words = c .before .before .before .put-data .ensures .0 .words }))
+    (line-data (a .c) (now (a .r)) (v .s) (v .p) (now (c .before .before .before .before .before .before .before .before .before .before .before .line-at .result)) (a .a) _ (v .inv .sound) _ (k .0) (k .1) (record { answer = ap (countedState (v .s)) (c .before .before .before .put-data .ensures .0 .answer); words = c .before .before .before .put-data .ensures .0 .words }))
     (search needs)
 
 enum-known-t : tie.Need-enum-known-t Inv-loop μ-loop

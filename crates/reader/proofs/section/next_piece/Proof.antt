@@ -9,10 +9,10 @@ use Rattle.reader.proofs.section.next_piece.Statement.{statement}
 use Rattle.reader.proofs.section.next_piece.Tie as tie
 
 abbrev Inv-loop : tie.InvT-loop
-Inv-loop r at noting₀ e₀ noting e = Seeking r at noting e
+Inv-loop r at commentary₀ e₀ commentary e = Seeking r at commentary e
 
 abbrev μ-loop : tie.MeasureT-loop
-μ-loop r at noting₀ e₀ noting e = length r - e
+μ-loop r at commentary₀ e₀ commentary e = length r - e
 
 line-of :
     (c : tie.After-line-at Inv-loop μ-loop) →
@@ -39,13 +39,13 @@ returns c =
     let k = c .before .before .before .before in
     let a = c .before .before .before .before .before .before .before .before .args in
     let v = c .before .before .before .before .before .before .loop in
-    rw (c .no-piece .ensures) (seek-stop (now (a .r)) (a .at) (v .noting) (v .e) _ (v .inv) (line-of k) (rw (← c .before .before .before .visit-line .ensures) (c .before .enum-told .given .1)))
+    rw (c .no-piece .ensures) (seek-stop (now (a .r)) (a .at) (v .commentary) (v .e) _ (v .inv) (line-of k) (rw (← c .before .before .before .visit-line .ensures) (c .before .enum-told .given .1)))
 
 enum-told-2 : tie.Need-enum-told-2 Inv-loop μ-loop
 enum-told-2 c = search needs
 
-note-after-requires : tie.Need-note-after-requires Inv-loop μ-loop
-note-after-requires c κs = search needs
+commentary-after-requires : tie.Need-commentary-after-requires Inv-loop μ-loop
+commentary-after-requires c κs = search needs
 
 add-e : tie.Need-add-e Inv-loop μ-loop
 add-e c = omega (arith, line-of (c .before .before .before .before) .inside, c .before .before .before .before .before .before .before .before .pre .1)
@@ -58,7 +58,7 @@ loop-again c =
     let k = c .before .before .before .before in
     let a = c .before .before .before .before .before .before .before .before .args in
     let v = c .before .before .before .before .before .before .loop in
-    rw (c .note-after .ensures) (seek-pass (now (a .r)) (a .at) (v .noting) (v .e) _ (v .inv) (line-of k) (rw (← c .before .before .before .visit-line .ensures) (c .before .enum-told2 .given .1)))
+    rw (c .commentary-after .ensures) (seek-pass (now (a .r)) (a .at) (v .commentary) (v .e) _ (v .inv) (line-of k) (rw (← c .before .before .before .visit-line .ensures) (c .before .enum-told2 .given .1)))
 
 enum-known-s : tie.Need-enum-known-s Inv-loop μ-loop
 enum-known-s c = search needs
@@ -67,7 +67,7 @@ add-t11 : tie.Need-add-t11 Inv-loop μ-loop
 add-t11 c =
     let k = c .before .before .before .before .before in
     let v = c .before .before .before .before .before .before .before .loop in
-    let h = piece-placed (v .noting) (now (k .line-at .result)) (c .before .before .s .given .0 .0) (rw (← c .before .before .before .before .visit-line .ensures) (c .before .before .s .given .1)) in
+    let h = piece-placed (v .commentary) (now (k .line-at .result)) (c .before .before .s .given .0 .0) (rw (← c .before .before .before .before .visit-line .ensures) (c .before .before .s .given .1)) in
     omega (arith, line-of k .inside, c .before .before .before .before .before .before .before .before .before .pre .1, h)
 
 add-t14 : tie.Need-add-t14 Inv-loop μ-loop
@@ -78,7 +78,7 @@ returns-2 c =
     let k = c .before .before .before .before .before in
     let a = c .before .before .before .before .before .before .before .before .before .args in
     let v = c .before .before .before .before .before .before .before .loop in
-    seek-piece (now (a .r)) (a .at) (v .noting) (v .e) _ (c .before .before .s .given .0 .0) (v .inv) (line-of k) (rw (← c .before .before .before .before .visit-line .ensures) (c .before .before .s .given .1))
+    seek-piece (now (a .r)) (a .at) (v .commentary) (v .e) _ (c .before .before .s .given .0 .0) (v .inv) (line-of k) (rw (← c .before .before .before .before .visit-line .ensures) (c .before .before .s .given .1))
 
 no-piece-requires-2 : tie.Need-no-piece-requires-2 Inv-loop μ-loop
 no-piece-requires-2 c κs = search needs
@@ -87,7 +87,7 @@ returns-3 : tie.Need-returns-3 Inv-loop μ-loop
 returns-3 c =
     let a = c .before .before .before .before .args in
     let v = c .before .before .loop in
-    rw (c .no-piece2 .ensures) (seek-end (now (a .r)) (a .at) (v .noting) (v .e) (v .inv) (c .before .loop-test .left))
+    rw (c .no-piece2 .ensures) (seek-end (now (a .r)) (a .at) (v .commentary) (v .e) (v .inv) (c .before .loop-test .left))
 
 pub next-piece-spec : {M : Type 1} → statement M
 next-piece-spec =
@@ -102,7 +102,7 @@ next-piece-spec =
     no-piece-requires
     returns
     enum-told-2
-    note-after-requires
+    commentary-after-requires
     add-e
     loop-less
     loop-again

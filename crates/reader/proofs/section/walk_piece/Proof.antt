@@ -4,7 +4,7 @@ use Prim.Native.Nat.{_+_}
 use lib.ListN.{length}
 use native.Mathlib.Omega.{arith}
 use Rattle.reader.specs.Pieces.{piece}
-use Rattle.reader.specs.Sections.{countOf}
+use Rattle.reader.specs.Sections.{walkCount}
 use Rattle.reader.proofs.WalkLaws.{piece-called, piece-played, piece-row}
 use Rattle.reader.proofs.section.walk_piece.Statement.{statement}
 use Rattle.reader.proofs.section.walk_piece.Tie as tie
@@ -50,7 +50,7 @@ returns-3 : tie.Need-returns-3
 returns-3 c =
     let s = c .before .before .before .before .before .before .before .before .before .before in
     let a = s .args in
-    piece-row (a .c) (a .o) (a .trump) (a .w) (piece (a .at) (now (a .s))) (a .a) (a .base + countOf (a .w)) (length (now (a .s))) _ _ (c .before .before .before .if1 .left) (c .before .if2 .left) (c .walk-row .ensures) (s .pre .0)
+    piece-row (a .c) (a .o) (a .trump) (a .w) (piece (a .at) (now (a .s))) (a .a) (a .base + walkCount (a .w)) (length (now (a .s))) _ _ (c .before .before .before .if1 .left) (c .before .if2 .left) (c .walk-row .ensures) (s .pre .0)
 
 pub walk-piece-spec : {M : Type 1} → statement M
 walk-piece-spec =

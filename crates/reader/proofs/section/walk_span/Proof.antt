@@ -6,7 +6,7 @@ use lib.ListN.{take, drop}
 use native.Mathlib.Omega.{arith}
 use borrow.Author.Tests.{eq-eqb, ne-eqb}
 use Rattle.reader.specs.Pieces.{piece}
-use Rattle.reader.specs.Sections.{walked, countOf}
+use Rattle.reader.specs.Sections.{walked, walkCount}
 use Rattle.reader.proofs.WalkLaws.{cut-short, walk-none, span-one}
 use Rattle.reader.proofs.section.walk_span.Statement.{statement}
 use Rattle.reader.proofs.section.walk_span.Tie as tie
@@ -15,7 +15,7 @@ returns : tie.Need-returns
 returns c =
     let s = c .before .before .before .before in
     let a = s .args in
-    rw (eq-eqb (a .s .len) 0 (c .if1 .taken)) (walk-none (a .a) (a .base + countOf (a .w)) (a .s .len) (now (a .entries)) (a .w) (s .pre .0))
+    rw (eq-eqb (a .s .len) 0 (c .if1 .taken)) (walk-none (a .a) (a .base + walkCount (a .w)) (a .s .len) (now (a .entries)) (a .w) (s .pre .0))
 
 from-requires : tie.Need-from-requires
 from-requires c κs = search needs
@@ -40,7 +40,7 @@ returns-2 c =
     let t = now (c .before .before .before .before .upto .result) in
     let e : t ≡ take (d .len) (drop (d .start) (now (a .r))) = rw (c .before .before .before .before .upto .ensures, c .before .before .before .before .before .from .ensures) in
     rw (ne-eqb (d .len) 0 (c .before .before .before .before .before .before .if1 .left), ← e)
-    (span-one (walked (a .c) (a .o) (a .trump)) (a .a) (a .base + countOf (a .w)) (d .len) _ _ (a .w) (piece (d .start) t) _ (cut-short t (now (a .r)) (d .start) (d .len) e) (c .before .before .walk-piece .ensures))
+    (span-one (walked (a .c) (a .o) (a .trump)) (a .a) (a .base + walkCount (a .w)) (d .len) _ _ (a .w) (piece (d .start) t) _ (cut-short t (now (a .r)) (d .start) (d .len) e) (c .before .before .walk-piece .ensures))
 
 pub walk-span-spec : {M : Type 1} → statement M
 walk-span-spec =

@@ -23,8 +23,8 @@ unfolding fieldsRow
 returns-2 c =
     rw (← c .before .before .before .before .first-character .ensures, ← c .before .before .before .seat-of .ensures .0, le-ltb _ _ (c .before .before .if1 .left), ← c .before .strain-of .ensures .0, lt-ltb _ _ (c .if2 .taken))
 
-read-number-requires : tie.Need-read-number-requires
-read-number-requires c κs = search needs
+parse-number-requires : tie.Need-parse-number-requires
+parse-number-requires c κs = search needs
 
 enum-known-v : tie.Need-enum-known-v
 enum-known-v c = search needs
@@ -35,12 +35,12 @@ enum-told c = search needs
 returns-3 : tie.Need-returns-3
 unfolding fieldsRow
 returns-3 c =
-    rw (← c .before .before .before .before .before .before .before .first-character .ensures, ← c .before .before .before .before .before .before .seat-of .ensures .0, le-ltb _ _ (c .before .before .before .before .before .if1 .left), ← c .before .before .before .before .strain-of .ensures .0, le-ltb _ _ (c .before .before .before .if2 .left), ← c .before .before .read-number .ensures .0, c .enum-told .given .1)
+    rw (← c .before .before .before .before .before .before .before .first-character .ensures, ← c .before .before .before .before .before .before .seat-of .ensures .0, le-ltb _ _ (c .before .before .before .before .before .if1 .left), ← c .before .before .before .before .strain-of .ensures .0, le-ltb _ _ (c .before .before .before .if2 .left), ← c .before .before .parse-number .ensures .0, c .enum-told .given .1)
 
 returns-4 : tie.Need-returns-4
 unfolding fieldsRow
 returns-4 c =
-    rw (← c .before .before .before .before .before .before .before .before .before .first-character .ensures, ← c .before .before .before .before .before .before .before .before .seat-of .ensures .0, le-ltb _ _ (c .before .before .before .before .before .before .before .if1 .left), ← c .before .before .before .before .before .before .strain-of .ensures .0, le-ltb _ _ (c .before .before .before .before .before .if2 .left), ← c .before .before .before .before .read-number .ensures .0, c .before .before .v .given .1, lt-ltb 13 _ (c .if3 .taken))
+    rw (← c .before .before .before .before .before .before .before .before .before .first-character .ensures, ← c .before .before .before .before .before .before .before .before .seat-of .ensures .0, le-ltb _ _ (c .before .before .before .before .before .before .before .if1 .left), ← c .before .before .before .before .before .before .strain-of .ensures .0, le-ltb _ _ (c .before .before .before .before .before .if2 .left), ← c .before .before .before .before .parse-number .ensures .0, c .before .before .v .given .1, lt-ltb 13 _ (c .if3 .taken))
 
 cell-of-requires : tie.Need-cell-of-requires
 cell-of-requires c κs = search needs
@@ -51,7 +51,7 @@ cast-t9 c = search needs
 returns-5 : tie.Need-returns-5
 unfolding fieldsRow
 returns-5 c =
-    rw (← c .before .before .before .before .before .before .before .before .before .before .first-character .ensures, ← c .before .before .before .before .before .before .before .before .before .seat-of .ensures .0, le-ltb _ _ (c .before .before .before .before .before .before .before .before .if1 .left), ← c .before .before .before .before .before .before .before .strain-of .ensures .0, le-ltb _ _ (c .before .before .before .before .before .before .if2 .left), ← c .before .before .before .before .before .read-number .ensures .0, c .before .before .before .v .given .1, le-ltb 13 _ (c .before .if3 .left), ← c .cell-of .ensures)
+    rw (← c .before .before .before .before .before .before .before .before .before .before .first-character .ensures, ← c .before .before .before .before .before .before .before .before .before .seat-of .ensures .0, le-ltb _ _ (c .before .before .before .before .before .before .before .before .if1 .left), ← c .before .before .before .before .before .before .before .strain-of .ensures .0, le-ltb _ _ (c .before .before .before .before .before .before .if2 .left), ← c .before .before .before .before .before .parse-number .ensures .0, c .before .before .before .v .given .1, le-ltb 13 _ (c .before .if3 .left), ← c .cell-of .ensures)
 
 pub read-fields-spec : {M : Type 1} → statement M
 read-fields-spec =
@@ -62,7 +62,7 @@ read-fields-spec =
     returns
     strain-of-requires
     returns-2
-    read-number-requires
+    parse-number-requires
     enum-known-v
     enum-told
     returns-3

@@ -1,6 +1,6 @@
 use denote.Ref.{now}
 use native.Mathlib.Omega.{arith}
-use Rattle.writer.specs.GivenCards.{cleared}
+use Rattle.writer.specs.GivenCards.{givenCleared}
 use Rattle.writer.proofs.ChangedCards.{changed-first, changed-next, changed-end, ChangedTo, cleared-long}
 use Prim.Native.Nat.{_-_}
 use Rattle.writer.proofs.finish.clear_given.Statement.{statement}
@@ -10,13 +10,13 @@ use Rattle.writer.proofs.finish.clear_given.Lts as lts
 use Rattle.writer.proofs.finish.clear_card.Reads as clear-card-reads
 
 abbrev Inv-loop : tie.InvT-loop
-Inv-loop cards₀ boards k₀ cards k = ChangedTo cleared boards cards₀ k cards
+Inv-loop cards₀ boards k₀ cards k = ChangedTo givenCleared boards cards₀ k cards
 
 abbrev μ-loop : tie.MeasureT-loop
 μ-loop cards₀ boards k₀ cards k = boards - k
 
 loop-holds : tie.Need-loop-holds Inv-loop μ-loop
-loop-holds c = changed-first cleared (c .before .args .boards) (now (c .before .args .cards))
+loop-holds c = changed-first givenCleared (c .before .args .boards) (now (c .before .args .cards))
 
 clear-card-requires : tie.Need-clear-card-requires Inv-loop μ-loop
 clear-card-requires c κs = omega (arith, c .before .before .before .before .pre, c .before .loop-test .taken, c .before .before .loop .inv .same-length)

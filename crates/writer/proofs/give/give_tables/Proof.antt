@@ -32,8 +32,8 @@ source-cells-requires c κs = search needs
 put-cells-requires : tie.Need-put-cells-requires Inv-loop μ-loop
 put-cells-requires c κs = omega (arith, c .before .before .before .before .before .before .before .before .before .before .pre .1, c .before .before .before .before .before .before .loop .inv .box-length, c .before .before .before .before .before .loop-test .taken)
 
-next-slip-requires : tie.Need-next-slip-requires Inv-loop μ-loop
-next-slip-requires c κs =
+slip-after-requires : tie.Need-slip-after-requires Inv-loop μ-loop
+slip-after-requires c κs =
     let s = c .before .before .before .before .before .before .before .before .before .before .before .before .before in
     let a = s .args in
     omega (arith, giving-few (a .olds) (now (a .old-cards)) (a .news) (now (a .new-cards)) (now (a .answers)) (s .pre .0) (s .pre .1) (c .before .before .before .before .before .before .before .before .before .loop .inv), s .pre .1, s .good)
@@ -48,7 +48,7 @@ loop-again : tie.Need-loop-again Inv-loop μ-loop
 loop-again c =
     let s = c .before .before .before .before .before .before .before .before .before .before .before .before .before .before in
     let a = s .args in
-    giving-next (a .olds) (now (a .old-cards)) (a .news) (now (a .new-cards)) (now (a .answers)) (s .pre .0) (s .pre .1) (c .before .before .before .before .before .before .before .before .before .before .loop .inv) (c .before .before .before .before .before .before .before .before .before .loop-test .taken) (c .before .before .before .before .before .before .before .state-of .ensures .0) (c .before .before .before .before .before .source-cells .ensures) (c .before .before .before .put-cells .ensures) (c .next-slip .ensures)
+    giving-next (a .olds) (now (a .old-cards)) (a .news) (now (a .new-cards)) (now (a .answers)) (s .pre .0) (s .pre .1) (c .before .before .before .before .before .before .before .before .before .before .loop .inv) (c .before .before .before .before .before .before .before .before .before .loop-test .taken) (c .before .before .before .before .before .before .before .state-of .ensures .0) (c .before .before .before .before .before .source-cells .ensures) (c .before .before .before .put-cells .ensures) (c .slip-after .ensures)
 
 same-length : tie.Need-same-length Inv-loop μ-loop
 same-length c = c .before .loop .inv .box-length
@@ -69,7 +69,7 @@ give-tables-spec =
     state-of-requires
     source-cells-requires
     put-cells-requires
-    next-slip-requires
+    slip-after-requires
     add-k
     loop-less
     loop-again

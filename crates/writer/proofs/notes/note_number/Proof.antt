@@ -10,7 +10,7 @@ use Rattle.writer.proofs.notes.note_number.Statement.{statement}
 use Rattle.writer.proofs.notes.note_number.Tie as tie
 use Rattle.writer.proofs.notes.note_number.Reads as reads
 use Rattle.writer.proofs.notes.note_number.Lts as lts
-use Rattle.tables.proofs.numbers.read_number.Reads as read-number-reads
+use Rattle.tables.proofs.numbers.parse_number.Reads as parse-number-reads
 use Rattle.tables.proofs.text.index_of.Reads as index-of-reads
 use Rattle.tables.proofs.text.trim.Reads as trim-reads
 use Rattle.tables.proofs.text.upto.Reads as upto-reads
@@ -24,8 +24,8 @@ upto-requires c κs = search needs
 trim-requires : tie.Need-trim-requires
 trim-requires c κs = search needs
 
-read-number-requires : tie.Need-read-number-requires
-read-number-requires c κs = search needs
+parse-number-requires : tie.Need-parse-number-requires
+parse-number-requires c κs = search needs
 
 enum-known-n : tie.Need-enum-known-n
 enum-known-n c = search needs
@@ -35,14 +35,14 @@ enum-told c = search needs
 
 returns : tie.Need-returns
 returns c =
-    (sym (number-of (now (c .before .before .before .before .before .before .before .before .args .value)) (now (c .before .before .before .before .upto .result)) (now (c .before .before .before .trim .result)) (c .before .before .before .before .before .before .index-of .result) (c .before .before .read-number .result) (c .before .before .before .before .before .before .index-of .ensures .0) (c .before .before .before .before .before .if1 .taken) (c .before .before .before .before .upto .ensures) (c .before .before .before .trim .ensures) (c .before .before .read-number .ensures .0) ∙ ap orNone (c .enum-told .given .1)), omega arith)
+    (sym (number-of (now (c .before .before .before .before .before .before .before .before .args .value)) (now (c .before .before .before .before .upto .result)) (now (c .before .before .before .trim .result)) (c .before .before .before .before .before .before .index-of .result) (c .before .before .parse-number .result) (c .before .before .before .before .before .before .index-of .ensures .0) (c .before .before .before .before .before .if1 .taken) (c .before .before .before .before .upto .ensures) (c .before .before .before .trim .ensures) (c .before .before .parse-number .ensures .0) ∙ ap orNone (c .enum-told .given .1)), omega arith)
 
 cast-result : tie.Need-cast-result
 cast-result c = search needs
 
 returns-2 : tie.Need-returns-2
 returns-2 c =
-    (sym (number-of (now (c .before .before .before .before .before .before .before .before .before .args .value)) (now (c .before .before .before .before .before .upto .result)) (now (c .before .before .before .before .trim .result)) (c .before .before .before .before .before .before .before .index-of .result) (c .before .before .before .read-number .result) (c .before .before .before .before .before .before .before .index-of .ensures .0) (c .before .before .before .before .before .before .if1 .taken) (c .before .before .before .before .before .upto .ensures) (c .before .before .before .before .trim .ensures) (c .before .before .before .read-number .ensures .0) ∙ ap orNone (c .before .n .given .1)), omega (arith, rw (c .before .n .given .1) at (c .before .before .before .read-number .ensures .1)))
+    (sym (number-of (now (c .before .before .before .before .before .before .before .before .before .args .value)) (now (c .before .before .before .before .before .upto .result)) (now (c .before .before .before .before .trim .result)) (c .before .before .before .before .before .before .before .index-of .result) (c .before .before .before .parse-number .result) (c .before .before .before .before .before .before .before .index-of .ensures .0) (c .before .before .before .before .before .before .if1 .taken) (c .before .before .before .before .before .upto .ensures) (c .before .before .before .before .trim .ensures) (c .before .before .before .parse-number .ensures .0) ∙ ap orNone (c .before .n .given .1)), omega (arith, rw (c .before .n .given .1) at (c .before .before .before .parse-number .ensures .1)))
 
 returns-3 : tie.Need-returns-3
 returns-3 c =
@@ -55,7 +55,7 @@ note-number-spec =
     index-of-requires
     upto-requires
     trim-requires
-    read-number-requires
+    parse-number-requires
     enum-known-n
     enum-told
     returns

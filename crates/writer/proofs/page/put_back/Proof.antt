@@ -10,7 +10,7 @@ use Rattle.writer.proofs.board.put_bidding.Reads as put-bidding-reads
 use Rattle.writer.proofs.board.put_cards.Reads as put-cards-reads
 use Rattle.writer.proofs.held.card_word.Reads as card-word-reads
 use Rattle.writer.proofs.page.deal_place.Reads as deal-place-reads
-use Rattle.writer.proofs.page.put_lost.Reads as put-lost-reads
+use Rattle.writer.proofs.page.put_unwritten.Reads as put-unwritten-reads
 use Rattle.writer.proofs.tags.put_extras.Reads as put-extras-reads
 
 card-word-requires : tie.Need-card-word-requires
@@ -40,18 +40,18 @@ put-cards-requires : tie.Need-put-cards-requires
 put-cards-requires c κs =
     c .before .before .before .before .before .before .before .before .before .before .before .before .before .before .before .before .pre
 
-put-lost-requires : tie.Need-put-lost-requires
-put-lost-requires c κs =
+put-unwritten-requires : tie.Need-put-unwritten-requires
+put-unwritten-requires c κs =
     c .before .before .before .before .before .before .before .before .before .before .before .before .before .before .before .before .before .before .before .before .pre
 
 same-length : tie.Need-same-length
 same-length c =
-    (puts-then (puts-then (puts-then (c .before .before .before .before .before .before .before .before .before .before .before .before .before .before .put-extras .ensures) (c .before .before .before .before .before .before .before .before .before .before .put-bidding .ensures)) (c .before .before .before .before .before .before .put-cards .ensures)) (c .before .before .put-lost .ensures)) .kept
+    (puts-then (puts-then (puts-then (c .before .before .before .before .before .before .before .before .before .before .before .before .before .before .put-extras .ensures) (c .before .before .before .before .before .before .before .before .before .before .put-bidding .ensures)) (c .before .before .before .before .before .before .put-cards .ensures)) (c .before .before .put-unwritten .ensures)) .kept
 
 returns : tie.Need-returns
 unfolding backText
 returns c =
-    puts-then (puts-then (puts-then (rw (c .before .before .before .before .before .before .before .before .before .before .before .before .before .before .before .before .deal-place .ensures .0, c .before .before .before .before .before .before .before .before .before .before .before .before .before .before .before .before .before .before .card-word .ensures .0, c .before .before .before .before .before .before .before .before .before .before .before .before .before .before .before .before .before .card-word2 .ensures .0) at (c .before .before .before .before .before .before .before .before .before .before .before .before .before .before .put-extras .ensures)) (c .before .before .before .before .before .before .before .before .before .before .put-bidding .ensures)) (c .before .before .before .before .before .before .put-cards .ensures)) (c .before .before .put-lost .ensures)
+    puts-then (puts-then (puts-then (rw (c .before .before .before .before .before .before .before .before .before .before .before .before .before .before .before .before .deal-place .ensures .0, c .before .before .before .before .before .before .before .before .before .before .before .before .before .before .before .before .before .before .card-word .ensures .0, c .before .before .before .before .before .before .before .before .before .before .before .before .before .before .before .before .before .card-word2 .ensures .0) at (c .before .before .before .before .before .before .before .before .before .before .before .before .before .before .put-extras .ensures)) (c .before .before .before .before .before .before .before .before .before .before .put-bidding .ensures)) (c .before .before .before .before .before .before .put-cards .ensures)) (c .before .before .put-unwritten .ensures)
 
 pub put-back-spec : {M : Type 1} → statement M
 put-back-spec =
@@ -65,6 +65,6 @@ put-back-spec =
     put-extras-requires
     put-bidding-requires
     put-cards-requires
-    put-lost-requires
+    put-unwritten-requires
     same-length
     returns)

@@ -3,8 +3,8 @@ use native.Mathlib.Omega.{arith}
 use denote.Ref.{now}
 use Rattle.planning.specs.Cards.{cardsIn}
 use Rattle.planning.proofs.PlanLaws.{Turn, turn-first, turn-next, turn-end, turn-within}
-use Rattle.planning.proofs.plan.list_boards.Statement.{statement}
-use Rattle.planning.proofs.plan.list_boards.Tie as tie
+use Rattle.planning.proofs.plan.put_slips.Statement.{statement}
+use Rattle.planning.proofs.plan.put_slips.Tie as tie
 
 abbrev Inv-loop : tie.InvT-loop
 Inv-loop old-cards olds new-cards news slips₀ t₀ k₀ slips t k = Turn (cardsIn olds old-cards) news new-cards slips₀ t k slips
@@ -39,8 +39,8 @@ same-length c = c .before .loop .inv .slips-length
 returns : tie.Need-returns Inv-loop μ-loop
 returns c = turn-end (c .before .loop .inv) (c .loop-test .left)
 
-pub list-boards-spec : {M : Type 1} → statement M
-list-boards-spec =
+pub put-slips-spec : {M : Type 1} → statement M
+put-slips-spec =
     tie.close
     (tie.spec
     Inv-loop

@@ -1,8 +1,8 @@
 use denote.Ref.{now}
 use Rattle.reader.proofs.WordLaws.{card-short, card-long}
 use borrow.Author.Needs.{needs}
-use Rattle.reader.proofs.words.card_of.Statement.{statement}
-use Rattle.reader.proofs.words.card_of.Tie as tie
+use Rattle.reader.proofs.words.card_named.Statement.{statement}
+use Rattle.reader.proofs.words.card_named.Tie as tie
 
 returns : tie.Need-returns
 returns c =
@@ -46,8 +46,8 @@ returns-3 c =
     let a = f .before .before .args in
     (rw (card-long (a .c) (now (a .token)) (f .if1 .left), ← k .before .is-inside .ensures, k .if2 .left, ← c .before .before .before .before .suit-of .ensures .0, ← c .before .before .before .from .ensures, ← c .before .before .first-character .ensures, ← c .before .rank-of .ensures .0) (c .card-number .ensures .0), search needs)
 
-pub card-of-spec : {M : Type 1} → statement M
-card-of-spec =
+pub card-named-spec : {M : Type 1} → statement M
+card-named-spec =
     tie.close
     (tie.spec
     returns

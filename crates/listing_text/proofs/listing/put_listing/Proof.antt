@@ -1,9 +1,9 @@
 use Rattle.tables.proofs.PageLaws.{put-then}
 use borrow.Author.Needs.{needs}
-use Rattle.listing_text.proofs.listing.put_listed.Statement.{statement}
-use Rattle.listing_text.proofs.listing.put_listed.Tie as tie
-use Rattle.listing_text.proofs.listing.put_listed.Reads as reads
-use Rattle.listing_text.proofs.listing.put_listed.Lts as lts
+use Rattle.listing_text.proofs.listing.put_listing.Statement.{statement}
+use Rattle.listing_text.proofs.listing.put_listing.Tie as tie
+use Rattle.listing_text.proofs.listing.put_listing.Reads as reads
+use Rattle.listing_text.proofs.listing.put_listing.Lts as lts
 use Rattle.listing_text.proofs.lines.put_total.Reads as put-total-reads
 use Rattle.listing_text.proofs.listing.put_lines.Reads as put-lines-reads
 
@@ -19,5 +19,5 @@ same-length c = search needs
 returns : tie.Need-returns
 returns c = put-then (c .before .before .before .before .before .before .put-lines .ensures .0) (c .before .before .put-total .ensures)
 
-pub put-listed-spec : {M : Type 1} → statement M
-put-listed-spec = tie.close (tie.spec put-lines-requires put-total-requires same-length returns)
+pub put-listing-spec : {M : Type 1} → statement M
+put-listing-spec = tie.close (tie.spec put-lines-requires put-total-requires same-length returns)

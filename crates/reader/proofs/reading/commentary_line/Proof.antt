@@ -1,12 +1,12 @@
 use Rattle.reader.proofs.ReadingLaws.{block-zero}
-use Rattle.reader.specs.Boards.{inNote}
+use Rattle.reader.specs.Boards.{inCommentary}
 use native.Mathlib.Omega.{arith}
 use denote.Ref.{now}
 use borrow.Author.Needs.{needs}
-use Rattle.reader.proofs.reading.note_line.Statement.{statement}
-use Rattle.reader.proofs.reading.note_line.Tie as tie
-use Rattle.reader.proofs.reading.note_line.Reads as reads
-use Rattle.reader.proofs.reading.note_line.Lts as lts
+use Rattle.reader.proofs.reading.commentary_line.Statement.{statement}
+use Rattle.reader.proofs.reading.commentary_line.Tie as tie
+use Rattle.reader.proofs.reading.commentary_line.Reads as reads
+use Rattle.reader.proofs.reading.commentary_line.Lts as lts
 use Rattle.reader.proofs.line.has_brace.Reads as has-brace-reads
 use Rattle.reader.proofs.line.last_brace.Reads as last-brace-reads
 use Rattle.reader.proofs.reading.block_step.Reads as block-step-reads
@@ -27,13 +27,13 @@ same-length : tie.Need-same-length
 same-length c = search needs
 
 returns : tie.Need-returns
-unfolding inNote
+unfolding inCommentary
 returns c =
     let e = c .before .before .block-step .ensures in
     (rw (← c .before .before .before .before .before .before .has-brace .ensures, c .before .before .before .before .before .if1 .taken, ← c .before .before .before .before .last-brace .ensures .0) e, omega (arith, block-zero _ _ _ _ _ _ _ e))
 
 returns-2 : tie.Need-returns-2
-unfolding inNote
+unfolding inCommentary
 returns-2 c = (
   record {
     answer = rw (← c .before .has-brace .ensures, c .if1 .left);
@@ -42,8 +42,8 @@ returns-2 c = (
   c .before .before .before .before .before .pre .2,
 )
 
-pub note-line-spec : {M : Type 1} → statement M
-note-line-spec =
+pub commentary-line-spec : {M : Type 1} → statement M
+commentary-line-spec =
     tie.close
     (tie.spec
     has-brace-requires

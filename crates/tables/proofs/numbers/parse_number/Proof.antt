@@ -2,8 +2,8 @@ use denote.Ref.{now}
 use borrow.Author.Tests.{eq-eqb, ne-eqb}
 use borrow.Author.Needs.{needs}
 use Rattle.tables.proofs.NumberLaws.{number-is}
-use Rattle.tables.proofs.numbers.read_number.Statement.{statement}
-use Rattle.tables.proofs.numbers.read_number.Tie as tie
+use Rattle.tables.proofs.numbers.parse_number.Statement.{statement}
+use Rattle.tables.proofs.numbers.parse_number.Tie as tie
 
 byte-at-requires : tie.Need-byte-at-requires
 byte-at-requires c κs = search needs
@@ -27,8 +27,8 @@ returns-2 c =
     let a = c .before .before .before .before .args in
     (rw (number-is (a .limit) (now (a .s)), ← c .before .before .byte-at .ensures, ne-eqb _ _ (c .before .if1 .left)) (c .some-digits2 .ensures .0), c .some-digits2 .ensures .1)
 
-pub read-number-spec : {M : Type 1} → statement M
-read-number-spec =
+pub parse-number-spec : {M : Type 1} → statement M
+parse-number-spec =
     tie.close
     (tie.spec
     byte-at-requires

@@ -1,8 +1,8 @@
 use native.Mathlib.Omega.{arith}
 use Rattle.writer.proofs.PutLaws.{puts-then}
 use borrow.Author.Needs.{needs}
-use Rattle.writer.proofs.page.put_lost.Statement.{statement}
-use Rattle.writer.proofs.page.put_lost.Tie as tie
+use Rattle.writer.proofs.page.put_unwritten.Statement.{statement}
+use Rattle.writer.proofs.page.put_unwritten.Tie as tie
 
 card-word-requires : tie.Need-card-word-requires
 card-word-requires c κs = search needs
@@ -28,8 +28,8 @@ same-length c = search needs
 returns : tie.Need-returns
 returns c = rw (c .before .before .before .before .before .before .before .before .before .before .present-at .ensures, c .before .before .before .before .before .before .before .before .before .before .before .card-word .ensures .0) at (puts-then (c .before .before .before .before .before .before .before .put-remarks .ensures) (c .before .before .put-remarks2 .ensures))
 
-pub put-lost-spec : {M : Type 1} → statement M
-put-lost-spec =
+pub put-unwritten-spec : {M : Type 1} → statement M
+put-unwritten-spec =
     tie.close
     (tie.spec
     card-word-requires

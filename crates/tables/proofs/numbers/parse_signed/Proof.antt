@@ -4,8 +4,8 @@ use denote.Ref.{now}
 use borrow.Author.Tests.{eq-eqb, ne-eqb}
 use borrow.Author.Needs.{needs}
 use Rattle.tables.proofs.NumberLaws.{signed-is}
-use Rattle.tables.proofs.numbers.read_signed.Statement.{statement}
-use Rattle.tables.proofs.numbers.read_signed.Tie as tie
+use Rattle.tables.proofs.numbers.parse_signed.Statement.{statement}
+use Rattle.tables.proofs.numbers.parse_signed.Tie as tie
 
 byte-at-requires : tie.Need-byte-at-requires
 byte-at-requires c κs = search needs
@@ -37,11 +37,11 @@ returns-2 c =
     let a = k .before .before .before .before .before .args in
     rw (signed-is (a .half) (now (a .s)), ← k .before .before .before .byte-at .ensures, eq-eqb _ _ (k .before .before .if1 .taken), ← k .before .from .ensures, ← k .some-digits .ensures .0, c .before .v .given .1)
 
-sub-read-number : tie.Need-sub-read-number
-sub-read-number c = search needs
+sub-parse-number : tie.Need-sub-parse-number
+sub-parse-number c = search needs
 
-read-number-requires : tie.Need-read-number-requires
-read-number-requires c κs = search needs
+parse-number-requires : tie.Need-parse-number-requires
+parse-number-requires c κs = search needs
 
 enum-known-v-2 : tie.Need-enum-known-v-2
 enum-known-v-2 c = search needs
@@ -53,19 +53,19 @@ returns-3 : tie.Need-returns-3
 returns-3 c =
     let k = c .before .before in
     let a = k .before .before .before .before .args in
-    rw (signed-is (a .half) (now (a .s)), ← k .before .before .byte-at .ensures, ne-eqb _ _ (k .before .if1 .left), ← k .read-number .ensures .0, c .enum-told2 .given .1)
+    rw (signed-is (a .half) (now (a .s)), ← k .before .before .byte-at .ensures, ne-eqb _ _ (k .before .if1 .left), ← k .parse-number .ensures .0, c .enum-told2 .given .1)
 
 add-t11 : tie.Need-add-t11
-add-t11 c = omega (arith, rw (c .before .v2 .given .1) at (c .before .before .before .read-number .ensures .1))
+add-t11 c = omega (arith, rw (c .before .v2 .given .1) at (c .before .before .before .parse-number .ensures .1))
 
 returns-4 : tie.Need-returns-4
 returns-4 c =
     let k = c .before .before .before in
     let a = k .before .before .before .before .args in
-    rw (signed-is (a .half) (now (a .s)), ← k .before .before .byte-at .ensures, ne-eqb _ _ (k .before .if1 .left), ← k .read-number .ensures .0, c .before .v2 .given .1)
+    rw (signed-is (a .half) (now (a .s)), ← k .before .before .byte-at .ensures, ne-eqb _ _ (k .before .if1 .left), ← k .parse-number .ensures .0, c .before .v2 .given .1)
 
-pub read-signed-spec : {M : Type 1} → statement M
-read-signed-spec =
+pub parse-signed-spec : {M : Type 1} → statement M
+parse-signed-spec =
     tie.close
     (tie.spec
     byte-at-requires
@@ -76,8 +76,8 @@ read-signed-spec =
     returns
     sub-t9
     returns-2
-    sub-read-number
-    read-number-requires
+    sub-parse-number
+    parse-number-requires
     enum-known-v-2
     enum-told-2
     returns-3
