@@ -21,7 +21,8 @@ use Rattle.tables.proofs.Digits.{at-each}
 use Rattle.reader.specs.declared.board.Identity.{Identity}
 use Rattle.reader.specs.declared.board.TableCard.{TableCard}
 use Rattle.reader.specs.declared.play.Slots.{Slots}
-use Rattle.reader.specs.TagBytes.{quoted, unclosed, goodName, goodValue, isDigit}
+use Rattle.reader.specs.TagBytes.{quoted, unclosed, goodName, goodValue}
+use Rattle.reader.specs.TagSteps.{isDigit}
 use Rattle.reader.specs.Words.{callToken, cardToken, vulnerabilityToken, same}
 use Rattle.reader.specs.Deals.{handsOfWords, dealText}
 use Rattle.reader.specs.Plain.{TagPair, Remark, PlainCall, PlainAuction, PlainTrick, PlainPlay, PlainValues, PlainBoard, plainList, plainOf, goodDirective, goodBlock}

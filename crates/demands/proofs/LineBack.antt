@@ -19,8 +19,8 @@ use Rattle.reader.specs.declared.tag.Split.{Split}
 use Rattle.reader.specs.declared.tag.Split.the-variants.{Data as DataTag, NoData}
 use Rattle.reader.specs.declared.line.Line.the-variants.{Brace, Directive, Tag, Data}
 use Rattle.reader.specs.declared.line.TagReading.the-variants.{Plain, WithComment, WithData}
-use Rattle.reader.specs.Tag.{cut, trimSpan, isComment, splitOf, tagLine as readTagLine}
-use Rattle.reader.specs.TagBytes.{TagBytes, tagBytes, readTag, goodName, goodValue, unclosed, tagText}
+use Rattle.reader.specs.Tag.{cut, trimSpan, isComment, splitOf, tagLine as readTagLine, tagText}
+use Rattle.reader.specs.TagBytes.{TagBytes, tagBytes, readTag, goodName, goodValue, unclosed}
 use Rattle.reader.specs.Lines.{isBlank, hasBrace, lastBrace, kindBy, splitAs, splitLine, bracketAs, bracketLine, lineKind}
 use Rattle.reader.specs.Pieces.{joinLine, rawLines}
 use Rattle.reader.specs.Plain.{goodDirective, goodBlock}

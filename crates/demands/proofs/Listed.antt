@@ -235,7 +235,7 @@ module _ (olds news : List (List ℕ)) (so : Handed olds) (sn : Handed news) whe
 
 -- ---- the plan
 
--- It is listed: both editions were taken, slips are enough, and the totals are those of the boards.
+-- Planning is not refused: both editions were taken, slips are enough, and the totals are those of the boards.
 pub record PlanAnswered (e : Editions) (lent : ℕ) (u t : Totals) : Type 0 where
   pub totals : t ≡ u
   pub enough : u .solve ≤ lent
@@ -272,7 +272,7 @@ totals-told c old new boxes slips boxes′ slips′ t p =
       rw (q .totals) (totals-add-up (plansOf c old new)),
     )
 
--- ---- when it is listed
+-- ---- when planning is not refused
 
 both-are : (x y : Reading) (lent : ℕ) (u : Totals) → isTaken x ≡ true → isTaken y ≡ true → u .solve ≤ lent → plannedBy (bothAfter x y) lent u ≡ Planned u
 both-are (Taken m n) (Taken k l) lent u a b h = rw (le-ltb lent (u .solve) h)

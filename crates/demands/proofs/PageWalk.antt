@@ -16,7 +16,7 @@ use Rattle.reader.specs.Lines.{isBlank, hasBrace, lineKind, opensBoard}
 use Rattle.reader.specs.Pieces.{joinLine, rawLines}
 use Rattle.reader.specs.Sections.{opensCommentary, commentaryAfter}
 use Rattle.reader.specs.Records.{fresh, scanned, closesRecord, recordsFrom, recordsOf}
-use Rattle.reader.specs.TagBytes.{tagText}
+use Rattle.reader.specs.Tag.{tagText}
 use Rattle.reader.specs.Plain.{PlainBoard, goodDirective}
 use Rattle.writer.specs.Tags.{headTags, writtenTags}
 use Rattle.writer.specs.Remarks.{Anchored, directivesOf, blocksOf, those, isLeading, WrittenLine, tagLine, dataLine, directiveLine, blockLine, directiveLines, blockLines, leadingLines, bodyLines, lineText, linesText}

@@ -30,7 +30,8 @@ use Rattle.reader.proofs.CardLength.{CardsWhole}
 use Rattle.reader.proofs.Fellows.{EveryBoard, RecordEnds, AlikeOther, FellowsOf}
 use Rattle.reader.proofs.Relocated.{RelocatedBoards}
 use Rattle.planning.specs.declared.plan.Totals.{Totals}
-use Rattle.planning.specs.Cards.{cardHere, cardsIn}
+use Rattle.planning.specs.Cards.{cardHere}
+use Rattle.planning.specs.PlanSteps.{cardsIn}
 use Rattle.planning.specs.Slips.{cardFrom}
 use Rattle.planning.proofs.BoxLaws.{cards-back, card-nth, taken-fits}
 use Rattle.demands.proofs.Inside.{stands-card, starts-at, ends-at}

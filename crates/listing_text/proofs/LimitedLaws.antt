@@ -16,9 +16,10 @@ use Rattle.planning.specs.declared.editions.EditionsRefusal.the-variants.{Old}
 use Rattle.planning.specs.declared.editions.Editions.{Editions}
 use Rattle.planning.specs.declared.editions.Editions.the-variants as editions
 use Rattle.planning.specs.Plans.{Boxes, bothAfter, editionsOf, areBoth, BothRead}
-use Rattle.planning.specs.Steps.{BoxesKept}
+use Rattle.planning.specs.PlanSteps.{BoxesKept}
 use Rattle.planning.proofs.BoxLaws.{four}
-use Rattle.listing_text.specs.Limited.{limitedOf, limitedBoth, BothLimited}
+use Rattle.listing_text.specs.Limited.{limitedOf, limitedBoth}
+use Rattle.listing_text.specs.ListingSteps.{BothLimited}
 
 module _ {c : Conventions} {limit : ℕ} {old new : List ℕ} where
   pub old-long : {boxes boxes′ : Boxes} → limit < length old → BoxesKept false boxes boxes′

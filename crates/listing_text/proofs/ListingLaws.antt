@@ -10,7 +10,8 @@ use lib.Seq.{length-sets}
 use borrow.Author.Tests.{ltb-false, lt-ltb, le-ltb}
 use Rattle.tables.specs.declared.letters.Conventions.{Conventions}
 use Rattle.tables.specs.declared.page.Written.{Written}
-use Rattle.tables.specs.Page.{Put, Wrote, PageEnded}
+use Rattle.tables.specs.Page.{Wrote}
+use Rattle.tables.specs.PageSteps.{Put, PageEnded}
 use Rattle.tables.proofs.Laws.{by-cases, clash}
 use Rattle.tables.proofs.PageLaws.{ToPut, to-put, putting, put-all, finished}
 use Rattle.reader.specs.declared.edition.ReadRefusal.{ReadRefusal}
@@ -33,13 +34,14 @@ use Rattle.planning.specs.declared.plan.Totals.{Totals}
 use Rattle.planning.specs.declared.plan.Planning.{Planning}
 use Rattle.planning.specs.declared.plan.Planning.the-variants.{Planned}
 use Rattle.planning.specs.declared.plan.Planning.the-variants as planning
-use Rattle.planning.specs.Cards.{cardsIn, cardHere}
+use Rattle.planning.specs.Cards.{cardHere}
+use Rattle.planning.specs.PlanSteps.{cardsIn, BoxesKept, PlanEnded}
 use Rattle.planning.specs.States.{BoardPlan, boardPlans, stateOf}
 use Rattle.planning.specs.Slips.{slipsOf, countOf, totalsOf}
 use Rattle.planning.specs.Plans.{Boxes, bothAfter, editionsOf, areBoth, plansOf, slipsAnswer, plannedBy, isPlanned, BoxesAfter, BothRead}
-use Rattle.planning.specs.Steps.{BoxesKept, PlanEnded}
-use Rattle.listing_text.specs.Limited.{limitedOf, limitedBoth, BothLimited}
-use Rattle.listing_text.specs.Listing.{boardLine, listingLines, totalLine, refusedLine, listText, Countable, listingPlan, wellOn, PageKept, BoardsOnPage, ListingFor, IsListing}
+use Rattle.listing_text.specs.Limited.{limitedOf, limitedBoth}
+use Rattle.listing_text.specs.ListingSteps.{BothLimited, Countable, PageKept, BoardsOnPage}
+use Rattle.listing_text.specs.Listing.{boardLine, listingLines, totalLine, refusedLine, listText, listingPlan, wellOn, ListingFor, IsListing}
 use Rattle.planning.proofs.BothLaws.{CardsThere, both-are-taken, taken-short}
 use Rattle.planning.proofs.BoardLaws.{boardsLeft, left-first, left-step, left-none, boards-count}
 use Rattle.planning.proofs.PlanLaws.{count-few}
@@ -151,7 +153,7 @@ abbrev totals-in : Planning → Totals → Totals
 totals-in (Planned t) d = t
 totals-in (planning.Refused f) d = d
 
--- The totals listed are those of the boards.
+-- The totals are those of the boards.
 listed-totals : (l : ℕ) {t u : Totals} → Planned u ≡ slipsAnswer l t → u ≡ t
 listed-totals l {t} {u} h =
     by-cases (ltb l (t .solve))
@@ -194,7 +196,7 @@ module _ (js : List BoardPlan) (slips : List ℕ) {boxes : Boxes} {ps : List ℕ
       (subst (λ (x : Planning). BoxesKept (isPlanned x) boxes boxes′) e (p .boxes-after))
       (subst (λ (x : Planning). slips′ ≡ cond (isPlanned x) ps (zeros ps)) e (p .slips-after) ∙ rw el)
 
-  -- It is listed, and the lent words are kept.
+  -- Planning is not refused, and the lent words are kept.
   listed-boxes : {u : Totals} → q ≡ Planned u → BoxesKept true boxes boxes′ × (slips′ ≡ ps)
   listed-boxes e = (
     subst (λ (x : Planning). BoxesKept (isPlanned x) boxes boxes′) e (p .boxes-after),

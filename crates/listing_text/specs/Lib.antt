@@ -1,2 +1,3 @@
 pub mod Limited
 pub mod Listing
+pub mod ListingSteps

@@ -1,6 +1,5 @@
 -- Both editions, with a limit of the listing's own on the length of each.
 use Prim.Native.Nat.{ℕ}
-use mathlib.Core.Path.{_≡_}
 use mathlib.Core.Bool.{cond}
 use mathlib.Core.List.{List}
 use lib.Dec.{ltb}
@@ -11,7 +10,7 @@ use Rattle.reader.specs.declared.edition.Reading.the-variants as reading
 use Rattle.reader.specs.declared.edition.ReadRefusal.the-variants.{Overlong}
 use Rattle.reader.specs.Editions.{readingOf}
 use Rattle.planning.specs.declared.editions.Editions.{Editions}
-use Rattle.planning.specs.Plans.{Boxes, bothAfter, areBoth, BoxesAfter}
+use Rattle.planning.specs.Plans.{Boxes, bothAfter}
 
 -- An edition longer than the limit is refused with 1, whatever else it is; any other is read.
 unfoldable pub limitedOf : Conventions → ℕ → List ℕ → ℕ → ℕ → Reading
@@ -23,8 +22,3 @@ limitedBoth c limit old new boxes =
     bothAfter
     (limitedOf c limit old (length (boxes .old-cards)) (length (boxes .old-entries)))
     (limitedOf c limit new (length (boxes .new-cards)) (length (boxes .new-entries)))
-
--- Both editions are read, if neither is longer than the limit.
-pub record BothLimited (c : Conventions) (limit : ℕ) (old new : List ℕ) (boxes boxes′ : Boxes) (r : Editions) : Type 0 where
-  pub answer : r ≡ limitedBoth c limit old new boxes
-  pub boxes-after : BoxesAfter c (areBoth r) old new boxes boxes′

@@ -1,5 +1,5 @@
 -- The listing: a line for each board and the totals, or a refusal alone.
-use Prim.Native.Nat.{ℕ, _/_, _≤_, _<_}
+use Prim.Native.Nat.{ℕ, _/_, _≤_}
 use mathlib.Core.Path.{_≡_}
 use mathlib.Core.Bool.{Bool, true, false, cond, _&&_}
 use mathlib.Core.List.{List, [], _∷_, _++_}
@@ -7,11 +7,11 @@ use lib.Dec.{eqb, leb}
 use lib.ListN.{length}
 use Rattle.tables.specs.Text.{ascii}
 use Rattle.tables.specs.Numbers.{decimal}
-use Rattle.tables.specs.Page.{answerOf, Wrote, PageEnded}
+use Rattle.tables.specs.Page.{answerOf, Wrote}
 use Rattle.tables.specs.declared.letters.Conventions.{Conventions}
 use Rattle.tables.specs.declared.page.Written.{Written}
 use Rattle.tables.specs.declared.page.Written.the-variants.{Bytes}
-use Rattle.reader.specs.Store.{zeros, putAll, lent}
+use Rattle.reader.specs.Store.{lent}
 use Rattle.planning.specs.declared.state.BoardState.{BoardState}
 use Rattle.planning.specs.declared.state.BoardState.the-variants.{Blank, Own, Old, Near, Twin, Solve}
 use Rattle.planning.specs.declared.plan.PlanRefusal.{PlanRefusal}
@@ -21,8 +21,7 @@ use Rattle.planning.specs.declared.plan.Planning.{Planning}
 use Rattle.planning.specs.declared.plan.Planning.the-variants.{Planned, Refused}
 use Rattle.planning.specs.States.{BoardPlan, fromOf}
 use Rattle.planning.specs.Slips.{slipsOf, totalsOf}
-use Rattle.planning.specs.Plans.{planNumber, planEdition, Boxes, plansOf, slipsAnswer, plannedBy, isPlanned, BoxesAfter}
-use Rattle.planning.specs.Steps.{BoxesKept}
+use Rattle.planning.specs.Plans.{planNumber, planEdition, Boxes, plansOf, plannedBy, isPlanned, BoxesAfter}
 use Rattle.listing_text.specs.Limited.{limitedBoth}
 
 -- A name and a number.
@@ -61,16 +60,6 @@ abbrev pub listText : Planning → List BoardPlan → List ℕ
 listText (Planned t) js = listingLines js ++ totalLine t
 listText (Refused f) js = refusedLine f
 
--- Totals that a listing can write: each has 32 bits.
-pub record Countable (t : Totals) : Type 0 where
-  pub boards-low : t .boards < 4294967296
-  pub blank-low : t .blank < 4294967296
-  pub own-low : t .own < 4294967296
-  pub old-low : t .old < 4294967296
-  pub near-low : t .near < 4294967296
-  pub twin-low : t .twin < 4294967296
-  pub solve-low : t .solve < 4294967296
-
 -- ---- the plan with a limit
 
 -- The plan's answer with the limit.
@@ -79,21 +68,9 @@ listingPlan c limit old new boxes ls = plannedBy (limitedBoth c limit old new bo
 
 -- ---- contracts
 
--- All went well: the plan is listed, and its text fits a page of n bytes.
+-- All went well: planning is not refused, and the text fits a page of n bytes.
 unfoldable pub wellOn : Planning → List BoardPlan → ℕ → Bool
 wellOn p js n = isPlanned p && leb (length (listText p js)) n
-
--- The end of a page on which n bytes were put, and the other lent words: as they were, or zeros where the bytes do not fit.
-pub record PageKept (n : ℕ) (boxes : Boxes) (slips page : List ℕ) (boxes′ : Boxes) (slips′ page′ : List ℕ) (r : Written) : Type 0 where
-  pub end : PageEnded n page page′ r
-  pub boxes-after : BoxesKept (leb n (length page)) boxes boxes′
-  pub slips-after : slips′ ≡ cond (leb n (length page)) slips (zeros slips)
-
--- The boards js, whose cards are lent, are listed: the page and its answer, and all lent words: as they were, or zeros after a refusal.
-pub record BoardsOnPage (js : List BoardPlan) (boxes : Boxes) (slips page : List ℕ) (boxes′ : Boxes) (slips′ page′ : List ℕ) (r : Written) : Type 0 where
-  pub wrote : Wrote (listText (slipsAnswer (length slips / 5) (totalsOf js)) js) page page′ r
-  pub boxes-after : BoxesKept (wellOn (slipsAnswer (length slips / 5) (totalsOf js)) js (length page)) boxes boxes′
-  pub slips-after : slips′ ≡ cond (wellOn (slipsAnswer (length slips / 5) (totalsOf js)) js (length page)) (putAll 5 slips 0 (slipsOf js)) (zeros slips)
 
 -- A listing on a page, p the plan's answer: the text, or refusal 7 with the bytes that it has; and every lent word, zero after any refusal.
 pub record ListingFor (c : Conventions) (p : Planning) (old new : List ℕ) (boxes : Boxes) (slips page : List ℕ) (boxes′ : Boxes) (slips′ page′ : List ℕ) (r : Written) : Type 0 where

@@ -1,5 +1,5 @@
 // Both editions, each read if it is not longer than a limit.
-ghost use Rattle.listing_text.specs.Limited.{BothLimited};
+ghost use Rattle.listing_text.specs.ListingSteps.{BothLimited};
 use planning::editions::Editions;
 use planning::editions::EditionsRefusal;
 use planning::editions::read_both;

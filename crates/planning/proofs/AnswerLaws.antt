@@ -25,11 +25,10 @@ use Rattle.planning.specs.declared.plan.Totals.{Totals}
 use Rattle.planning.specs.declared.plan.Planning.{Planning}
 use Rattle.planning.specs.declared.plan.Planning.the-variants.{Planned}
 use Rattle.planning.specs.declared.plan.Planning.the-variants as planning
-use Rattle.planning.specs.Cards.{cardsIn}
+use Rattle.planning.specs.PlanSteps.{cardsIn, BoxesKept, PlanEnded}
 use Rattle.planning.specs.States.{BoardPlan, boardPlans, stateAt}
 use Rattle.planning.specs.Slips.{slipsOf, countOf, totalsOf, behindAt, partOf, numbersFrom}
 use Rattle.planning.specs.Plans.{Boxes, editionsOf, areBoth, plansOf, slipsAnswer, planningOf, isPlanned, BoxesAfter, BothRead, IsPlanned, behindBy, StateTold, BehindTold, PartTold, BoardsTold}
-use Rattle.planning.specs.Steps.{BoxesKept, PlanEnded}
 use Rattle.planning.proofs.BothLaws.{CardsThere, both-cards}
 use Rattle.planning.proofs.SlipLaws.{slips-count, slips-five}
 

@@ -10,10 +10,10 @@ use Rattle.planning.specs.declared.state.BoardState.{BoardState}
 use Rattle.planning.specs.declared.state.BoardState.the-variants.{Blank}
 use Rattle.planning.specs.declared.behind.Behind.{Behind}
 use Rattle.planning.specs.declared.behind.Behind.the-variants.{InOld, InNew, Nothing}
-use Rattle.planning.specs.Cards.{cardsIn, cardHere}
+use Rattle.planning.specs.Cards.{cardHere}
+use Rattle.planning.specs.PlanSteps.{cardsIn, planHere}
 use Rattle.planning.specs.States.{BoardPlan, stateOf, boardPlansFrom, boardPlans, planFrom, planAt, stateIn, stateAt}
 use Rattle.planning.specs.Slips.{cardFrom, cardAt, behindState, behindIn, behindAt, behindNumbers}
-use Rattle.planning.specs.Steps.{planHere}
 use Rattle.planning.proofs.BoxLaws.{cards-count, card-nth, card-step, cards-split}
 
 -- ---- the cards at positions

@@ -14,13 +14,14 @@ use Rattle.reader.specs.declared.edition.Reading.the-variants.{Taken}
 use Rattle.reader.specs.declared.edition.Reading.the-variants as reading
 use Rattle.tables.proofs.Laws.{by-cases, clash}
 use Rattle.reader.specs.Store.{flat, padded, zeros}
-use Rattle.reader.specs.Editions.{FullCards, readingOf, cardsOf, IsRead, isTaken}
+use Rattle.reader.specs.Editions.{readingOf, cardsOf, IsRead, isTaken}
+use Rattle.reader.specs.EditionSteps.{FullCards}
 use Rattle.planning.specs.declared.editions.EditionsRefusal.the-variants.{Old, New}
 use Rattle.planning.specs.declared.editions.Editions.{Editions}
 use Rattle.planning.specs.declared.editions.Editions.the-variants.{Both}
 use Rattle.planning.specs.declared.editions.Editions.the-variants as editions
 use Rattle.planning.specs.Plans.{Boxes, oldReading, newReading, bothAfter, editionsOf, areBoth, BothRead}
-use Rattle.planning.specs.Cards.{cardsIn}
+use Rattle.planning.specs.PlanSteps.{cardsIn}
 use Rattle.planning.proofs.BoxLaws.{four, cards-back, taken-fits}
 
 -- ---- both editions: one law for each answer
@@ -120,7 +121,7 @@ cards-there c text lc le n e box w t h =
       cards = rw (f .boards-are, h) (cards-back (cardsOf c text) lc w (f .cards-fit));
     }
 
--- Whole (cardsOf c text), which holds of every text, is taken as given.
+-- FullCards (cardsOf c text), which holds of every text, is taken as given.
 pub both-cards : {c : Conventions} {old new : List ℕ} {boxes boxes′ : Boxes} {m n : ℕ} → BothRead c old new boxes boxes′ (Both m n)
     → FullCards (cardsOf c old) → FullCards (cardsOf c new) → CardsThere c old (boxes′ .old-cards) m × CardsThere c new (boxes′ .new-cards) n
 unfolding editionsOf

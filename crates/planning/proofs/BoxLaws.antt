@@ -12,8 +12,10 @@ use Rattle.tables.proofs.Laws.{by-cases, clash}
 use Rattle.reader.specs.declared.edition.Reading.{Reading}
 use Rattle.reader.specs.declared.edition.Reading.the-variants.{Taken, Refused}
 use Rattle.reader.specs.Store.{flat, padded}
-use Rattle.reader.specs.Editions.{FullCards, none, one, isTaken, countsAnswer, readingOf, cardsOf, entriesOf}
-use Rattle.planning.specs.Cards.{cardsIn, cardHere}
+use Rattle.reader.specs.Editions.{isTaken, countsAnswer, readingOf, cardsOf, entriesOf}
+use Rattle.reader.specs.EditionSteps.{FullCards, none, one}
+use Rattle.planning.specs.Cards.{cardHere}
+use Rattle.planning.specs.PlanSteps.{cardsIn}
 use Rattle.planning.specs.Slips.{cardFrom}
 use Rattle.planning.specs.Plans.{Boxes}
 

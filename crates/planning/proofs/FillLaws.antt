@@ -11,11 +11,11 @@ use Rattle.reader.specs.Store.{flat, padded}
 use Rattle.planning.specs.declared.state.BoardState.{BoardState}
 use Rattle.planning.specs.declared.slips.Slip.{Slip}
 use Rattle.planning.specs.declared.slips.NextSlip.{NextSlip}
-use Rattle.planning.specs.Cards.{cardsIn, cardHere}
+use Rattle.planning.specs.Cards.{cardHere}
+use Rattle.planning.specs.PlanSteps.{cardsIn, planHere}
 use Rattle.planning.specs.States.{BoardPlan, boardPlans, isSolve, stateNumber, stateOf}
-use Rattle.planning.specs.Slips.{slipOf, slipsOf, slipStruct, fiveOf, slipNumbers}
-use Rattle.planning.specs.Steps.{planHere}
-use Rattle.planning.specs.Fills.{noSlip, slipFrom, nextOf, filledFrom}
+use Rattle.planning.specs.Slips.{slipOf, slipsOf, fiveOf, slipNumbers}
+use Rattle.planning.specs.SlipSteps.{slipStruct, noSlip, slipFrom, nextOf, filledFrom}
 use Rattle.planning.proofs.BoardLaws.{left-first, left-step, left-drop, boards-count}
 
 -- ---- the next slip

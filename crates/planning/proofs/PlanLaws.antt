@@ -10,10 +10,10 @@ use Rattle.reader.specs.Store.{put, putAll}
 use Rattle.reader.proofs.StoreLaws.{Blocks, none, one}
 use Rattle.planning.specs.declared.state.BoardState.{BoardState}
 use Rattle.planning.specs.declared.plan.Totals.{Totals}
-use Rattle.planning.specs.Cards.{cardsIn, cardHere}
+use Rattle.planning.specs.Cards.{cardHere}
+use Rattle.planning.specs.PlanSteps.{cardsIn, planHere, tally, counted, noTotals, Within}
 use Rattle.planning.specs.States.{BoardPlan, boardPlans, isSolve, stateNumber, stateOf}
 use Rattle.planning.specs.Slips.{slipOf, slipsOf, countOf, totalsOf, boardNumbers, numbersFrom}
-use Rattle.planning.specs.Steps.{planHere, tally, counted, noTotals, Within}
 use Rattle.planning.proofs.BoardLaws.{boardsLeft, left-first, left-step, left-none, boards-count}
 
 -- ---- counts

@@ -12,7 +12,8 @@ use Rattle.tables.proofs.Laws.{step, stop, by-cases, both}
 use Rattle.reader.specs.Words.{same}
 use Rattle.reader.specs.Deals.{wholeHands, handsOfWords}
 use Rattle.reader.proofs.WordLaws.{same-is, and-false}
-use Rattle.planning.specs.Cards.{cardDeal, isWhole, hasTable, hasDeal, fits, cardsIn, cardHere}
+use Rattle.planning.specs.Cards.{cardDeal, isWhole, hasTable, hasDeal, fits, cardHere}
+use Rattle.planning.specs.PlanSteps.{cardsIn}
 use Rattle.planning.specs.States.{firstFrom}
 use Rattle.planning.proofs.BoxLaws.{card-step}
 

@@ -20,12 +20,11 @@ use Rattle.planning.specs.declared.plan.Planning.the-variants.{Planned}
 use Rattle.planning.specs.declared.plan.Planning.the-variants as planning
 use Rattle.planning.specs.declared.slips.Slip.{Slip}
 use Rattle.planning.specs.declared.slips.Counted.{Counted}
-use Rattle.planning.specs.Cards.{cardsIn}
+use Rattle.planning.specs.PlanSteps.{cardsIn, BoxesKept, Settled}
 use Rattle.planning.specs.States.{BoardPlan, boardPlans}
 use Rattle.planning.specs.Slips.{slipsOf, slipNumbers, totalsOf}
 use Rattle.planning.specs.Plans.{Boxes, editionsOf, areBoth, plansOf, slipsAnswer, plannedBy, planningOf, isPlanned, BoxesAfter, BothRead, IsPlanned}
-use Rattle.planning.specs.Steps.{BoxesKept, Settled}
-use Rattle.planning.specs.Fills.{nextOf, filledFrom, IsCounted}
+use Rattle.planning.specs.SlipSteps.{nextOf, filledFrom, IsCounted}
 use Rattle.planning.specs.Demands.{SamePlan}
 use Rattle.planning.proofs.SlipLaws.{slips-count}
 use Rattle.planning.proofs.AnswerLaws.{SameRoom, boxes-kept, listed-fits, solve-sum, there, boards-are}
@@ -92,7 +91,7 @@ listed-room (editions.Refused f) ls t h = clash h
 
 module _ (slips : List Slip) {c : Conventions} {old new : List ℕ} {boxes boxes′ : Boxes} {slips′ : List Slip} {r : Counted} (h : IsCounted c old new boxes (length slips) boxes′ r)
     (f : slips′ ≡ filledFrom (nextOf (r .olds) (boxes′ .old-cards) (r .news) (boxes′ .new-cards)) 0 (length slips)) where
-  -- Of the boards that are listed.
+  -- Of the boards that are planned.
   numbers-are : (js : List BoardPlan) → boardPlans (cardsIn (r .olds) (boxes′ .old-cards)) (cardsIn (r .news) (boxes′ .new-cards)) ≡ js → length (slipsOf js) ≤ length slips
       → slipNumbers slips′ ≡ padded (5 * length slips) (flat (slipsOf js))
   unfolding nextOf

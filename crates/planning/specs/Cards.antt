@@ -1,7 +1,7 @@
--- What planning reads of a card: the deal (words 9 to 17), the table (38) and the record's places (60, 61).
-use Prim.Native.Nat.{ℕ, zero, suc, _*_}
+-- What planning reads of a card: the deal (words 9 to 17) and the table (38).
+use Prim.Native.Nat.{ℕ, _*_}
 use mathlib.Core.Bool.{Bool, _&&_, _||_, not}
-use mathlib.Core.List.{List, [], _∷_}
+use mathlib.Core.List.{List}
 use lib.Dec.{eqb}
 use lib.ListN.{getD, take, drop}
 use Rattle.reader.specs.declared.deal.Hands.{Hands}
@@ -31,11 +31,6 @@ hasDeal d card = isWhole card && same d (cardDeal card)
 -- It has the deal d and, where one is sought, a table.
 unfoldable pub fits : Bool → List ℕ → List ℕ → Bool
 fits tabled d card = hasDeal d card && (not tabled || hasTable card)
-
--- The first n cards of lent words.
-abbrev pub cardsIn : ℕ → List ℕ → List (List ℕ)
-cardsIn zero box = []
-cardsIn (suc n) box = take 64 box ∷ cardsIn n (drop 64 box)
 
 -- The card at index k of lent words.
 abbrev pub cardHere : ℕ → List ℕ → List ℕ

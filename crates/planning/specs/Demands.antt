@@ -1,4 +1,4 @@
--- What planning promises beyond its contracts, as statements; the file that proves each is named beside it, in crates/demands, where no edit
+-- What planning promises beyond its contracts, as statements; the file that proves each is named beside it, in crates/demands (SamePlan: in planning), where no edit
 -- of planning pays for it. A card is one that the definitions read from its edition's text.
 use Prim.Native.Nat.{ℕ, suc, _+_, _-_, _*_, _/_, _≤_, _<_}
 use mathlib.Core.Path.{_≡_}
@@ -114,7 +114,7 @@ ListedExactlyOnce =
     → IsPlanned c old new boxes slips boxes′ slips′ (Planned t)
     → ListedOnce (plansOf c old new) (cardsOf c old) (cardsOf c new) (t .solve) slips′
 
--- THEOREM (demands/proofs/Listed.antt). It is listed whenever both editions are taken and slips are enough, whatever else is lent.
+-- THEOREM (demands/proofs/Listed.antt). Planning is not refused where both editions are taken and slips are enough, whatever else is lent.
 abbrev pub PlannedIfTaken : Type 0
 PlannedIfTaken =
     (c : Conventions) (old new : List ℕ) (boxes : Boxes) (slips : List ℕ) (boxes′ : Boxes) (slips′ : List ℕ) (r : Planning)

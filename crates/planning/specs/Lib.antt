@@ -2,6 +2,6 @@ pub mod Cards
 pub mod States
 pub mod Slips
 pub mod Plans
-pub mod Steps
-pub mod Fills
+pub mod PlanSteps
+pub mod SlipSteps
 pub mod Demands

@@ -1,6 +1,6 @@
 -- Slips, totals, and the record behind a board.
-use Prim.Native.Nat.{ℕ, zero, suc, _+_, _-_, _*_}
-use mathlib.Core.Bool.{Bool, true, false, cond}
+use Prim.Native.Nat.{ℕ, zero, suc, _+_, _-_}
+use mathlib.Core.Bool.{cond}
 use mathlib.Core.List.{List, [], _∷_, map}
 use mathlib.Core.Option.{Option, none, some}
 use lib.Dec.{eqb}
@@ -25,10 +25,6 @@ slipOf p card = p ∷ handsOf card .north ∷ handsOf card .east ∷ handsOf car
 abbrev pub slipsOf : List BoardPlan → List (List ℕ)
 slipsOf [] = []
 slipsOf (j ∷ js) = cond (isSolve (j .state)) (slipOf (j .position) (j .card) ∷ slipsOf js) (slipsOf js)
-
--- The same as a struct.
-unfoldable pub slipStruct : ℕ → List ℕ → Slip
-slipStruct p card = record { position = p; north = handsOf card .north; east = handsOf card .east; south = handsOf card .south; west = handsOf card .west }
 
 -- The five numbers of a struct, and the numbers of structs, one after the other.
 abbrev pub fiveOf : Slip → List ℕ

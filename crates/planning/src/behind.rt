@@ -3,7 +3,7 @@ ghost use mathlib.Core.Path.{_≡_};
 ghost use Prim.Native.Nat.{_-_, _*_, _≤_, _<_};
 ghost use lib.ListN.{length, getD, take, drop};
 ghost use Rattle.tables.specs.Letters.{builtIn};
-ghost use Rattle.planning.specs.Cards.{cardsIn};
+ghost use Rattle.planning.specs.PlanSteps.{cardsIn};
 ghost use Rattle.planning.specs.States.{boardPlans};
 ghost use Rattle.planning.specs.Slips.{cardAt, oldRecord, newRecord, behindState, behindAt};
 ghost use Rattle.planning.specs.Plans.{BehindTold, PartTold};

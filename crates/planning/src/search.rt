@@ -5,7 +5,8 @@ ghost use Prim.Native.Nat.{_+_, _*_, _≤_};
 ghost use lib.ListN.{length};
 ghost use Rattle.reader.specs.Words.{same};
 ghost use Rattle.reader.specs.Deals.{wholeHands, handsOfWords};
-ghost use Rattle.planning.specs.Cards.{cardDeal, fits, cardsIn, cardHere};
+ghost use Rattle.planning.specs.Cards.{cardDeal, fits, cardHere};
+ghost use Rattle.planning.specs.PlanSteps.{cardsIn};
 ghost use Rattle.planning.specs.States.{firstWith};
 use reader::deal::HandWords;
 

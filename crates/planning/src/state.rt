@@ -2,7 +2,8 @@
 ghost use mathlib.Core.Path.{_≡_};
 ghost use Prim.Native.Nat.{_+_, _*_, _≤_, _<_};
 ghost use lib.ListN.{length};
-ghost use Rattle.planning.specs.Cards.{cardsIn, cardHere};
+ghost use Rattle.planning.specs.Cards.{cardHere};
+ghost use Rattle.planning.specs.PlanSteps.{cardsIn};
 ghost use Rattle.planning.specs.States.{stateOf, stateNumber, fromOf};
 use crate::cards::deal_at;
 use crate::cards::has_table;

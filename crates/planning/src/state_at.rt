@@ -3,7 +3,7 @@ ghost use mathlib.Core.Path.{_≡_};
 ghost use Prim.Native.Nat.{_*_, _≤_, _<_};
 ghost use lib.ListN.{length};
 ghost use Rattle.tables.specs.Letters.{builtIn};
-ghost use Rattle.planning.specs.Cards.{cardsIn};
+ghost use Rattle.planning.specs.PlanSteps.{cardsIn};
 ghost use Rattle.planning.specs.States.{boardPlans, stateAt};
 ghost use Rattle.planning.specs.Plans.{StateTold};
 use crate::editions::Editions;

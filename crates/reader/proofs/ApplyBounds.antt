@@ -12,7 +12,8 @@ use Rattle.tables.specs.declared.letters.Conventions.{Conventions}
 use Rattle.tables.specs.declared.numbers.Number.{Number}
 use Rattle.tables.specs.declared.numbers.Number.the-variants.{Value, Bad}
 use Rattle.tables.specs.Text.{trimmed, firstCharacter, characters, front, differs}
-use Rattle.tables.specs.Numbers.{digitsFrom, within, someDigits, numberOf, raised, lowered, signedOf}
+use Rattle.tables.specs.Numbers.{digitsFrom, someDigits, numberOf, raised, lowered, signedOf}
+use Rattle.tables.specs.NumberSteps.{within}
 use Rattle.tables.specs.Letters.{every, seatOf, strainOf, capital}
 use Rattle.tables.specs.Tables.{TableReading, holds, refuses, digitOf, firstBad, digitsChecked, digitsReading, tableOfDigits}
 use Rattle.tables.specs.declared.refusal.Refusal.the-variants.{Length}

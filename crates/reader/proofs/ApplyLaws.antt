@@ -26,7 +26,8 @@ use Rattle.reader.specs.declared.board.TableCard.{TableCard}
 use Rattle.reader.specs.declared.board.Values.{Values}
 use Rattle.reader.specs.declared.board.Board.{Board}
 use Rattle.reader.specs.Deals.{dealOf, handWords}
-use Rattle.reader.specs.Boards.{identityBy, parsedDeal, dealRead, dealBy, digitsTable, tableBy, contractBy, isKeptValue, isKept, valuePut, valuesPut, valuesBy, applied, noOpen, seatOpen, openBy}
+use Rattle.reader.specs.Boards.{identityBy, parsedDeal, dealRead, dealBy, digitsTable, tableBy, contractBy, isKeptValue, isKept, valuePut, valuesBy, applied, noOpen, seatOpen, openBy}
+use Rattle.reader.specs.BoardSteps.{valuesPut}
 
 -- ---- by the tag's number
 

@@ -20,7 +20,8 @@ use Rattle.tables.specs.Letters.{capital}
 use Rattle.reader.specs.Words.{callOf, callPart, isCallByte, sectionEnd, isAllPass}
 use Rattle.reader.proofs.EntryLaws.{All, none, one, all-map, Inside, TokensInside, tokens-bytes, out-all, out-few, out-count}
 use Rattle.reader.specs.Store.{put, entryWords}
-use Rattle.reader.specs.Pieces.{Piece, Out, Emits, entry, tokensAt}
+use Rattle.reader.specs.Pieces.{Piece, Out, entry, tokensAt}
+use Rattle.reader.specs.PieceSteps.{Emits}
 use Rattle.reader.specs.Auction.{annotation, bidding, callOut, passesOut, calledBy, callTokenOf, called, calledPiece}
 
 -- ---- counts

@@ -6,7 +6,8 @@ use lib.ListN.{length}
 use Rattle.tables.specs.declared.letters.Conventions.{Conventions}
 use Rattle.reader.specs.Boards.{recordOut}
 use Rattle.reader.specs.Records.{recordsOf}
-use Rattle.reader.specs.Editions.{cardOf, cardsFrom, cardsOf, FullCards, none, one}
+use Rattle.reader.specs.Editions.{cardOf, cardsFrom, cardsOf}
+use Rattle.reader.specs.EditionSteps.{FullCards, none, one}
 use Rattle.reader.proofs.EditionLaws.{card-length}
 use Rattle.reader.proofs.PlainBounds.{RecordBounded}
 

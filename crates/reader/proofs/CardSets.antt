@@ -13,7 +13,8 @@ use lib.Count as Count
 use Rattle.tables.proofs.Laws.{by-cases, both, clash}
 use Rattle.reader.specs.declared.deal.HandRead.{HandRead}
 use Rattle.reader.specs.declared.deal.HandRead.the-variants.{Held, NoHand}
-use Rattle.reader.specs.Deals.{bit, has, handBits, ones, cardCount, place}
+use Rattle.reader.specs.Deals.{bit, has, handBits, ones, cardCount}
+use Rattle.reader.specs.DealSteps.{place}
 
 -- ---- bits
 

@@ -29,7 +29,8 @@ use Rattle.reader.specs.declared.store.Entry.{Entry}
 use Rattle.reader.specs.Store.{flat}
 use Rattle.reader.specs.Tag.{cut, trimPart, withPair, withData, dataAfter, splitAt, splitOf, dataBracket, pairOf, tagLine}
 use Rattle.reader.specs.Names.{tagNumber}
-use Rattle.reader.specs.Lines.{isBlank, hasBrace, lastBrace, splitAs, splitLine, bracketAs, bracketLine, kindBy, lineKind, opensBoard, linePlaced, readingPlaced}
+use Rattle.reader.specs.Lines.{isBlank, hasBrace, lastBrace, splitAs, splitLine, bracketAs, bracketLine, kindBy, lineKind, opensBoard}
+use Rattle.reader.specs.LineSteps.{linePlaced, readingPlaced}
 use Rattle.reader.specs.Pieces.{Piece, Out, entry, rawLines}
 use Rattle.reader.specs.Sections.{commentaryAfter, closesSection, stopsAt, dataPiece, pieceOf, dataIn, splitPiece, sectionData, walked, noWalk, walkedAll}
 use Rattle.reader.specs.Boards.{lastEntries, closed, noSpan, at, seatOpen, openBy, tagged, dataAdded, tagLineOut, blocked, braced, inCommentary, lineBy, lineOut, linesOut, noState, recordOut, isAllWhite}

@@ -6,7 +6,8 @@ use Rattle.tables.specs.Letters.{every, honourOf, honourLetters, indexIn, capit
 use Rattle.tables.specs.Text.{trimmed, isWhite, trimStart, word, pastWord, fields}
 use Rattle.tables.proofs.Laws.{both, by-cases, step, stop}
 use Rattle.reader.proofs.CardSets.{inPack, distinct-front, distinct-back, distinct-times, times-append, bit-total, total-below, count-total, place-all, place-sum, place-append}
-use Rattle.reader.specs.Deals.{onward, cardCount, wholeHands, Proper, dealOf, handWords, handsOfWords, fromWords, has, handBits, cardBefore, cardsFromSuit, atMost, isDash, cardsNamed, handBefore, allNamed, dealt, fourHands, startsWhite, handsAfter, turned, turnedDeal, dealIn, InDeck, place, cardsPlaced, handInto, addCard, stepOf, endOf, runFrom, dealWords, grown}
+use Rattle.reader.specs.Deals.{onward, cardCount, wholeHands, Proper, dealOf, handWords, handsOfWords, fromWords, has, handBits, cardBefore, cardsFromSuit, atMost, isDash, cardsNamed, handBefore, allNamed, dealt, fourHands, startsWhite, handsAfter, turned, turnedDeal, dealIn, InDeck}
+use Rattle.reader.specs.DealSteps.{place, cardsPlaced, handInto, addCard, stepOf, endOf, runFrom, dealWords, grown}
 use mathlib.Core.Path.{_≡_, refl, sym, ap, _∙_}
 use mathlib.Core.List.{List, [], _∷_, _++_}
 use mathlib.Core.Option.{Option, none, some}

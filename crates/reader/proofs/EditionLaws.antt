@@ -20,10 +20,12 @@ use Rattle.reader.specs.declared.edition.Reading.{Reading}
 use Rattle.reader.specs.declared.edition.Reading.the-variants.{Taken, Refused}
 use Rattle.reader.specs.declared.edition.Counts.{Counts}
 use Rattle.reader.specs.Store.{zeros, put, putAll, lent, entryWords}
-use Rattle.reader.specs.Pieces.{Emits}
-use Rattle.reader.specs.Records.{recordsOf, EndsAt}
+use Rattle.reader.specs.PieceSteps.{Emits}
+use Rattle.reader.specs.Records.{recordsOf}
+use Rattle.reader.specs.RecordSteps.{EndsAt}
 use Rattle.reader.specs.Boards.{recordOut}
-use Rattle.reader.specs.Editions.{isTaken, headWords, backWords, cardWords, cardOf, cardsFrom, entriesFrom, cardsOf, entriesOf, countsAnswer, readingOf, RecordIn, FullCards, none, one, AllIn, ReadingEnded, IsRead}
+use Rattle.reader.specs.Editions.{isTaken, headWords, backWords, cardWords, cardOf, cardsFrom, entriesFrom, cardsOf, entriesOf, countsAnswer, readingOf, IsRead}
+use Rattle.reader.specs.EditionSteps.{RecordIn, FullCards, none, one, AllIn, ReadingEnded}
 use Rattle.reader.proofs.Seams.{no-records}
 use Rattle.reader.proofs.StoreLaws.{putAll-append, Blocks, blocks-append, blocks-map, put-zeros}
 use Rattle.reader.proofs.BoardLaws.{record-counts}

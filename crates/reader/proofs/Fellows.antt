@@ -11,7 +11,8 @@ use Rattle.reader.specs.declared.tag.Span.{Span}
 use Rattle.reader.specs.Store.{flat}
 use Rattle.reader.specs.Pieces.{rawLines}
 use Rattle.reader.specs.Boards.{recordOut}
-use Rattle.reader.specs.Records.{fresh, recordsOf, leftOver, spansFrom, spansOf, shift, seamAt, AlikeBut, Filled, one}
+use Rattle.reader.specs.Records.{fresh, recordsOf, leftOver, spansFrom, spansOf, seamAt, AlikeBut, Filled, one}
+use Rattle.reader.specs.RecordSteps.{shift}
 use Rattle.reader.specs.Editions.{cardsFrom, entriesFrom, cardsOf, entriesOf}
 use Rattle.reader.specs.Fellows.{Stands, spanAt, RecordAt, BoardAt, Fellow, AnyBoard, HaveFellows, Part, in-front, inside, in-back}
 use Rattle.reader.proofs.Counts.{cards-few}

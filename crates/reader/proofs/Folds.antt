@@ -28,7 +28,8 @@ use Rattle.reader.specs.Names.{tagNumber}
 use Rattle.reader.specs.Lines.{hasBrace, lastBrace, lineKind}
 use Rattle.reader.specs.Pieces.{Out, rawLines}
 use Rattle.reader.specs.Sections.{commentaryAfter, walkedAll}
-use Rattle.reader.specs.Boards.{identityBy, dealBy, tableBy, applied, openBy, seatOpen, noOpen, withSections, auctionClosed, playClosed, rowsClosed, tableClosed, closedBy, closed, tagged, splitIn, readBy, tagLineOut, withCommentary, blocked, braced, inCommentary, lineBy, lineOut, linesOut, noBoard, noState, recordOut}
+use Rattle.reader.specs.Boards.{identityBy, dealBy, tableBy, applied, openBy, seatOpen, noOpen, withSections, auctionClosed, playClosed, rowsClosed, tableClosed, closedBy, closed, tagged, readBy, tagLineOut, withCommentary, blocked, braced, inCommentary, lineBy, lineOut, linesOut, noBoard, noState, recordOut}
+use Rattle.reader.specs.BoardSteps.{splitIn}
 use Rattle.reader.specs.Plain.{TagPair, plainOf}
 use Rattle.reader.proofs.EntryLaws.{All, none, one}
 use Rattle.reader.proofs.Counts.{chosen}

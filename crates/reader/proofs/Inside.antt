@@ -17,9 +17,11 @@ use Rattle.reader.specs.declared.tag.Close.{Close}
 use Rattle.reader.specs.declared.tag.Close.the-variants.{At, Nothing}
 use Rattle.reader.specs.declared.tag.Split.{Split}
 use Rattle.reader.specs.declared.tag.Split.the-variants.{Data as DataTag, NoData}
-use Rattle.reader.specs.Tag.{part, trimSpan, trimPart, isComment, withComment, tagLine, tagPlaced, TagInside, spanInside, pairOf, withData, withPair, dataBracket, dataAfter, splitAt, splitOf, splitPlaced}
+use Rattle.reader.specs.Tag.{part, trimSpan, trimPart, isComment, withComment, tagLine, pairOf, withData, withPair, dataBracket, dataAfter, splitAt, splitOf}
+use Rattle.reader.specs.TagSteps.{tagPlaced, TagInside, spanInside, splitPlaced}
 use Rattle.reader.specs.TagBytes.{Cut, close, unquote}
-use Rattle.reader.specs.Lines.{isBlank, splitAs, splitLine, bracketAs, bracketLine, lineKind, linePlaced}
+use Rattle.reader.specs.Lines.{isBlank, splitAs, splitLine, bracketAs, bracketLine, lineKind}
+use Rattle.reader.specs.LineSteps.{linePlaced}
 use Rattle.reader.proofs.TagLaws.{length-part}
 use Rattle.reader.proofs.Tags.{trim-whole, front-whole, close-at, unquote-is, commentAs, placeValue, placeName, placeTag, line-by, tag-placed, no-tag}
 

@@ -22,8 +22,10 @@ use Rattle.reader.specs.declared.line.Line.the-variants.{Blank, Brace, D
 use Rattle.reader.specs.declared.line.TagReading.{TagReading}
 use Rattle.reader.specs.declared.line.TagReading.the-variants.{Plain, WithComment, WithData}
 use Rattle.reader.specs.declared.board.State.{State}
-use Rattle.reader.specs.Tag.{cut, TagInside, spanInside}
-use Rattle.reader.specs.Lines.{isBlank, hasBrace, lastBrace, lineKind, tagOf, linePlaced, readingPlaced}
+use Rattle.reader.specs.Tag.{cut}
+use Rattle.reader.specs.TagSteps.{TagInside, spanInside}
+use Rattle.reader.specs.Lines.{isBlank, hasBrace, lastBrace, lineKind}
+use Rattle.reader.specs.LineSteps.{tagIn, linePlaced, readingPlaced}
 use Rattle.reader.specs.Pieces.{Out, andThen, entry, rawLines}
 use Rattle.reader.specs.Sections.{opensCommentary, commentaryAfter}
 use Rattle.reader.specs.Boards.{closed, noSpan, at, tagged, adding, directed, dataAdded, readBy, tagLineOut, withCommentary, isAllWhite, blocked, braced, inCommentary, lineBy, lineOut, linesOut, noState, recordOut}
@@ -40,7 +42,7 @@ use Rattle.reader.proofs.PlainSteps.{Late, closed-late, closed-keeps, f
 
 -- The tag on a line.
 abbrev pub pairOn : TagReading → List ℕ → TagPair
-pairOn t l = record { name = cut (tagOf t .name) l; value = cut (tagOf t .value) l }
+pairOn t l = record { name = cut (tagIn t .name) l; value = cut (tagIn t .value) l }
 
 abbrev pub tagsOn : Line → List ℕ → List TagPair
 tagsOn Blank l = []
@@ -54,7 +56,7 @@ tagsOn (Data d) l = []
 unfoldable pub lineTags : Bool → List ℕ → List TagPair
 lineTags commentary l = cond commentary [] (tagsOn (lineKind l) l)
 
--- The tags of lines; noting tells whether commentary is open before them.
+-- The tags of lines; commentary tells whether it is open before them.
 abbrev pub tagsOfLines : Bool → List (List ℕ) → List TagPair
 tagsOfLines commentary [] = []
 tagsOfLines commentary (l ∷ ls) = lineTags commentary l ++ tagsOfLines (commentaryAfter commentary l) ls

@@ -9,8 +9,10 @@ use Rattle.tables.specs.declared.letters.Conventions.{Conventions}
 use Rattle.tables.proofs.Laws.{stop}
 use Rattle.reader.specs.declared.board.State.{State}
 use Rattle.reader.specs.Store.{putAll, entryWords}
-use Rattle.reader.specs.Pieces.{Emits, rawLines}
-use Rattle.reader.specs.Boards.{closed, lineOut, linesOut, noState, recordOut, Sound, Stepped}
+use Rattle.reader.specs.Pieces.{rawLines}
+use Rattle.reader.specs.PieceSteps.{Emits}
+use Rattle.reader.specs.Boards.{closed, lineOut, linesOut, noState, recordOut}
+use Rattle.reader.specs.BoardSteps.{Sound, Stepped}
 use Rattle.reader.proofs.BoardLaws.{line-counts, lines-counts, record-counts}
 use Rattle.reader.proofs.Counts.{EntriesFew}
 use Rattle.reader.proofs.PieceLaws.{put-run}

@@ -11,7 +11,8 @@ use borrow.Author.Tests.{eqb-true, eqb-false}
 use Rattle.tables.specs.Text.{ascii}
 use Rattle.tables.proofs.Laws.{step, stop, by-cases, both}
 use Rattle.reader.specs.Words.{same}
-use Rattle.reader.specs.Names.{tagNames, numberIn, tagNumber, placeIn}
+use Rattle.reader.specs.Names.{tagNames, numberIn, tagNumber}
+use Rattle.reader.specs.NameSteps.{placeIn}
 use Rattle.reader.proofs.WordLaws.{same-long, same-is}
 
 -- ---- one turn over the table

@@ -18,10 +18,14 @@ use Rattle.reader.specs.declared.line.Line.{Line}
 use Rattle.reader.specs.declared.line.Line.the-variants.{Blank, Brace, Directive, Tag as TagOn, Bracket, Data}
 use Rattle.reader.specs.declared.section.Visit.{Visit}
 use Rattle.reader.specs.declared.section.Visit.the-variants.{Stop, Pass, Piece as PieceOn}
-use Rattle.reader.specs.Tag.{tagLine, splitOf, cut, spanInside}
-use Rattle.reader.specs.Lines.{isBlank, hasBrace, splitAs, splitLine, bracketAs, bracketLine, kindBy, lineKind, linePlaced}
-use Rattle.reader.specs.Pieces.{Piece, piece, rawLines}
-use Rattle.reader.specs.Sections.{opensCommentary, commentaryAfter, closesSection, stopsAt, dataPiece, pieceOf, dataIn, visitKind, visitOf, noPiece, NextPiece}
+use Rattle.reader.specs.Tag.{tagLine, splitOf, cut}
+use Rattle.reader.specs.TagSteps.{spanInside}
+use Rattle.reader.specs.Lines.{isBlank, hasBrace, splitAs, splitLine, bracketAs, bracketLine, kindBy, lineKind}
+use Rattle.reader.specs.LineSteps.{linePlaced}
+use Rattle.reader.specs.Pieces.{Piece, rawLines}
+use Rattle.reader.specs.PieceSteps.{piece}
+use Rattle.reader.specs.Sections.{opensCommentary, commentaryAfter, closesSection, stopsAt, dataPiece, pieceOf, dataIn}
+use Rattle.reader.specs.SectionSteps.{visitKind, visitOf, noPiece, NextPiece}
 use Rattle.reader.proofs.Inside.{LineInside}
 use Rattle.reader.proofs.LineLaws.{blank-span}
 use Rattle.reader.proofs.SectionLaws.{LineAt}

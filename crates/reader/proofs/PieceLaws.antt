@@ -11,7 +11,8 @@ use Rattle.tables.specs.Text.{isWhite, isWord, word, pastWord, trimStart, lead,
 use Rattle.tables.proofs.Laws.{by-cases}
 use Rattle.reader.specs.declared.store.Entry.{Entry}
 use Rattle.reader.specs.Store.{put, putAll, entryWords}
-use Rattle.reader.specs.Pieces.{Piece, piece, Out, Emits, andThen, outAll, entry, joinLine, rawLines, tokensAt, joinToken, prependToken}
+use Rattle.reader.specs.Pieces.{Piece, Out, andThen, outAll, entry, joinLine, rawLines, tokensAt, joinToken, prependToken}
+use Rattle.reader.specs.PieceSteps.{piece, Emits}
 use Rattle.reader.proofs.StoreLaws.{putAll-append}
 
 -- ---- steps

@@ -22,9 +22,11 @@ use Rattle.reader.specs.declared.section.Open.{Open}
 use Rattle.reader.specs.declared.section.Walk.{Walk}
 use Rattle.reader.specs.declared.board.State.{State}
 use Rattle.reader.specs.Store.{lowWord, flat, entryWords}
-use Rattle.reader.specs.Tag.{cut, spanInside, TagInside}
+use Rattle.reader.specs.Tag.{cut}
+use Rattle.reader.specs.TagSteps.{spanInside, TagInside}
 use Rattle.reader.specs.Names.{tagNumber}
-use Rattle.reader.specs.Lines.{hasBrace, lastBrace, lineKind, linePlaced, readingPlaced}
+use Rattle.reader.specs.Lines.{hasBrace, lastBrace, lineKind}
+use Rattle.reader.specs.LineSteps.{linePlaced, readingPlaced}
 use Rattle.reader.specs.Pieces.{Piece, Out, entry, rawLines}
 use Rattle.reader.specs.Sections.{commentaryAfter, stopsAt, dataPiece, pieceOf, dataIn, splitPiece, sectionData, walked, noWalk, walkedAll}
 use Rattle.reader.specs.Boards.{lastEntries, closed, closedBy, noSpan, noOpen, at, seatOpen, openBy, tagged, dataAdded, readBy, tagLineOut, withCommentary, blocked, braced, inCommentary, lineBy, lineOut, linesOut, noState, recordOut, isAllWhite}

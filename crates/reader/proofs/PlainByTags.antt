@@ -18,9 +18,11 @@ use Rattle.reader.specs.declared.line.TagReading.{TagReading}
 use Rattle.reader.specs.declared.line.TagReading.the-variants.{Plain, WithComment, WithData}
 use Rattle.reader.specs.declared.board.Board.{Board}
 use Rattle.reader.specs.declared.board.State.{State}
-use Rattle.reader.specs.Tag.{cut, TagInside}
+use Rattle.reader.specs.Tag.{cut}
+use Rattle.reader.specs.TagSteps.{TagInside}
 use Rattle.reader.specs.Names.{tagNumber}
-use Rattle.reader.specs.Lines.{lastBrace, lineKind, linePlaced, readingPlaced}
+use Rattle.reader.specs.Lines.{lastBrace, lineKind}
+use Rattle.reader.specs.LineSteps.{linePlaced, readingPlaced}
 use Rattle.reader.specs.Pieces.{Out, andThen, entry}
 use Rattle.reader.specs.Boards.{applied, closed, noSpan, at, tagged, directed, dataAdded, readBy, isAllWhite, blocked, noBoard, noState, recordOut}
 use Rattle.reader.specs.Plain.{bytesOf, Item, itemOf, itemsOf, TagPair, tagsIn, plainBy, plainOf}

@@ -31,7 +31,8 @@ use Rattle.reader.specs.declared.board.Section.{Section}
 use Rattle.reader.specs.declared.board.State.{State}
 use Rattle.reader.specs.Words.{same, sameWord, levelOf, bidCode, bidOf, isPass, isUnderscore, underscoreCode, signCode, callOf, isMark, isCallByte, callPart, sectionEnd, isAllPass}
 use Rattle.reader.specs.Tag.{cut}
-use Rattle.reader.specs.Lines.{lastBrace, lineKind, linePlaced}
+use Rattle.reader.specs.Lines.{lastBrace, lineKind}
+use Rattle.reader.specs.LineSteps.{linePlaced}
 use Rattle.reader.specs.Pieces.{Piece, Out, prependToken, joinToken, tokensAt, entry, rawLines}
 use Rattle.reader.specs.Auction.{callTokenOf, annotation, bidding, calledBy, called, calledPiece}
 use Rattle.reader.specs.Sections.{commentaryAfter, stopsAt, dataPiece, pieceOf, dataIn, splitPiece, sectionData, walked, noWalk, walkedAll}

@@ -18,7 +18,8 @@ use Rattle.reader.specs.Sections.{commentaryAfter, stopsAt, pieceOf, sec
 use Rattle.reader.specs.Boards.{identityBy, dealBy, tableBy, contractBy, isKeptValue, isKept, valuesBy, applied, openBy, closed, tagged, tagLineOut, blocked, braced, inCommentary, lineOut, recordOut}
 use Rattle.reader.specs.Records.{scanned, closesRecord, recordsOf}
 use Rattle.reader.specs.Plain.{TagPair, Remark, PlainCall, PlainBoard, itemOf, withoutReturns, plainBy, plainOf, plainBoards}
-use Rattle.reader.specs.Pieces.{Piece, piece}
+use Rattle.reader.specs.Pieces.{Piece}
+use Rattle.reader.specs.PieceSteps.{piece}
 use Rattle.reader.specs.Kept.{lastKept, lastHands}
 use Rattle.reader.proofs.SectionLines.{dataPieces}
 

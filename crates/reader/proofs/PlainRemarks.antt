@@ -27,7 +27,8 @@ use Rattle.reader.specs.declared.line.TagReading.the-variants.{Plain, Wi
 use Rattle.reader.specs.declared.board.State.{State}
 use Rattle.reader.specs.Tag.{cut, trimSpan, isComment, tagLine, splitOf}
 use Rattle.reader.specs.TagBytes.{close, behind, unquote, filled, commentBytes, TagBytes, tagBytes, readTag}
-use Rattle.reader.specs.Lines.{isBlank, hasBrace, lastBrace, splitAs, splitLine, bracketAs, bracketLine, lineKind, linePlaced, readingPlaced}
+use Rattle.reader.specs.Lines.{isBlank, hasBrace, lastBrace, splitAs, splitLine, bracketAs, bracketLine, lineKind}
+use Rattle.reader.specs.LineSteps.{linePlaced, readingPlaced}
 use Rattle.reader.specs.Pieces.{Out, entry}
 use Rattle.reader.specs.Boards.{noSpan, at, tagged, dataAdded, readBy, isAllWhite, withCommentary, blocked, noState, recordOut}
 use Rattle.reader.specs.Plain.{bytesOf, itemOf, itemsOf, Remark, remarksIn, startsLine, withoutReturns, blockValue, plainBy, plainOf, goodDirective, goodBlock}

@@ -22,8 +22,10 @@ use Rattle.reader.specs.declared.line.TagReading.{TagReading}
 use Rattle.reader.specs.declared.line.TagReading.the-variants.{Plain, WithComment, WithData}
 use Rattle.reader.specs.declared.board.Section.{Section}
 use Rattle.reader.specs.declared.board.State.{State}
-use Rattle.reader.specs.Lines.{lastBrace, lineKind, linePlaced, readingPlaced}
-use Rattle.reader.specs.Tag.{cut, TagInside}
+use Rattle.reader.specs.Lines.{lastBrace, lineKind}
+use Rattle.reader.specs.LineSteps.{linePlaced, readingPlaced}
+use Rattle.reader.specs.Tag.{cut}
+use Rattle.reader.specs.TagSteps.{TagInside}
 use Rattle.reader.specs.Pieces.{Out, entry}
 use Rattle.reader.specs.Boards.{closed, noSpan, at, tagged, directed, dataAdded, readBy, withCommentary, blocked, isAllWhite, noState, recordOut}
 use Rattle.reader.specs.Plain.{Item, itemOf, itemsOf, bytesOf, TagPair, Remark, tagsIn, remarksIn, startsLine, withoutReturns, blockValue, callsIn, tricksIn, itemsWithin, PlainAuction, PlainPlay, PlainBoard, plainAuction, plainPlay, plainBy, plainOf}

@@ -22,9 +22,11 @@ use Rattle.reader.specs.declared.line.Line.the-variants.{Blank, Brace, D
 use Rattle.reader.specs.declared.line.TagReading.{TagReading}
 use Rattle.reader.specs.declared.line.TagReading.the-variants.{Plain, WithComment, WithData}
 use Rattle.reader.specs.declared.board.State.{State}
-use Rattle.reader.specs.Tag.{cut, tagLine, splitOf, TagInside}
+use Rattle.reader.specs.Tag.{cut, tagLine, splitOf}
+use Rattle.reader.specs.TagSteps.{TagInside}
 use Rattle.reader.specs.TagBytes.{TagBytes, SplitBytes, tagBytes, splitBytes}
-use Rattle.reader.specs.Lines.{isBlank, lastBrace, splitAs, splitLine, bracketAs, bracketLine, kindBy, lineKind, tagOf, linePlaced, readingPlaced}
+use Rattle.reader.specs.Lines.{isBlank, lastBrace, splitAs, splitLine, bracketAs, bracketLine, kindBy, lineKind}
+use Rattle.reader.specs.LineSteps.{tagIn, linePlaced, readingPlaced}
 use Rattle.reader.specs.Pieces.{entry, joinLine, rawLines}
 use Rattle.reader.specs.Boards.{noSpan, at, tagged, dataAdded, readBy, isAllWhite, blocked, recordOut}
 use Rattle.reader.specs.Plain.{bytesOf, itemOf, itemsOf, TagPair, tagsIn, plainBy, plainOf}
@@ -133,7 +135,7 @@ same-good : {n v : List ℕ} (n′ v′ : List ℕ) → n ≡ n′ → v ≡ v�
 same-good n′ v′ a b g = rw (a, b) g
 
 module _ (l m : List ℕ) (h : among 10 m ≡ false) (r : TagReading) where
-  split-line-good : (x y : Split) → splitAs x ≡ TagOn r → splitBytes x l ≡ splitBytes y m → lineKind m ≡ splitAs y → Good (cut (tagOf r .name) l) (cut (tagOf r .value) l)
+  split-line-good : (x y : Split) → splitAs x ≡ TagOn r → splitBytes x l ≡ splitBytes y m → lineKind m ≡ splitAs y → Good (cut (tagIn r .name) l) (cut (tagIn r .value) l)
   split-line-good NoData y k e j = no-bracket k
   split-line-good (DataTag t d) NoData k e j = never (sym e)
   split-line-good (DataTag t d) (DataTag u g) k e j =
@@ -142,7 +144,7 @@ module _ (l m : List ℕ) (h : among 10 m ≡ false) (r : TagReading) where
       rw (← z) (same-good (cut (u .name) m) (cut (u .value) m) (ap (λ (b : SplitBytes). b .name) w) (ap (λ (b : SplitBytes). b .value) w) (TagsGood m (WithData u g) h j))
 
   tag-line-good : (x y : TagLine) → bracketAs x l ≡ TagOn r → tagBytes x l ≡ tagBytes y m → splitBytes (splitOf l) l ≡ splitBytes (splitOf m) m → lineKind m ≡ bracketAs y m
-      → Good (cut (tagOf r .name) l) (cut (tagOf r .value) l)
+      → Good (cut (tagIn r .name) l) (cut (tagIn r .value) l)
   unfolding splitLine
   tag-line-good NoTag NoTag k e f j = split-line-good (splitOf l) (splitOf m) k f j
   tag-line-good NoTag (PlainTag u) k e f j = never e
@@ -167,7 +169,7 @@ module _ (l m : List ℕ) (h : among 10 m ≡ false) (r : TagReading) where
       rw (← z) (same-good (cut (u .name) m) (cut (u .value) m) (ap (λ (b : TagBytes). b .name) w) (ap (λ (b : TagBytes). b .value) w) (TagsGood m (WithComment u d) h j))
 
 -- THEOREM. The name and the value of any tag on a line, with its LF or without, can be written.
-pub LineGood : (l : List ℕ) (t : TagReading) → feedLast l ≡ true → lineKind l ≡ TagOn t → Good (cut (tagOf t .name) l) (cut (tagOf t .value) l)
+pub LineGood : (l : List ℕ) (t : TagReading) → feedLast l ≡ true → lineKind l ≡ TagOn t → Good (cut (tagIn t .name) l) (cut (tagIn t .value) l)
 unfolding bracketLine isWhite
 LineGood l t h e =
     tag-starts l t e λ s q.
@@ -219,7 +221,7 @@ module _ (c : Conventions) (r : List ℕ) (p : ℕ) (s : State) (l : List ℕ) (
       let v = PartPlaced r l p (t .value .start) (t .value .len) (i .bytes) (j .value-inside) in
       tag refl refl (same-good (cut (t .name) l) (cut (t .value) l) n v g) over
 
-  reading-paired : (q : ℕ) (t : TagReading) → readingPlaced t (length l) → Good (cut (tagOf t .name) l) (cut (tagOf t .value) l) → Paired (GoodTag r) (readBy c s p l q t .entries)
+  reading-paired : (q : ℕ) (t : TagReading) → readingPlaced t (length l) → Good (cut (tagIn t .name) l) (cut (tagIn t .value) l) → Paired (GoodTag r) (readBy c s p l q t .entries)
   reading-paired q (Plain t) j g = tagged-paired q t noSpan j g
   reading-paired q (WithComment t d) j g = paired-append (tagged-paired q t noSpan (j .0) g) (other (λ u. omega arith) (λ u. omega arith) over)
   reading-paired q (WithData t d) j g = paired-append (tagged-paired q t (at p d) (j .0) g) (data-paired (tagged c s p l q t (at p d) .state) p d)

@@ -29,7 +29,8 @@ use Rattle.reader.specs.Tag.{cut}
 use Rattle.reader.specs.Lines.{lastBrace}
 use Rattle.reader.specs.Pieces.{Out}
 use Rattle.reader.specs.Play.{lastTrick}
-use Rattle.reader.specs.Sections.{walkedAll, walkCount}
+use Rattle.reader.specs.Sections.{walkedAll}
+use Rattle.reader.specs.SectionSteps.{walkCount}
 use Rattle.reader.specs.Boards.{valuePut, isKept, valuesBy, applied, withSections, auctionClosed, playClosed, rowsClosed, tableClosed, closedEntries, lastEntries, closedBy, closed, noSpan, at, tagged, readBy, blocked, noState, recordOut}
 use Rattle.reader.specs.Records.{recordsOf}
 use Rattle.reader.specs.Editions.{entryPlace, valueWords, entriesFrom, entriesOf}

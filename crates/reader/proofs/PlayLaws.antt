@@ -16,8 +16,10 @@ use Rattle.reader.specs.declared.play.Tricks.{Tricks}
 use Rattle.reader.proofs.EntryLaws.{All, none, one, Trick, TokensInside, tokens-bytes, out-all, out-few, out-count}
 use Rattle.reader.specs.Store.{put, entryWords}
 use Rattle.reader.specs.Words.{cardNamed, sectionEnd}
-use Rattle.reader.specs.Pieces.{Out, Emits, tokensAt, Piece}
-use Rattle.reader.specs.Play.{withCard, withSlot, slotOf, taking, newTrick, nextLeader, trickEntry, opened, isGap, played, playedBytes, oneMore, lastTrick, noTricks, noSlots, weight, bestSlot, winnerOf, Low, Seated, OpenTrick, playedToken, playedPiece}
+use Rattle.reader.specs.Pieces.{Out, tokensAt, Piece}
+use Rattle.reader.specs.PieceSteps.{Emits}
+use Rattle.reader.specs.Play.{withCard, withSlot, slotOf, taking, newTrick, nextLeader, trickEntry, opened, isGap, played, playedBytes, oneMore, lastTrick, noTricks, noSlots, weight, bestSlot, winnerOf, playedToken, playedPiece}
+use Rattle.reader.specs.TokenSteps.{Low, Seated, OpenTrick}
 
 pub cond-low : (b : Bool) (x y n : ℕ) → x ≤ n → y ≤ n → cond b x y ≤ n
 cond-low true x y n h k = h

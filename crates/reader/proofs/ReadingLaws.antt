@@ -25,10 +25,13 @@ use Rattle.reader.specs.declared.line.Line.the-variants.{Blank, Brace, D
 use Rattle.reader.specs.Lines.{lineKind, hasBrace}
 use Rattle.reader.specs.declared.play.Tricks.{Tricks}
 use Rattle.reader.specs.Store.{put, putAll, entryWords}
-use Rattle.reader.specs.Pieces.{Out, Emits, entry}
+use Rattle.reader.specs.Pieces.{Out, entry}
+use Rattle.reader.specs.PieceSteps.{Emits}
 use Rattle.reader.specs.Play.{lastTrick}
-use Rattle.reader.specs.Sections.{Walks, walkCount, walkedAll}
-use Rattle.reader.specs.Boards.{rowsClosed, withSections, boardClosed, lastEntries, LastStored, closedState, closed, isAllWhite, withCommentary, countedState, adding, directed, dataAdded, unchanged, tagLineOut, blocked, braced, inCommentary, lineBy, lineOut, Sound, Stepped}
+use Rattle.reader.specs.Sections.{walkedAll}
+use Rattle.reader.specs.SectionSteps.{Walks, walkCount}
+use Rattle.reader.specs.Boards.{rowsClosed, withSections, boardClosed, lastEntries, closedState, closed, isAllWhite, withCommentary, countedState, adding, directed, dataAdded, tagLineOut, blocked, braced, inCommentary, lineBy, lineOut}
+use Rattle.reader.specs.BoardSteps.{LastStored, unchanged, Sound, Stepped}
 use Rattle.reader.proofs.PieceLaws.{put-run}
 use Rattle.reader.proofs.PlayLaws.{last-counted}
 use Rattle.reader.proofs.TagStepLaws.{sound-later}

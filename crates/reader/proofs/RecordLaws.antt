@@ -10,7 +10,8 @@ use Rattle.tables.proofs.Laws.{stop}
 use Rattle.reader.specs.declared.record.Scan.{Scan}
 use Rattle.reader.specs.Lines.{isBlank}
 use Rattle.reader.specs.Pieces.{rawLines}
-use Rattle.reader.specs.Records.{fresh, scanned, closesRecord, emit, recordsFrom, recordsOf, EndsAt}
+use Rattle.reader.specs.Records.{fresh, scanned, closesRecord, emit, recordsFrom, recordsOf}
+use Rattle.reader.specs.RecordSteps.{EndsAt}
 use Rattle.reader.proofs.SectionLaws.{LineAt}
 
 -- Inside commentary, or once a tag was met, the line's kind does not matter.

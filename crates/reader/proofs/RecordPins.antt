@@ -5,7 +5,7 @@ use mathlib.Core.List.{[], _∷_}
 use Rattle.tables.specs.Text.{ascii, isWhite, trimmed}
 use Rattle.reader.specs.Tag.{trimSpan, trimPart, bracketOf, endsQuoted, nameOf, isQuoted, valueOf, isComment, commentOf, tagLine, dataBracket, dataAfter, splitOf}
 use Rattle.reader.specs.Lines.{isBlank, hasBrace, splitLine, bracketLine, lineKind}
-use Rattle.reader.specs.Pieces.{piece}
+use Rattle.reader.specs.PieceSteps.{piece}
 use Rattle.reader.specs.Sections.{commentaryAfter, stopsAt, pieceOf, sectionData}
 use Rattle.reader.specs.Records.{scanned, closesRecord, recordsOf, isSeam}
 

@@ -16,7 +16,8 @@ use Rattle.reader.specs.declared.record.Scan.{Scan}
 use Rattle.reader.specs.Store.{flat}
 use Rattle.reader.specs.Pieces.{joinLine, rawLines}
 use Rattle.reader.specs.Tag.{cut}
-use Rattle.reader.specs.Records.{fresh, scanned, closesRecord, emit, recordsFrom, recordsOf, leftOver, spansFrom, spansOf, shift, closedLast, endsLine, isSeam, seamAt, AlikeBut, Filled, none, one}
+use Rattle.reader.specs.Records.{fresh, scanned, closesRecord, emit, recordsFrom, recordsOf, leftOver, spansFrom, spansOf, closedLast, endsLine, isSeam, seamAt, AlikeBut, Filled, none, one}
+use Rattle.reader.specs.RecordSteps.{shift}
 
 -- ---- lines
 

@@ -22,10 +22,12 @@ use Rattle.reader.specs.declared.section.Open.{Open}
 use Rattle.reader.specs.declared.board.State.{State}
 use Rattle.reader.specs.Tag.{cut}
 use Rattle.reader.specs.Names.{tagNumber}
-use Rattle.reader.specs.Lines.{lineKind, hasBrace, lastBrace, linePlaced}
+use Rattle.reader.specs.Lines.{lineKind, hasBrace, lastBrace}
+use Rattle.reader.specs.LineSteps.{linePlaced}
 use Rattle.reader.specs.Pieces.{Piece, Out, andThen, rawLines}
 use Rattle.reader.specs.Sections.{commentaryAfter, stopsAt, dataPiece, pieceOf, dataIn, splitPiece, sectionData}
-use Rattle.reader.specs.Boards.{noOpen, seatOpen, openBy, closed, noSpan, at, tagged, readBy, tagLineOut, isAllWhite, blocked, braced, inCommentary, unchanged, lineBy, lineOut}
+use Rattle.reader.specs.Boards.{noOpen, seatOpen, openBy, closed, noSpan, at, tagged, readBy, tagLineOut, isAllWhite, blocked, braced, inCommentary, lineBy, lineOut}
+use Rattle.reader.specs.BoardSteps.{unchanged}
 use Rattle.reader.specs.Plain.{bytesOf}
 use Rattle.reader.proofs.EntryLaws.{All, none, one}
 use Rattle.reader.proofs.Inside.{LineInside}

@@ -10,7 +10,8 @@ use Rattle.reader.specs.declared.store.Entry.{Entry}
 use Rattle.reader.specs.declared.auction.Bidding.{Bidding}
 use Rattle.reader.specs.declared.play.Tricks.{Tricks}
 use Rattle.reader.specs.Words.{levelOf, bidCode, isPass, underscoreCode, signCode, callOf, isMark, sectionEnd, isAllPass, cardNumber, cardNamed}
-use Rattle.reader.specs.Pieces.{piece, Out, entry}
+use Rattle.reader.specs.Pieces.{Out, entry}
+use Rattle.reader.specs.PieceSteps.{piece}
 use Rattle.reader.specs.Auction.{bidding, callTokenOf, called, calledPiece, noBidding}
 use Rattle.reader.specs.Play.{trickEntry, newTrick, weight, bestSlot, opened, isGap, played, playedBytes, playedPiece, lastTrick, noTricks}
 

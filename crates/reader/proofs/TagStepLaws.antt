@@ -19,13 +19,17 @@ use Rattle.reader.specs.declared.section.Walk.{Walk}
 use Rattle.reader.specs.declared.store.Entry.{Entry}
 use Rattle.reader.specs.declared.tag.Span.{Span}
 use Rattle.reader.specs.declared.tag.Tag.{Tag}
-use Rattle.reader.specs.Boards.{Sound, Stepped, applied, openBy, noSpan, at, adding, countedState, closed, closedBy, tagged, directed, dataEntries, dataAdded, tagIn, splitIn, readBy, tagLineOut, withCommentary, blocked, braced, inCommentary, lineBy, lineOut}
-use Rattle.reader.specs.Lines.{lineKind, hasBrace, lastBrace, readingPlaced}
+use Rattle.reader.specs.Boards.{applied, openBy, noSpan, at, adding, countedState, closed, closedBy, tagged, directed, dataEntries, dataAdded, readBy, tagLineOut, withCommentary, blocked, braced, inCommentary, lineBy, lineOut}
+use Rattle.reader.specs.BoardSteps.{Sound, Stepped, splitIn}
+use Rattle.reader.specs.Lines.{lineKind, hasBrace, lastBrace}
+use Rattle.reader.specs.LineSteps.{tagIn, readingPlaced}
 use Rattle.reader.specs.Names.{tagNumber}
-use Rattle.reader.specs.Pieces.{Out, Emits, andThen, entry}
+use Rattle.reader.specs.Pieces.{Out, andThen, entry}
+use Rattle.reader.specs.PieceSteps.{Emits}
 use Rattle.reader.specs.Sections.{walkedAll}
 use Rattle.reader.specs.Store.{put, entryWords}
-use Rattle.reader.specs.Tag.{cut, TagInside}
+use Rattle.reader.specs.Tag.{cut}
+use Rattle.reader.specs.TagSteps.{TagInside}
 use Rattle.reader.proofs.ApplyLaws.{Seated, open-seated}
 use Rattle.reader.proofs.BoardLaws.{closed-counts, tagged-counts}
 use Rattle.reader.proofs.PieceLaws.{emits-then}

@@ -19,9 +19,11 @@ use Rattle.reader.specs.declared.tag.Split.the-variants.{Data as DataTag
 use Rattle.reader.specs.declared.line.TagReading.{TagReading}
 use Rattle.reader.specs.declared.line.TagReading.the-variants.{Plain, WithComment, WithData}
 use Rattle.reader.specs.declared.line.Line.the-variants.{Blank, Brace, Directive, Tag, Data}
-use Rattle.reader.specs.Tag.{cut, trimSpan, tagLine, splitOf}
-use Rattle.reader.specs.TagBytes.{Cut, push, quoted, close, past, behind, ahead, unquote, filled, commentBytes, TagBytes, readTag, tagBytes, SplitBytes, readSplit, splitBytes, unclosed, goodName, goodValue, tagText, isDigit}
-use Rattle.reader.specs.Lines.{isBlank, splitAs, splitLine, bracketAs, bracketLine, lineKind, tagOf}
+use Rattle.reader.specs.Tag.{cut, trimSpan, tagLine, splitOf, tagText}
+use Rattle.reader.specs.TagBytes.{Cut, push, quoted, close, past, behind, ahead, unquote, filled, commentBytes, TagBytes, readTag, tagBytes, SplitBytes, readSplit, splitBytes, unclosed, goodName, goodValue}
+use Rattle.reader.specs.TagSteps.{isDigit}
+use Rattle.reader.specs.Lines.{isBlank, splitAs, splitLine, bracketAs, bracketLine, lineKind}
+use Rattle.reader.specs.LineSteps.{tagIn}
 use Rattle.reader.proofs.Tags.{never, some-inj, bind-some, push-some, cond-some, front-whole, trail, trim-whole, end-last, close-at, unquote-is, past-at, trimmed-is, tag-placed, TagStands, SplitStands}
 
 -- ---- no bracket closes a text
@@ -198,15 +200,15 @@ kind-tag line r e =
 
 -- THEOREM. Whatever a line yields can be written: the name and the value of any tag that a line without LF holds, alone, with a comment
 -- or with section data, meet the condition.
-pub TagsGood : (line : List ℕ) (r : TagReading) → among 10 line ≡ false → lineKind line ≡ Tag r → Good (cut (tagOf r .name) line) (cut (tagOf r .value) line)
+pub TagsGood : (line : List ℕ) (r : TagReading) → among 10 line ≡ false → lineKind line ≡ Tag r → Good (cut (tagIn r .name) line) (cut (tagIn r .value) line)
 unfolding bracketLine splitLine
 TagsGood line r h e = whole (tagLine line) (kind-tag line r e) (TagStands line)
   where
-    split : (d : Split) → splitAs d ≡ Tag r → splitBytes d line ≡ readSplit line → Good (cut (tagOf r .name) line) (cut (tagOf r .value) line)
+    split : (d : Split) → splitAs d ≡ Tag r → splitBytes d line ≡ readSplit line → Good (cut (tagIn r .name) line) (cut (tagIn r .value) line)
     split NoData k e2 = let z : _≡_ {A = ℕ} 0 1 = cc in absurd (omega arith)
     split (DataTag t d) k e2 = let z : WithData t d ≡ r = cc in rw (← z) (split-good line h (sym e2))
 
-    whole : (t : TagLine) → bracketAs t line ≡ Tag r → tagBytes t line ≡ readTag line → Good (cut (tagOf r .name) line) (cut (tagOf r .value) line)
+    whole : (t : TagLine) → bracketAs t line ≡ Tag r → tagBytes t line ≡ readTag line → Good (cut (tagIn r .name) line) (cut (tagIn r .value) line)
     whole NoTag k e2 = split (splitOf line) k (SplitStands line)
     whole (PlainTag t) k e2 = let z : Plain t ≡ r = cc in rw (← z) (read-good line h (sym e2))
     whole (CommentTag t c) k e2 = let z : WithComment t c ≡ r = cc in rw (← z) (read-good line h (sym e2))

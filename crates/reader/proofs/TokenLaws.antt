@@ -9,7 +9,8 @@ use lib.Seq.{drop-drop}
 use Rattle.tables.specs.Text.{isWhite, isWord, beyond, lead, trimStart, word, pastWord}
 use Rattle.tables.proofs.Laws.{by-cases, stop}
 use Rattle.tables.proofs.TextLaws.{take-front, drop-front}
-use Rattle.reader.specs.Pieces.{Piece, piece, Out, Emits, outAll, tokensAt}
+use Rattle.reader.specs.Pieces.{Piece, Out, outAll, tokensAt}
+use Rattle.reader.specs.PieceSteps.{piece, Emits}
 use Rattle.reader.proofs.PieceLaws.{ToEmit, to-emit, emitting, emitted, tokens-skip, tokens-word}
 
 beyond-few : (p : ℕ → Bool) (s : List ℕ) → length (beyond p s) ≤ length s

@@ -18,10 +18,13 @@ use Rattle.reader.specs.declared.section.Open.{Open}
 use Rattle.reader.specs.declared.section.Rows.{Rows}
 use Rattle.reader.specs.declared.section.Walk.{Walk}
 use Rattle.reader.specs.Store.{putAll, entryWords}
-use Rattle.reader.specs.Pieces.{Piece, piece, Out, Emits, andThen, outAll, rawLines}
+use Rattle.reader.specs.Pieces.{Piece, Out, andThen, outAll, rawLines}
+use Rattle.reader.specs.PieceSteps.{piece, Emits}
 use Rattle.reader.specs.Auction.{bidding, calledPiece}
-use Rattle.reader.specs.Play.{playedPiece, Seated}
-use Rattle.reader.specs.Sections.{dataIn, splitPiece, linesData, sectionData, nextData, NextPiece, rowStored, rowedPiece, walked, noWalk, walkedAll, walkCount, Walks}
+use Rattle.reader.specs.Play.{playedPiece}
+use Rattle.reader.specs.TokenSteps.{Seated}
+use Rattle.reader.specs.Sections.{dataIn, splitPiece, linesData, sectionData, rowStored, rowedPiece, walked, noWalk, walkedAll}
+use Rattle.reader.specs.SectionSteps.{nextData, NextPiece, walkCount, Walks}
 use Rattle.reader.proofs.EntryLaws.{out-count}
 use Rattle.reader.proofs.AuctionLaws.{calls-counted}
 use Rattle.reader.proofs.PlayLaws.{none-seated, tricks-counted}

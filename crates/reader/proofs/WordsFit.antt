@@ -32,7 +32,8 @@ use Rattle.reader.specs.Tag.{cut}
 use Rattle.reader.specs.Words.{cardNamed, callOf, callPart, contractTrump, sectionEnd, isAllPass}
 use Rattle.reader.specs.Pieces.{Piece, Out, outAll, andThen, entry, tokensOf}
 use Rattle.reader.specs.Auction.{callWith, callParts, callTokenOf, annotation, calledBy, called, calledPiece}
-use Rattle.reader.specs.Play.{noSlots, withSlot, isFull, winnerOf, trickEntry, newTrick, nextLeader, opened, taking, slotOf, withCard, isGap, played, playedBytes, playedToken, playedPiece, oneMore, lastTrick, Low}
+use Rattle.reader.specs.Play.{noSlots, withSlot, isFull, winnerOf, trickEntry, newTrick, nextLeader, opened, taking, slotOf, withCard, isGap, played, playedBytes, playedToken, playedPiece, oneMore, lastTrick}
+use Rattle.reader.specs.TokenSteps.{Low}
 use Rattle.reader.specs.Sections.{sectionData, walked, noWalk, walkedAll, rowedPiece}
 use Rattle.reader.specs.Boards.{isKeptContract, contractBy, applied, noSpan, noOpen, at, seatOpen, openBy, withSections, auctionClosed, playClosed, rowsClosed, tableClosed, lastEntries, closedBy, closed, adding, tagged, directed, dataAdded, readBy, isAllWhite, withCommentary, blocked, noState, recordOut}
 use Rattle.reader.specs.Plain.{tagOne, AnchoredEntries, free, next}

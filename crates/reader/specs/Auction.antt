@@ -1,5 +1,5 @@
 -- The auction section (PBN 2.1, section 3.5): what each token of its data does.
-use Prim.Native.Nat.{ℕ, suc, _+_, _-_, _≤_}
+use Prim.Native.Nat.{ℕ, suc, _+_, _-_}
 use mathlib.Core.List.{List, [], _∷_}
 use mathlib.Core.Bool.{Bool, true, false, cond}
 use lib.Dec.{ltb, eqb}
@@ -25,15 +25,6 @@ callTokenOf c t =
     cond (eqb (sectionEnd t) 1) Plus
     (cond (eqb (sectionEnd t) 2) Star
     (cond (isAllPass t) AllPass (callParts c t (length (callPart t)))))
-
--- A call's part of its token lies inside the token, which has n bytes.
-abbrev pub callInside : CallToken → ℕ → Type 0
-callInside Plus n = Unit {0}
-callInside Star n = Unit {0}
-callInside AllPass n = Unit {0}
-callInside Annotation n = Unit {0}
-callInside (Call code k) n = k ≤ n
-callInside NoCall n = Unit {0}
 
 -- An annotation of n bytes at p, where there is one.
 abbrev pub annotation : ℕ → ℕ → List Entry

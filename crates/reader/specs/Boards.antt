@@ -1,8 +1,7 @@
 -- A board: what each line of its record does to it, and the entries that the line adds. Places are counted from the record's
 -- start, entries from its first.
-use Prim.Native.Nat.{ℕ, _+_, _-_, _≤_}
-use mathlib.Core.Path.{_≡_}
-use mathlib.Core.List.{List, [], _∷_, _++_, map}
+use Prim.Native.Nat.{ℕ, _+_, _-_}
+use mathlib.Core.List.{List, [], _∷_, _++_}
 use mathlib.Core.Bool.{Bool, true, false, cond, _&&_, _||_, not}
 use lib.Dec.{ltb, eqb}
 use lib.ListN.{length, replicate}
@@ -36,11 +35,10 @@ use Rattle.reader.specs.Lines.{lineKind, hasBrace, lastBrace}
 use Rattle.reader.specs.Words.{same, contractTrump, vulnerabilityOf}
 use Rattle.reader.specs.Names.{tagNumber, boardName, dealerName, vulnerableName, dealName, eventName, siteName, dateName, declarerName, contractName, resultName, northName, eastName, southName, westName, auctionName, playName, doubleDummyTricksName, optimumResultTableName, optimumScoreName, parContractName}
 use Rattle.reader.specs.Deals.{dealOf, handWords}
-use Rattle.reader.specs.Pieces.{Out, Emits, andThen, entry, rawLines}
+use Rattle.reader.specs.Pieces.{Out, andThen, entry, rawLines}
 use Rattle.reader.specs.Tag.{cut}
 use Rattle.reader.specs.Play.{lastTrick}
-use Rattle.reader.specs.Store.{putAll, entryWords}
-use Rattle.reader.specs.Sections.{commentaryAfter, walkedAll, walkCount}
+use Rattle.reader.specs.Sections.{walkedAll}
 
 -- ---- what a tag's value does to a board
 
@@ -98,7 +96,7 @@ isKeptContract value = not (eqb (length value) 0) && not (same (63 ∷ []) value
 unfoldable pub contractBy : Conventions → ℕ → List ℕ → ℕ → ℕ
 contractBy c k value trump = cond (eqb k contractName && isKeptContract value) (contractTrump c value) trump
 
--- Whether the value's entry is kept on the card. Board, Event, Site, Date and names: where it is not empty; Contract: nor `?`;
+-- Whether the value's entry is kept on the card, of a tag that words 39 to 50 name (`valuePut` puts no other). Board, Event, Site, Date and names: where it is not empty; Contract: nor `?`;
 -- Deal: where it did not parse and is not blank; OptimumScore and ParContract: always.
 abbrev pub isUnparsed : DealRead → List ℕ → Bool
 isUnparsed (Dealt h) value = false
@@ -128,10 +126,7 @@ valuePut k place v =
       par = cond (eqb k parContractName) place (v .par);
     }
 
--- The values after a tag other than Deal, and after any tag.
-unfoldable pub valuesPut : ℕ → List ℕ → ℕ → Values → Values
-valuesPut k value place v = cond (isKeptValue k value) (valuePut k place v) v
-
+-- The values after a tag.
 unfoldable pub valuesBy : Conventions → ℕ → List ℕ → ℕ → Values → Values
 valuesBy c k value place v = cond (isKept c k value) (valuePut k place v) v
 
@@ -242,31 +237,19 @@ tagged c s p l q t split =
 abbrev pub directed : State → ℕ → Span → Out State
 directed s p d = adding s (entry 3 (p + d .start) (d .len) (s .tags) ∷ [])
 
--- The entry of a data line, where a section of the kind is open, and their number.
+-- The entry of a data line, where a section of the kind is open.
 abbrev pub dataEntries : ℕ → ℕ → Span → List Entry
 dataEntries kind p d = cond (eqb kind 0) [] (entry 5 (p + d .start) (d .len) kind ∷ [])
 
-abbrev pub dataOut : ℕ → ℕ → Span → Out ℕ
-dataOut kind p d = record { state = length (dataEntries kind p d); entries = dataEntries kind p d }
-
--- A data line, where a section is open.
+-- A data line: its entry, if a section is open.
 abbrev pub dataAdded : State → ℕ → Span → Out State
 dataAdded s p d = adding s (dataEntries (s .section .kind) p d)
 
+-- A part of the line at p, as a part of the record.
 abbrev pub at : ℕ → Span → Span
 at p d = record { start = p + d .start; len = d .len }
 
--- The tag of a tag line, and what is split off it as section data.
-abbrev pub tagIn : TagReading → Tag
-tagIn (Plain t) = t
-tagIn (WithComment t d) = t
-tagIn (WithData t d) = t
-
-abbrev pub splitIn : ℕ → TagReading → Span
-splitIn p (Plain t) = noSpan
-splitIn p (WithComment t d) = noSpan
-splitIn p (WithData t d) = at p d
-
+-- A tag line, once open sections are closed: the tag, then the comment or the data behind it.
 abbrev pub readBy : Conventions → State → ℕ → List ℕ → ℕ → TagReading → Out State
 readBy c s p l q (Plain t) = tagged c s p l q t noSpan
 readBy c s p l q (WithComment t d) = andThen (tagged c s p l q t noSpan) (directed (tagged c s p l q t noSpan .state) p d)
@@ -294,10 +277,6 @@ braced r s p l =
 -- A line inside commentary.
 unfoldable pub inCommentary : List ℕ → State → ℕ → List ℕ → Out State
 inCommentary r s p l = cond (hasBrace l) (blocked r s (s .block) (p + lastBrace l)) (record { state = s; entries = [] })
-
--- A line that adds nothing.
-abbrev pub unchanged : State → Out State
-unchanged s = record { state = s; entries = [] }
 
 abbrev pub lineBy : Conventions → List ℕ → State → ℕ → List ℕ → Line → Out State
 lineBy c r s p l Blank = record { state = s; entries = [] }
@@ -340,24 +319,3 @@ noState = record { board = noBoard; section = noOpen; tags = 0; n = 0; commentar
 -- What the text of a record reads as: its board, and its entries.
 unfoldable pub recordOut : Conventions → List ℕ → Out State
 recordOut c r = linesOut c r noState 0 (rawLines r)
-
--- ---- what holds of a state at the place p of a record: its section starts at or before p, its block at p + 1 or before
-
-pub record Sound (p : ℕ) (s : State) : Type 0 where
-  pub kind-low : s .section .kind ≤ 3
-  pub seat-low : s .section .seat ≤ 4
-  pub leader-low : s .section .kind ≡ 2 → s .section .seat ≤ 3
-  pub lines-before : s .section .at ≤ p
-  pub split-before : s .section .split .start + s .section .split .len ≤ p
-  pub block-before : s .block ≤ p + 1
-
--- The contract of a step: its answer and its entries, and what holds after it at q.
-pub record Stepped (a n q : ℕ) (entries entries′ : List ℕ) (r : State) (o : Out State) : Type 0 where
-  pub emits : Emits a n entries entries′ r o
-  pub sound : Sound q r
-
--- The contract of storing the last trick behind the entries of a section that stand from n on; r is how many there then are.
-pub record LastStored (a n kind : ℕ) (w : Walk) (entries entries′ : List ℕ) (r : ℕ) : Type 0 where
-  pub stored : entries′ ≡ putAll 4 entries (n + walkCount w) (map (entryWords a) (lastEntries kind w))
-  pub counted : r ≡ walkCount w + length (lastEntries kind w)
-  pub few : r ≤ walkCount w + 1

@@ -6,16 +6,14 @@ use lib.Dec.{eqb}
 use lib.ListN.{length, getD}
 use Rattle.tables.specs.Text.{trimStart, trimmed}
 use Rattle.tables.specs.Letters.{among}
-use Rattle.reader.specs.declared.tag.Tag.{Tag as TagPlaces}
 use Rattle.reader.specs.declared.tag.TagLine.{TagLine}
 use Rattle.reader.specs.declared.tag.TagLine.the-variants.{NoTag, Plain as PlainTag, WithComment as CommentTag}
 use Rattle.reader.specs.declared.tag.Split.{Split}
 use Rattle.reader.specs.declared.tag.Split.the-variants.{Data as DataTag, NoData}
-use Rattle.reader.specs.declared.line.TagReading.{TagReading}
 use Rattle.reader.specs.declared.line.TagReading.the-variants.{Plain, WithComment, WithData}
 use Rattle.reader.specs.declared.line.Line.{Line}
 use Rattle.reader.specs.declared.line.Line.the-variants.{Blank, Brace, Directive, Tag, Bracket, Data}
-use Rattle.reader.specs.Tag.{trimSpan, tagLine, splitOf, TagInside, spanInside}
+use Rattle.reader.specs.Tag.{trimSpan, tagLine, splitOf}
 
 -- A line is blank where it is empty once it is trimmed.
 unfoldable pub isBlank : List ℕ → Bool
@@ -65,23 +63,3 @@ opensBoard (Directive d) = false
 opensBoard (Tag t) = true
 opensBoard Bracket = false
 opensBoard (Data d) = false
-
--- The tag of a reading, whatever follows it.
-abbrev pub tagOf : TagReading → TagPlaces
-tagOf (Plain t) = t
-tagOf (WithComment t c) = t
-tagOf (WithData t d) = t
-
--- Every part lies inside the line, which has n bytes.
-abbrev pub readingPlaced : TagReading → ℕ → Type 0
-readingPlaced (Plain t) n = TagInside t n
-readingPlaced (WithComment t c) n = TagInside t n × spanInside c n
-readingPlaced (WithData t d) n = TagInside t n × spanInside d n
-
-abbrev pub linePlaced : Line → ℕ → Type 0
-linePlaced Blank n = Unit {0}
-linePlaced Brace n = Unit {0}
-linePlaced (Directive d) n = spanInside d n
-linePlaced (Tag t) n = readingPlaced t n
-linePlaced Bracket n = Unit {0}
-linePlaced (Data d) n = spanInside d n

@@ -1,9 +1,7 @@
 -- The tag names that a reader knows, by number.
 use Prim.Native.Nat.{ℕ, _+_}
 use mathlib.Core.List.{List, [], _∷_}
-use mathlib.Core.Bool.{cond, _&&_}
-use lib.Dec.{eqb}
-use lib.ListN.{length, take, drop}
+use mathlib.Core.Bool.{cond}
 use Rattle.tables.specs.Text.{ascii}
 use Rattle.reader.specs.Words.{same}
 
@@ -105,8 +103,3 @@ numberIn (w ∷ ws) t n = cond (same w t) n (numberIn ws t (n + 1))
 -- The number of a tag name, compared byte by byte; 0 for any other.
 unfoldable pub tagNumber : List ℕ → ℕ
 tagNumber t = numberIn tagNames t 1
-
--- The same over a table: the names' lengths, and the names one after the other in a text. Lengths are compared first.
-abbrev pub placeIn : List ℕ → List ℕ → List ℕ → ℕ → ℕ
-placeIn [] text t n = 0
-placeIn (l ∷ ls) text t n = cond (eqb l (length t) && same (take l text) t) n (placeIn ls (drop l text) t (n + 1))

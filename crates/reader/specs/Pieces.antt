@@ -1,12 +1,10 @@
 -- Lines with their LF, parts of a text with their places, and what a step of reading comes to.
 use Prim.Native.Nat.{ℕ, _+_}
-use mathlib.Core.Path.{_≡_}
-use mathlib.Core.List.{List, [], _∷_, _++_, map}
+use mathlib.Core.List.{List, [], _∷_, _++_}
 use mathlib.Core.Bool.{Bool, true, false, cond}
 use lib.Dec.{eqb}
 use Rattle.tables.specs.Text.{isWhite}
 use Rattle.reader.specs.declared.store.Entry.{Entry}
-use Rattle.reader.specs.Store.{putAll, entryWords}
 
 -- A byte in front of lines: an LF is a line of its own, any other byte goes in front of the first line.
 abbrev pub joinLine : Bool → ℕ → List (List ℕ) → List (List ℕ)
@@ -23,9 +21,6 @@ rawLines (b ∷ bs) = joinLine (eqb b 10) b (rawLines bs)
 pub record Piece : Type 0 where
   pub at : ℕ
   pub bytes : List ℕ
-
-abbrev pub piece : ℕ → List ℕ → Piece
-piece p s = record { at = p; bytes = s }
 
 -- A byte at p joins the token behind it where no white space stands between.
 abbrev pub prependToken : ℕ → ℕ → List Piece → List Piece
@@ -59,8 +54,3 @@ outAll f a (b ∷ bs) = andThen (f a b) (outAll f (f a b .state) bs)
 
 abbrev pub entry : ℕ → ℕ → ℕ → ℕ → Entry
 entry k x y z = record { kind = k; x = x; y = y; z = z }
-
--- The contract of a function that takes a step: its answer, and its entries put from the n-th on, for a record that starts at a.
-pub record Emits {A : Type 0} (a n : ℕ) (entries entries′ : List ℕ) (r : A) (o : Out A) : Type 0 where
-  pub answer : r ≡ o .state
-  pub words : entries′ ≡ putAll 4 entries n (map (entryWords a) (o .entries))

@@ -1,6 +1,6 @@
 -- The play section (PBN 2.1, section 3.6): what each token of its data does. Its cards stand by seat from the opening leader;
 -- a trick's slots run from its own leader.
-use Prim.Native.Nat.{ℕ, _+_, _-_, _*_, _/_, _%_, _≤_}
+use Prim.Native.Nat.{ℕ, _+_, _-_, _*_, _/_, _%_}
 use mathlib.Core.List.{List, [], _∷_}
 use mathlib.Core.Bool.{Bool, true, false, cond, _&&_, not}
 use lib.Dec.{leb, ltb, eqb}
@@ -139,20 +139,3 @@ lastTrick t =
 -- Before the first token.
 abbrev pub noTricks : Tricks
 noTricks = record { any = false; leader = 4; winner = 4; slots = noSlots; seat = 0; end = 0; stopped = false; count = 0 }
-
--- What holds of a play throughout: slots are bytes, seats are in range; and of an open trick besides: a seat is left.
-pub record Low (s : Slots) : Type 0 where
-  pub a-low : s .a ≤ 255
-  pub b-low : s .b ≤ 255
-  pub c-low : s .c ≤ 255
-  pub d-low : s .d ≤ 255
-
-pub record Seated (t : Tricks) : Type 0 where
-  pub leader-low : t .leader ≤ 4
-  pub winner-low : t .winner ≤ 4
-  pub seat-low : t .seat ≤ 4
-  pub slots-low : Low (t .slots)
-
-pub record OpenTrick (t : Tricks) : Type 0 where
-  pub seated : Seated t
-  pub seat-left : t .seat ≤ 3

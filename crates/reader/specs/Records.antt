@@ -1,14 +1,13 @@
 -- The records of a text. A record ends just after the blank line that closed its board, or at the text's end if none did; what follows
 -- the last closed board and holds no tag is in no record.
-use Prim.Native.Nat.{ℕ, _+_, _-_, _≤_, _<_}
+use Prim.Native.Nat.{ℕ, _+_, _-_, _<_}
 use mathlib.Core.Path.{_≡_}
 use mathlib.Core.List.{List, [], _∷_, _++_}
 use mathlib.Core.Bool.{Bool, true, false, cond, _&&_, _||_, not}
 use lib.Dec.{eqb}
-use lib.ListN.{length, take, drop}
+use lib.ListN.{length, take}
 use Rattle.reader.specs.declared.tag.Span.{Span}
 use Rattle.reader.specs.declared.record.Scan.{Scan}
-use Rattle.reader.specs.declared.record.RecordEnd.{RecordEnd}
 use Rattle.reader.specs.Lines.{lineKind, opensBoard, isBlank}
 use Rattle.reader.specs.Pieces.{rawLines}
 use Rattle.reader.specs.Sections.{commentaryAfter}
@@ -38,12 +37,6 @@ recordsFrom s text (l ∷ ls) =
 unfoldable pub recordsOf : List ℕ → List (List ℕ)
 recordsOf text = recordsFrom fresh [] (rawLines text)
 
--- Where the record that starts at a ends, and whether it is one.
-pub record EndsAt (text : List ℕ) (a : ℕ) (r : RecordEnd) : Type 0 where
-  pub inside : r .end ≤ length text
-  pub after : a < r .end
-  pub first : recordsOf (drop a text) ≡ cond (r .met) (take (r .end - a) (drop a text) ∷ recordsOf (drop (r .end) text)) []
-
 -- What follows the last record: the text since then, where it holds no tag.
 abbrev pub leftOver : Scan → List ℕ → List (List ℕ) → List ℕ
 leftOver s text [] = cond (s .met) [] text
@@ -56,10 +49,6 @@ spansFrom p (r ∷ rs) = record { start = p; len = length r } ∷ spansFrom (p +
 
 unfoldable pub spansOf : List ℕ → List Span
 spansOf text = spansFrom 0 (recordsOf text)
-
--- A span of a part that stands n bytes into a text.
-abbrev pub shift : ℕ → Span → Span
-shift n a = record { start = n + a .start; len = a .len }
 
 -- No text of a list is empty.
 pub data Filled : List (List ℕ) → Type 0 where

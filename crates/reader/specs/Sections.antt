@@ -1,6 +1,5 @@
 -- The data of an open section, and what it comes to when the section closes.
-use Prim.Native.Nat.{ℕ, _+_, _≤_, _<_}
-use mathlib.Core.Path.{_≡_}
+use Prim.Native.Nat.{ℕ, _+_}
 use mathlib.Core.List.{List, [], _∷_, _++_}
 use mathlib.Core.Bool.{Bool, true, false, cond, _&&_, not}
 use lib.Dec.{eqb}
@@ -12,17 +11,14 @@ use Rattle.tables.specs.Tables.{rowOf, storedRow}
 use Rattle.reader.specs.declared.tag.Span.{Span}
 use Rattle.reader.specs.declared.line.Line.{Line}
 use Rattle.reader.specs.declared.line.Line.the-variants.{Blank, Brace, Directive, Tag, Bracket, Data}
-use Rattle.reader.specs.declared.section.Next.{Next}
 use Rattle.reader.specs.declared.section.Open.{Open}
 use Rattle.reader.specs.declared.section.Rows.{Rows}
-use Rattle.reader.specs.declared.section.Visit.{Visit}
-use Rattle.reader.specs.declared.section.Visit.the-variants.{Stop, Pass, Piece as PieceOn}
 use Rattle.reader.specs.declared.section.Walk.{Walk}
 use Rattle.reader.specs.Lines.{lineKind, hasBrace}
-use Rattle.reader.specs.Pieces.{Piece, Out, Emits, outAll, rawLines}
+use Rattle.reader.specs.Pieces.{Piece, Out, outAll, rawLines}
 use Rattle.reader.specs.Tag.{cut}
 use Rattle.reader.specs.Auction.{calledPiece, noBidding}
-use Rattle.reader.specs.Play.{playedPiece, noTricks, Seated}
+use Rattle.reader.specs.Play.{playedPiece, noTricks}
 
 -- Commentary opens with a line that begins with `{` and lasts to the first line with `}`. Whether it is open after a line.
 abbrev pub opensCommentary : Line → List ℕ → Bool
@@ -65,46 +61,16 @@ abbrev pub dataIn : Bool → ℕ → List (List ℕ) → List Piece
 dataIn commentary p [] = []
 dataIn commentary p (l ∷ ls) = cond (stopsAt commentary l) [] (pieceOf commentary p l ++ dataIn (commentaryAfter commentary l) (p + length l) ls)
 
--- What a section makes of a line: a tag or a blank line closes it, a data line is a piece of its data, and all other lines are passed.
-abbrev pub visitKind : Line → Visit
-visitKind Blank = Stop
-visitKind Brace = Pass
-visitKind (Directive s) = Pass
-visitKind (Tag t) = Stop
-visitKind Bracket = Pass
-visitKind (Data s) = PieceOn s
-
--- Commentary is passed.
-unfoldable pub visitOf : Bool → List ℕ → Visit
-visitOf commentary l = cond commentary Pass (visitKind (lineKind l))
-
 -- What was split off the section's tag line, if anything.
 abbrev pub splitPiece : List ℕ → Span → List Piece
 splitPiece r s = cond (eqb (s .len) 0) [] (record { at = s .start; bytes = cut s r } ∷ [])
 
--- The data lines after the section's tag.
+-- An open section has its kind (0 none, 1 auction, 2 play, 3 optimum), its seat, the place in the record r where the lines after its
+-- tag start, and what was split off its tag line. The data lines after its tag:
 abbrev pub linesData : List ℕ → Open → List Piece
 linesData r o = dataIn false (o .at) (rawLines (drop (o .at) r))
 
--- No piece is left; p is where the search for one ended.
-abbrev pub noPiece : ℕ → Next
-noPiece p = record { more = false; piece = record { start = 0; len = 0 }; at = p }
-
--- A piece of the section's data and the data lines after it, nothing where no piece is left.
-abbrev pub nextData : List ℕ → Next → List Piece
-nextData r n = cond (n .more) (splitPiece r (n .piece) ++ dataIn false (n .at) (rawLines (drop (n .at) r))) []
-
--- The contract of a function that looks for the next data line from the place p on: its piece and the lines after it are the data
--- lines from p on; the piece and the place after it lie in the record, and that place is after p by the piece's length or more.
-pub record NextPiece (r : List ℕ) (p : ℕ) (n : Next) : Type 0 where
-  pub data-lines : dataIn false p (rawLines (drop p r)) ≡ nextData r n
-  pub piece-inside : n .piece .start + n .piece .len ≤ length r
-  pub inside : n .at ≤ length r
-  pub past : p + n .piece .len ≤ n .at
-  pub later : n .more ≡ true → p < n .at
-
--- An open section: its kind (0 none, 1 auction, 2 play, 3 optimum), its seat, the place in the record r where the lines after its
--- tag start, and what was split off its tag line.
+-- All its data: what was split off its tag line, then its data lines.
 unfoldable pub sectionData : List ℕ → Open → List Piece
 sectionData r o = splitPiece r (o .split) ++ linesData r o
 
@@ -138,14 +104,3 @@ noWalk = record { bidding = noBidding; tricks = noTricks; rows = record { cells 
 -- All the data of a section.
 unfoldable pub walkedAll : Conventions → List ℕ → Open → ℕ → Out Walk
 walkedAll c r o trump = outAll (walked c o trump) noWalk (sectionData r o)
-
--- The entries of a section so far.
-abbrev pub walkCount : Walk → ℕ
-walkCount w = w .bidding .count + w .tricks .count
-
--- The contract of a function that walks data: what it comes to, its entries put from the n-th on; seats and slots are in range; there
--- are at most so many entries in all.
-pub record Walks (a n most : ℕ) (entries entries′ : List ℕ) (r : Walk) (o : Out Walk) : Type 0 where
-  pub emits : Emits a n entries entries′ r o
-  pub seated : Seated (r .tricks)
-  pub few : walkCount r ≤ most

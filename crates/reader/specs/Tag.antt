@@ -1,5 +1,5 @@
 -- A tag line, `[Name "value"]`, perhaps with a comment or with section data after it. Places are counted in the line as given.
-use Prim.Native.Nat.{ℕ, _+_, _-_, _≤_, _<_}
+use Prim.Native.Nat.{ℕ, _+_, _-_}
 use mathlib.Core.List.{List, [], _∷_, _++_}
 use mathlib.Core.Bool.{Bool, false, _&&_, cond}
 use lib.Dec.{ltb, eqb}
@@ -163,45 +163,8 @@ splitAt (At k) line = dataAfter (k + 1) line
 unfoldable pub splitOf : List ℕ → Split
 splitOf line = splitAt (dataBracket line) line
 
--- ---- every part lies inside the line, which has n bytes
+-- ---- written
 
-abbrev pub spanInside : Span → ℕ → Type 0
-spanInside p n = p .start + p .len ≤ n
-
-pub record TagInside (t : Tag) (n : ℕ) : Type 0 where
-  pub name-inside : t .name .start + t .name .len ≤ n
-  pub value-inside : t .value .start + t .value .len ≤ n
-
-abbrev pub bracketInside : Bracket → ℕ → Type 0
-bracketInside (Body a) n = a ≤ n
-bracketInside NoBracket n = Unit {0}
-
-abbrev pub inside : Close → ℕ → Type 0
-inside (At k) n = k < n
-inside Nothing n = Unit {0}
-
-abbrev pub nameInside : Name → ℕ → Type 0
-nameInside (Len k) n = k < n
-nameInside NoName n = Unit {0}
-
-abbrev pub valueInside : Value → ℕ → Type 0
-valueInside (Text p) n = spanInside p n
-valueInside NoValue n = Unit {0}
-
-abbrev pub commentInside : Comment → ℕ → Type 0
-commentInside Clean n = Unit {0}
-commentInside (Found p) n = spanInside p n
-commentInside Bad n = Unit {0}
-
-abbrev pub tagPlaced : TagLine → ℕ → Type 0
-tagPlaced NoTag n = Unit {0}
-tagPlaced (Plain t) n = TagInside t n
-tagPlaced (WithComment t c) n = TagInside t n × spanInside c n
-
-abbrev pub pairInside : Pair → ℕ → Type 0
-pairInside (Of t) n = TagInside t n
-pairInside NoPair n = Unit {0}
-
-abbrev pub splitPlaced : Split → ℕ → Type 0
-splitPlaced (Data t d) n = TagInside t n × spanInside d n
-splitPlaced NoData n = Unit {0}
+-- The line `[name "value"]`: `[` (91), the name, a blank (32), a quote (34), the value, a quote, `]` (93).
+unfoldable pub tagText : List ℕ → List ℕ → List ℕ
+tagText n v = 91 ∷ (n ++ 32 ∷ 34 ∷ (v ++ 34 ∷ 93 ∷ []))

@@ -1,9 +1,10 @@
--- Tags as bytes: what a tag line holds, without places, and which names and values can be written.
+-- A second reading of a tag line, as bytes without places, and which names and values can be written. The contracts cite Tag; that both
+-- readings agree is proved in proofs/Tags.antt.
 use Prim.Native.Nat.{ℕ}
 use mathlib.Core.List.{List, [], _∷_, _++_}
 use mathlib.Core.Bool.{Bool, true, false, _&&_, cond, not}
 use mathlib.Core.Option.{Option, none, some}
-use lib.Dec.{leb, eqb}
+use lib.Dec.{eqb}
 use Rattle.tables.specs.Text.{isWhite, isWord, word, pastWord, trimmed}
 use Rattle.tables.specs.Letters.{every, among}
 use Rattle.reader.specs.declared.tag.TagLine.{TagLine}
@@ -120,11 +121,3 @@ goodName n = every isWord n && unclosed false n
 -- A value has no LF (10), and no `]` that stands first or after a quote, white space apart.
 unfoldable pub goodValue : List ℕ → Bool
 goodValue v = not (among 10 v) && unclosed true v
-
--- The line `[name "value"]`: `[` (91), the name, a blank (32), a quote (34), the value, a quote, `]` (93).
-unfoldable pub tagText : List ℕ → List ℕ → List ℕ
-tagText n v = 91 ∷ (n ++ 32 ∷ 34 ∷ (v ++ 34 ∷ 93 ∷ []))
-
--- 0 to 9 (48 to 57).
-abbrev pub isDigit : ℕ → Bool
-isDigit b = leb 48 b && leb b 57

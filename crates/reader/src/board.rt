@@ -1,4 +1,4 @@
-// A board: what each tag does to it (apply_tag), its sections (close_sections) and its lines.
+// The structs of a board and of a record's state.
 use crate::section::Open;
 
 pub struct Identity {

@@ -3,7 +3,8 @@
 ghost use mathlib.Core.Path.{_≡_};
 ghost use Prim.Native.Nat.{_+_, _*_, _/_, _%_, _^_, _≤_, _<_};
 ghost use Rattle.tables.specs.Text.{word};
-ghost use Rattle.reader.specs.Deals.{has, addCard, grown, stepOf, Fine, fine, endOf, runFrom, startHand, isDash, handInto, dealWords, handsAfter, inDeal, turned, dealIn, dealOf, wholeHands, handWords, handsOfWords};
+ghost use Rattle.reader.specs.Deals.{has, isDash, handsAfter, turned, dealIn, dealOf, wholeHands, handWords, handsOfWords};
+ghost use Rattle.reader.specs.DealSteps.{addCard, grown, stepOf, Fine, fine, endOf, runFrom, startHand, handInto, dealWords, inDeal};
 use tables::letters::Conventions;
 use tables::letters::rank_of;
 use tables::letters::seat_of;

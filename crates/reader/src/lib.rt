@@ -1,7 +1,7 @@
 // Layer 2: PBN text to cards and entries (reader.rs).
 pub mod apply; // what a tag does to a board
 pub mod auction; // the auction section
-pub mod board; // what lines and tags do to a board
+pub mod board; // the structs of a board and of a record's state
 pub mod deal; // hands and deals
 pub mod edition; // cards and entries of a whole text (read_pbn)
 pub mod line; // the kinds of lines

@@ -2,7 +2,8 @@
 ghost use mathlib.Core.Path.{_≡_};
 ghost use Prim.Native.Nat.{_≤_};
 ghost use lib.ListN.{length};
-ghost use Rattle.reader.specs.Lines.{isBlank, hasBrace, lastBrace, lineKind, linePlaced, splitLine, bracketLine, opensBoard};
+ghost use Rattle.reader.specs.Lines.{isBlank, hasBrace, lastBrace, lineKind, splitLine, bracketLine, opensBoard};
+ghost use Rattle.reader.specs.LineSteps.{linePlaced};
 use crate::tag::Span;
 use crate::tag::Split;
 use crate::tag::Tag;

@@ -2,7 +2,8 @@
 ghost use mathlib.Core.Path.{_≡_};
 ghost use Prim.Native.Nat.{_<_};
 ghost use lib.ListN.{length};
-ghost use Rattle.reader.specs.Records.{fresh, scanned, closesRecord, EndsAt};
+ghost use Rattle.reader.specs.Records.{fresh, scanned, closesRecord};
+ghost use Rattle.reader.specs.RecordSteps.{EndsAt};
 use crate::line::is_blank;
 use crate::line::opens_board;
 use crate::section::commentary_after;

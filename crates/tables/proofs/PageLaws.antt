@@ -12,7 +12,8 @@ use lib.Seq.{sets, sets-eq, length-sets, drop-cons, take-append-seam, getD-set-s
 use borrow.Author.Tests.{leb-true, lt-ltb, le-ltb}
 use Rattle.tables.specs.declared.page.Written.{Written}
 use Rattle.tables.specs.Numbers.{digits, decimal}
-use Rattle.tables.specs.Page.{Put, Wrote, PageEnded, Digits, right, cleared, answerOf, pageOf}
+use Rattle.tables.specs.Page.{Wrote, right, answerOf, pageOf}
+use Rattle.tables.specs.PageSteps.{Put, PageEnded, Digits, cleared}
 use Rattle.tables.proofs.Laws.{by-cases}
 
 pub sets-append : (xs ys l : List ℕ) (i : ℕ) → sets l i (xs ++ ys) ≡ sets (sets l i xs) (i + length xs) ys

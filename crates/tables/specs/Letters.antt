@@ -74,8 +74,7 @@ strainToken c s = cond (eqb s 4) (78 ∷ 84 ∷ []) (suitLetter c s ∷ [])
 abbrev pub rankLetter : Conventions → ℕ → ℕ
 rankLetter c r = cond (ltb r 8) (50 + r) (getD (c .letters) (20 - r) 0)
 
--- Which letters are allowed: thirteen of A to Z; seats differ from each other, suits from each other, honours from each
--- other; no suit is N (78) or X (88).
+-- All elements meet a test; x is among the elements; no two are the same.
 abbrev pub every : (ℕ → Bool) → List ℕ → Bool
 every p [] = true
 every p (x ∷ xs) = p x && every p xs
@@ -88,6 +87,8 @@ abbrev pub distinct : List ℕ → Bool
 distinct [] = true
 distinct (x ∷ xs) = not (among x xs) && distinct xs
 
+-- Which letters are allowed: thirteen of A to Z; seats differ from each other, suits from each other, honours from each
+-- other; no suit is N (78) or X (88).
 pub record Accepted (c : Conventions) : Type 0 where
   pub thirteen : length (c .letters) ≡ 13
   pub capitals : every isCapital (c .letters) ≡ true

@@ -1,5 +1,5 @@
 -- Numbers in a text: an optional `+`, then one or more digits and no more, within a limit. Signed ones also take `-`.
-use Prim.Native.Nat.{ℕ, zero, suc, _+_, _-_, _*_, _/_, _%_, _≤_}
+use Prim.Native.Nat.{ℕ, zero, suc, _+_, _-_, _*_, _/_, _%_}
 use mathlib.Core.List.{List, [], _∷_}
 use mathlib.Core.Bool.{cond}
 use lib.Dec.{ltb, eqb}
@@ -13,11 +13,6 @@ digitsFrom limit (b ∷ bs) v =
     cond (ltb b 48) Bad
     (cond (ltb 57 b) Bad
     (cond (ltb limit (v * 10 + (b - 48))) Bad (digitsFrom limit bs (v * 10 + (b - 48)))))
-
--- A number that was read is at most n.
-abbrev pub within : Number → ℕ → Type 0
-within Bad n = Unit {0}
-within (Value v) n = v ≤ n
 
 -- One or more digits.
 abbrev pub someDigits : ℕ → List ℕ → Number

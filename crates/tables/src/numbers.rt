@@ -1,7 +1,8 @@
 // Decimal numbers in a text.
 ghost use mathlib.Core.Path.{_≡_};
 ghost use Prim.Native.Nat.{_<_, _≤_};
-ghost use Rattle.tables.specs.Numbers.{digitsFrom, someDigits, numberOf, signedOf, within};
+ghost use Rattle.tables.specs.Numbers.{digitsFrom, someDigits, numberOf, signedOf};
+ghost use Rattle.tables.specs.NumberSteps.{within};
 use crate::text::byte_at;
 use crate::text::from;
 

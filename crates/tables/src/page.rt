@@ -4,7 +4,8 @@ ghost use mathlib.Core.List.{_∷_, []};
 ghost use Prim.Native.Nat.{_+_, _-_, _≤_, _<_, _%_};
 ghost use lib.ListN.{length, replicate, drop};
 ghost use Rattle.tables.specs.Numbers.{decimal};
-ghost use Rattle.tables.specs.Page.{Put, PageEnded, Digits, right, cleared};
+ghost use Rattle.tables.specs.Page.{right};
+ghost use Rattle.tables.specs.PageSteps.{Put, PageEnded, Digits, cleared};
 use crate::refusal::Refusal;
 
 // The answer of a writer: the bytes written, or a refusal, which leaves the page all zero.

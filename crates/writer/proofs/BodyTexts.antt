@@ -11,7 +11,7 @@ use Rattle.writer.specs.declared.remarks.Sought.the-variants.{Leading, U
 use Rattle.writer.specs.Sections.{noteValues}
 use Rattle.writer.specs.Tags.{headTags, earlyExtras, dealTags, lateExtras, playTags, writtenTags}
 use Rattle.writer.specs.Remarks.{directivesOf, blocksOf, those, isLeading, tagUnwritten, directiveLines, blockLines, tagsLines, leadingLines, bodyLines, linesText}
-use Rattle.writer.specs.Steps.{presentOf}
+use Rattle.writer.specs.PresentSteps.{presentOf}
 use Rattle.writer.specs.Items.{soughtBy, isFirst, remarksText, fullText, groupText, notesText}
 use Rattle.writer.proofs.GroupLines.{firstLines, auctionTag, auctionGroup, GroupLines}
 use Rattle.writer.proofs.RemarkTexts.{MarkedItems, leading-tells, lost-tells, directivesIn, blocksIn, DirectivesText, BlocksText}

@@ -10,11 +10,12 @@ use lib.Seq.{sets, sets-eq, set-split, take-at, drop-at, take-add, take-take, dr
 use borrow.Author.Tests.{eq-eqb, ne-eqb}
 use Rattle.tables.proofs.Laws.{by-cases}
 use Rattle.reader.specs.Store.{flat}
-use Rattle.reader.specs.Editions.{FullCards}
-use Rattle.reader.specs.Editions as whole
+use Rattle.reader.specs.EditionSteps.{FullCards}
+use Rattle.reader.specs.EditionSteps as whole
 use Rattle.reader.proofs.StoreLaws.{Blocks, none, one, length-flat}
 use Rattle.reader.proofs.EditionLaws.{card-blocks}
-use Rattle.planning.specs.Cards.{isWhole, hasTable, cardsIn, cardHere}
+use Rattle.planning.specs.Cards.{isWhole, hasTable, cardHere}
+use Rattle.planning.specs.PlanSteps.{cardsIn}
 use Rattle.planning.proofs.BoxLaws.{cards-split, cards-count, cards-front}
 use Rattle.planning.proofs.SearchLaws.{here-length, word-here}
 use Rattle.writer.specs.GivenCards.{withCells, withKind, marked, givenCleared, changedAt, changedAll}

@@ -15,8 +15,9 @@ use Rattle.reader.specs.declared.edition.Reading.{Reading}
 use Rattle.reader.specs.declared.edition.Reading.the-variants.{Taken}
 use Rattle.reader.specs.declared.edition.Reading.the-variants as reading
 use Rattle.reader.specs.Store.{flat, padded, zeros}
-use Rattle.reader.specs.Editions.{FullCards, isTaken, readingOf, cardsOf, entriesOf}
-use Rattle.reader.specs.Editions as whole
+use Rattle.reader.specs.Editions.{isTaken, readingOf, cardsOf, entriesOf}
+use Rattle.reader.specs.EditionSteps.{FullCards}
+use Rattle.reader.specs.EditionSteps as whole
 use Rattle.reader.proofs.StoreLaws.{length-flat}
 use Rattle.reader.proofs.EditionLaws.{card-blocks}
 use Rattle.reader.proofs.CardLength.{CardsWhole}
@@ -26,7 +27,7 @@ use Rattle.planning.specs.declared.editions.Editions.the-variants.{Both}
 use Rattle.planning.specs.declared.editions.Editions.the-variants as editions
 use Rattle.planning.specs.States.{BoardPlan, boardPlans}
 use Rattle.planning.specs.Plans.{Boxes, oldReading, newReading, bothAfter, editionsOf, areBoth, plansOf, BoxesAfter, BothRead}
-use Rattle.planning.specs.Steps.{BoxesKept}
+use Rattle.planning.specs.PlanSteps.{BoxesKept}
 use Rattle.planning.proofs.BothLaws.{both-are-taken}
 use Rattle.planning.proofs.AnswerLaws.{SameRoom, boxes-kept, there, boards-are}
 use Rattle.writer.specs.declared.finish.FinishRefusal.the-variants.{Edition}

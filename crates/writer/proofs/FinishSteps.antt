@@ -13,13 +13,13 @@ use Rattle.tables.specs.declared.page.Written.{Written}
 use Rattle.tables.specs.declared.page.Written.the-variants.{Bytes}
 use Rattle.tables.specs.declared.page.Written.the-variants as paged
 use Rattle.tables.specs.declared.refusal.Refusal.the-variants as refusal
-use Rattle.tables.specs.Page.{pageOf, PageEnded as PageFinished}
+use Rattle.tables.specs.Page.{pageOf}
+use Rattle.tables.specs.PageSteps.{PageEnded as PageFinished}
 use Rattle.tables.proofs.PageLaws.{finished}
 use Rattle.tables.proofs.Laws.{step, stop, by-cases}
 use Rattle.reader.specs.Store.{zeros}
-use Rattle.planning.specs.Cards.{cardsIn}
+use Rattle.planning.specs.PlanSteps.{cardsIn, BoxesKept}
 use Rattle.planning.specs.Plans.{Boxes}
-use Rattle.planning.specs.Steps.{BoxesKept}
 use Rattle.planning.proofs.BoxLaws.{four}
 use Rattle.writer.specs.declared.finish.FinishRefusal.{FinishRefusal}
 use Rattle.writer.specs.declared.finish.FinishRefusal.the-variants.{Answers, Impossible, PageFull}

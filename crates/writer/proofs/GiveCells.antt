@@ -9,8 +9,9 @@ use lib.Seq.{sets, sets-eq, take-at, drop-at, take-append-le, drop-append-le, ta
 use borrow.Author.Tests.{lt-ltb, ltb-true, le-ltb}
 use Rattle.tables.proofs.Laws.{step, by-cases}
 use Rattle.reader.specs.Store.{flat}
-use Rattle.reader.specs.Editions.{FullCards, none, one}
-use Rattle.planning.specs.Cards.{cardDeal, isWhole, hasTable, cardsIn, cardHere}
+use Rattle.reader.specs.EditionSteps.{FullCards, none, one}
+use Rattle.planning.specs.Cards.{cardDeal, isWhole, hasTable, cardHere}
+use Rattle.planning.specs.PlanSteps.{cardsIn}
 use Rattle.planning.specs.Slips.{cardFrom}
 use Rattle.planning.proofs.SearchLaws.{here-length}
 use Rattle.writer.specs.Held.{cardWord, cardPart}

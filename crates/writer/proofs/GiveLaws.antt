@@ -9,15 +9,15 @@ use lib.Seq.{sets, length-sets, take-at, take-all, take-suc, getD-append-add, ge
 use borrow.Author.Tests.{ltb-true, ltb-false}
 use Rattle.tables.proofs.Laws.{by-cases}
 use Rattle.reader.specs.Store.{flat}
-use Rattle.reader.specs.Editions.{FullCards}
+use Rattle.reader.specs.EditionSteps.{FullCards}
 use Rattle.reader.proofs.StoreLaws.{length-flat}
 use Rattle.reader.proofs.EditionLaws.{card-blocks}
 use Rattle.planning.specs.declared.state.BoardState.{BoardState}
 use Rattle.planning.specs.declared.state.BoardState.the-variants.{Blank, Own, Old, Near, Twin, Solve}
-use Rattle.planning.specs.Cards.{cardsIn, cardHere}
+use Rattle.planning.specs.Cards.{cardHere}
+use Rattle.planning.specs.PlanSteps.{cardsIn, tally}
 use Rattle.planning.specs.States.{BoardPlan, boardPlans, stateOf}
 use Rattle.planning.specs.Slips.{countOf, totalsOf, cardFrom, cardAt}
-use Rattle.planning.specs.Steps.{tally}
 use Rattle.planning.proofs.BoxLaws.{cards-count, card-nth, cards-take, cards-drop}
 use Rattle.planning.proofs.BoardLaws.{plans-count}
 use Rattle.planning.proofs.SearchLaws.{here-length}

@@ -7,7 +7,7 @@ use mathlib.Core.Option.{none, some}
 use lib.ListN.{drop}
 use Rattle.tables.specs.declared.letters.Conventions.{Conventions}
 use Rattle.tables.specs.Text.{ascii}
-use Rattle.reader.specs.TagBytes.{tagText}
+use Rattle.reader.specs.Tag.{tagText}
 use Rattle.reader.specs.Plain.{Item, TagPair, PlainAuction, tagsIn}
 use Rattle.writer.specs.declared.remarks.Sought.the-variants.{Under}
 use Rattle.writer.specs.Sections.{noteValues}

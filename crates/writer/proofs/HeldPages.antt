@@ -13,7 +13,7 @@ use Rattle.tables.specs.Text.{ascii}
 use Rattle.tables.specs.Tables.{digitsText}
 use Rattle.tables.proofs.Laws.{by-cases}
 use Rattle.reader.specs.Plain.{Item, PlainBoard, PlainAuction, PlainPlay, tagsIn, callsIn, tricksIn}
-use Rattle.reader.specs.TagBytes.{tagText}
+use Rattle.reader.specs.Tag.{tagText}
 use Rattle.reader.specs.Editions.{cardsOf}
 use Rattle.writer.specs.declared.present.Present.{Present}
 use Rattle.writer.specs.declared.remarks.Sought.the-variants.{Leading, Unwritten}
@@ -21,7 +21,7 @@ use Rattle.writer.specs.Sections.{noteValues, playLines}
 use Rattle.writer.specs.Tags.{WrittenTag, tagOf, orEmpty, ifThere, dealerTags, seatText, resultText, dealValue, firstValue, headTags, tableTags, dealTags, earlyExtras, lateExtras, playTags, writtenTags}
 use Rattle.writer.specs.Remarks.{WrittenLine, tagLine, dataLine, directiveLine, blockLine, linesText, lineText, leadingLines, bodyLines}
 use Rattle.writer.specs.Pages.{ownPlay, bodyText, pageHeader, builtInHeader, firstPart, nextPart, nextParts, pageText, writtenText}
-use Rattle.writer.specs.Steps.{isThere, isAny, hasNotes, presentOf}
+use Rattle.writer.specs.PresentSteps.{isThere, isAny, hasNotes, presentOf}
 use Rattle.writer.specs.Held.{cardWord, cardPart, itemsAt, valueHeld, boardItems, itemsUpTo, sectionItems, auctionHeld, playHeld, valuesHeld, boardHeld, boardsHeld}
 use Rattle.writer.specs.Items.{soughtBy, isFirst, remarksText, afterText, tagLineText, taggedText, extrasText, dataText, fullText, groupText, notesText, auctionText, playText, tagsAt, scoringAt, dealPlace, isRemark, hasRemarks, resultIn}
 use Rattle.writer.specs.BoardTexts.{scannedItems, cardValue, optionalText, titleText, playersText, dealerText, headText, dealHeld, contractText, tableText, analysisText, sectionText, noteTags, biddingText, cardsText, presentHeld, scanOf, early, frontText, unwrittenText, backText, leadHeld, bodyHeld, headerHeld, nextHeld, partsHeld, pageHeld}

@@ -23,7 +23,7 @@ use Rattle.writer.specs.Sections.{noteValues}
 use Rattle.writer.specs.Tags.{WrittenTag, named, isExtra, extrasFrom, untilDeal, sinceDeal, beforeDeal, fromDeal, earlyExtras, lateExtras, ifThere, dealerTags, headTags, tableTags, dealTags, noteTag, auctionTags, playTags, writtenTags}
 use Rattle.writer.specs.Remarks.{wrote}
 use Rattle.writer.specs.declared.present.Present.{Present}
-use Rattle.writer.specs.Steps.{isThere, isAny, hasNotes, presentOf, isTagWritten}
+use Rattle.writer.specs.PresentSteps.{isThere, isAny, hasNotes, presentOf, isTagWritten}
 
 -- ---- how often a name is written
 

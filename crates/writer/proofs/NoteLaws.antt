@@ -13,7 +13,8 @@ use Rattle.tables.specs.declared.numbers.Number.{Number}
 use Rattle.tables.specs.declared.numbers.Number.the-variants.{Value, Bad}
 use Rattle.tables.specs.Text.{ascii, trimmed, differs, before}
 use Rattle.tables.proofs.TextLaws.{take-front}
-use Rattle.tables.specs.Numbers.{numberOf, within, decimal}
+use Rattle.tables.specs.Numbers.{numberOf, decimal}
+use Rattle.tables.specs.NumberSteps.{within}
 use Rattle.tables.proofs.Laws.{by-cases, both}
 use Rattle.reader.specs.Words.{same}
 use Rattle.reader.specs.Names.{tagNumber}
@@ -24,7 +25,7 @@ use Rattle.reader.specs.Plain.{Item, TagPair}
 use Rattle.writer.specs.declared.notes.Note.{Note}
 use Rattle.writer.specs.Sections.{afterColon, isNumber, noteIn, later, noteAt, noteValue, notesFrom, noteValues}
 use Rattle.writer.specs.Held.{entryWord, placeBytes}
-use Rattle.writer.specs.Steps.{isAny}
+use Rattle.writer.specs.PresentSteps.{isAny}
 use Rattle.writer.specs.Items.{tagLineText, afterText, notesText, tagsAt, orNone, noteNumber, noteNumberAt, better, nextNote, noteText}
 
 -- ---- the search, entry by entry

@@ -7,8 +7,7 @@ use Rattle.tables.specs.Text.{ascii, isWhite, isInside, trimmed}
 use Rattle.tables.specs.Numbers.{digits, decimal}
 use Rattle.tables.specs.Letters.{builtIn, capital, seatOf, suitOf, honourOf, rankOf}
 use Rattle.tables.specs.Tables.{digitOf, digitByte, digitsReading, tableOfDigits}
-use Rattle.reader.specs.Tag.{trimSpan, trimPart, bracketOf, endsQuoted, nameOf, isQuoted, valueOf, isComment, commentOf, tagLine, dataBracket, dataAfter, splitOf}
-use Rattle.reader.specs.TagBytes.{tagText}
+use Rattle.reader.specs.Tag.{trimSpan, trimPart, bracketOf, endsQuoted, nameOf, isQuoted, valueOf, isComment, commentOf, tagLine, dataBracket, dataAfter, splitOf, tagText}
 use Rattle.reader.specs.Lines.{isBlank, hasBrace, splitLine, bracketLine, lineKind}
 use Rattle.reader.specs.Words.{levelOf, bidCode, isPass, underscoreCode, signCode, callOf, callToken, isMark, sectionEnd, isAllPass, cardNumber, cardNamed, isDoubling, contractTrump, isNoSide, isBothSides, vulnerabilityOf, vulnerabilityToken}
 use Rattle.reader.specs.Names.{tagNames, tagNumber}

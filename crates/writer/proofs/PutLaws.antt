@@ -5,7 +5,7 @@ use mathlib.Core.List.{List, [], _∷_, _++_}
 use native.Mathlib.Omega.{arith}
 use lib.ListN.{length, length-append}
 use lib.Seq.{sets, length-sets}
-use Rattle.tables.specs.Page.{Put}
+use Rattle.tables.specs.PageSteps.{Put}
 use Rattle.tables.proofs.PageLaws.{put-then, ToPut, to-put, putting, put-all}
 use Rattle.writer.specs.Puts.{Puts}
 

@@ -13,13 +13,13 @@ use borrow.Author.Tests.{lt-ltb}
 use Rattle.tables.specs.declared.letters.Conventions.{Conventions}
 use Rattle.tables.proofs.Laws.{by-cases, clash}
 use Rattle.reader.specs.Words.{same}
-use Rattle.reader.specs.TagBytes.{tagText}
+use Rattle.reader.specs.Tag.{tagText}
 use Rattle.reader.specs.Plain.{TagPair, Remark, PlainAuction, PlainBoard}
 use Rattle.reader.proofs.WordLaws.{same-self, same-is}
 use Rattle.reader.proofs.PlainSizes.{remarksSize}
 use Rattle.writer.specs.Sections.{noteAt, noteValue, notesFrom, noteValues}
 use Rattle.writer.specs.Tags.{WrittenTag, named, writtenTags}
-use Rattle.writer.specs.Steps.{presentOf, isTagWritten}
+use Rattle.writer.specs.PresentSteps.{presentOf, isTagWritten}
 use Rattle.writer.specs.Remarks.{Anchored, anchoredFrom, directivesOf, blocksOf, those, isLeading, isUnder, wrote, tagUnwritten, WrittenLine, tagLine, dataLine, directiveLine, blockLine, directiveLines, blockLines, directivesAfter, blocksAfter, tagsLines, leadingLines, bodyLines, lineText, linesText}
 use Rattle.writer.proofs.NamesOnce.{once, timesWritten, wrote-times, number, noteCount, TimesWritten}
 

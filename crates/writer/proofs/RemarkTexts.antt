@@ -20,7 +20,7 @@ use Rattle.reader.proofs.PlainAnchors.{TagsBefore}
 use Rattle.writer.specs.declared.remarks.Sought.the-variants.{Leading, Under, Unwritten}
 use Rattle.writer.specs.Tags.{named, writtenTags}
 use Rattle.writer.specs.Remarks.{Anchored, nameAt, anchorOf, anchoredFrom, those, isLeading, isUnder, tagUnwritten, WrittenLine, directiveLine, blockLine, directiveLines, blockLines, lineText, linesText}
-use Rattle.writer.specs.Steps.{presentOf}
+use Rattle.writer.specs.PresentSteps.{presentOf}
 use Rattle.writer.specs.Items.{soughtBy, isFirst, remarkText, remarksText, afterText, isRemark, hasRemarks}
 use Rattle.writer.proofs.NamesOnce.{Written}
 

@@ -25,7 +25,8 @@ use Rattle.reader.specs.declared.line.Line.the-variants.{Blank, Brace, Directiv
 use Rattle.reader.specs.declared.line.TagReading.{TagReading}
 use Rattle.reader.specs.declared.line.TagReading.the-variants.{Plain, WithComment, WithData}
 use Rattle.reader.specs.declared.board.State.{State}
-use Rattle.reader.specs.Tag.{cut, trimSpan, isComment, withComment, tagLine, splitOf, splitPlaced}
+use Rattle.reader.specs.Tag.{cut, trimSpan, isComment, withComment, tagLine, splitOf}
+use Rattle.reader.specs.TagSteps.{splitPlaced}
 use Rattle.reader.specs.TagBytes.{Cut, past, close, unquote, filled, TagBytes, readTag, tagBytes, SplitBytes, readSplit, splitBytes}
 use Rattle.reader.specs.Lines.{lastBrace, isBlank, splitAs, splitLine, bracketAs, bracketLine, kindBy, lineKind, opensBoard}
 use Rattle.reader.specs.Pieces.{Out, entry, joinLine, rawLines}

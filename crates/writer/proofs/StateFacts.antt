@@ -16,7 +16,7 @@ use Rattle.planning.specs.declared.state.BoardState.the-variants.{Blank, Own, O
 use Rattle.planning.specs.Cards.{cardDeal, isWhole, hasTable, hasDeal, fits}
 use Rattle.planning.specs.States.{BoardPlan, firstFrom, firstWith, orElse, stateNumber, stateOf, boardPlansFrom, boardPlans}
 use Rattle.planning.specs.Slips.{countOf, cardFrom}
-use Rattle.planning.specs.Steps.{tally}
+use Rattle.planning.specs.PlanSteps.{tally}
 use Rattle.planning.proofs.FoundLaws.{found, found-none, none-found, card-among, numbered, take-card}
 
 -- ---- cards that no state tells apart

@@ -13,7 +13,8 @@ use Rattle.tables.specs.declared.page.Written.{Written as PageWritten}
 use Rattle.tables.specs.declared.page.Written.the-variants.{Bytes}
 use Rattle.tables.specs.declared.page.Written.the-variants as paged
 use Rattle.tables.specs.declared.refusal.Refusal.the-variants as refusal
-use Rattle.tables.specs.Page.{Put, PageEnded, Wrote, cleared, pageOf, answerOf}
+use Rattle.tables.specs.Page.{Wrote, pageOf, answerOf}
+use Rattle.tables.specs.PageSteps.{Put, PageEnded, cleared}
 use Rattle.tables.proofs.PageLaws.{finished}
 use Rattle.tables.proofs.Laws.{by-cases, clash}
 use Rattle.reader.specs.declared.edition.Reading.the-variants.{Taken}
@@ -27,7 +28,8 @@ use Rattle.writer.specs.declared.write.Writing.the-variants.{Written, Re
 use Rattle.writer.specs.Puts.{Puts}
 use Rattle.writer.specs.Pages.{writtenText}
 use Rattle.writer.specs.BoardTexts.{pageHeld}
-use Rattle.writer.specs.Writings.{pageAnswer, writtenBy, writingOf, isWritten, pageAfter, WritingEnded, IsWritten}
+use Rattle.writer.specs.Writings.{pageAnswer, writtenBy, writingOf, isWritten, pageAfter, IsWritten}
+use Rattle.writer.specs.WritingSteps.{WritingEnded}
 use Rattle.writer.proofs.HeldBoards.{Holds, taken-holds}
 use Rattle.writer.proofs.HeldPages.{PageHeld}
 use Rattle.writer.proofs.Sizes.{BytesFew}

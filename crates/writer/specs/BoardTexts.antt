@@ -14,7 +14,7 @@ use Rattle.reader.specs.Plain.{Item, PlainValues}
 use Rattle.writer.specs.declared.present.Present.{Present}
 use Rattle.writer.specs.declared.remarks.Sought.the-variants.{Leading, Unwritten}
 use Rattle.writer.specs.Sections.{noteValues}
-use Rattle.writer.specs.Steps.{isAny}
+use Rattle.writer.specs.PresentSteps.{isAny}
 use Rattle.writer.specs.Pages.{builtInHeader}
 use Rattle.writer.specs.Tags.{orEmpty, seatText, resultText, firstSeat}
 use Rattle.writer.specs.Held.{cardWord, cardPart, itemsAt, boardItems, sectionItems, valueHeld}

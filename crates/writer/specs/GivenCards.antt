@@ -7,16 +7,16 @@ use mathlib.Core.List.{List, [], _∷_, _++_, map}
 use lib.Dec.{eqb, leb}
 use lib.ListN.{length, getD, take, drop, replicate}
 use Rattle.tables.specs.declared.letters.Conventions.{Conventions}
-use Rattle.tables.specs.Page.{cleared as ended}
+use Rattle.tables.specs.PageSteps.{cleared as ended}
 use Rattle.reader.specs.declared.board.TableCard.{TableCard}
 use Rattle.reader.specs.Store.{flat, zeros}
 use Rattle.planning.specs.declared.state.BoardState.{BoardState}
 use Rattle.planning.specs.declared.state.BoardState.the-variants.{Blank, Own, Old, Near, Twin, Solve}
-use Rattle.planning.specs.Cards.{isWhole, hasTable, cardsIn, cardHere}
+use Rattle.planning.specs.Cards.{isWhole, hasTable, cardHere}
+use Rattle.planning.specs.PlanSteps.{cardsIn, BoxesKept}
 use Rattle.planning.specs.States.{BoardPlan, boardPlans}
 use Rattle.planning.specs.Slips.{totalsOf}
 use Rattle.planning.specs.Plans.{Boxes}
-use Rattle.planning.specs.Steps.{BoxesKept}
 use Rattle.writer.specs.declared.finish.FinishRefusal.the-variants.{Answers, Impossible}
 use Rattle.writer.specs.declared.finish.Checked.{Checked}
 use Rattle.writer.specs.declared.finish.Checked.the-variants.{Right, Wrong}

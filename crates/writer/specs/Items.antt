@@ -18,7 +18,7 @@ use Rattle.tables.specs.Text.{ascii, trimmed, before}
 use Rattle.tables.specs.Numbers.{numberOf, decimal}
 use Rattle.writer.specs.declared.notes.Note.{Note}
 use Rattle.writer.specs.Tags.{WrittenTag}
-use Rattle.writer.specs.Steps.{isTagWritten}
+use Rattle.writer.specs.PresentSteps.{isTagWritten}
 use Rattle.writer.specs.Held.{entryWord, placeBytes, itemsAt}
 
 -- ---- names

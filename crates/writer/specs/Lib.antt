@@ -4,10 +4,11 @@ pub mod Remarks
 pub mod Pages
 pub mod Held
 pub mod Puts
-pub mod Steps
+pub mod PresentSteps
 pub mod Items
 pub mod BoardTexts
 pub mod Writings
+pub mod WritingSteps
 pub mod Given
 pub mod GivenCards
 pub mod Finishings

@@ -4,7 +4,7 @@ use Prim.Native.Nat.{ℕ, _+_, _≤_}
 use mathlib.Core.Path.{_≡_}
 use mathlib.Core.List.{List}
 use lib.ListN.{length}
-use Rattle.tables.specs.Page.{Put}
+use Rattle.tables.specs.PageSteps.{Put}
 
 -- bs is put at `at`, and r is the place behind it.
 pub record Puts (page : List ℕ) (at : ℕ) (bs : List ℕ) (page′ : List ℕ) (r : ℕ) : Type 0 where

@@ -5,7 +5,7 @@ use mathlib.Core.List.{List, [], _∷_, _++_, map}
 use mathlib.Core.Option.{Option, none, some}
 use Rattle.tables.specs.declared.letters.Conventions.{Conventions}
 use Rattle.reader.specs.Words.{same}
-use Rattle.reader.specs.TagBytes.{tagText}
+use Rattle.reader.specs.Tag.{tagText}
 use Rattle.reader.specs.Plain.{TagPair, Remark, PlainBoard}
 use Rattle.writer.specs.Tags.{WrittenTag, writtenTags}
 

@@ -6,11 +6,10 @@ use mathlib.Core.List.{List}
 use lib.Dec.{leb}
 use lib.ListN.{length, replicate}
 use Rattle.tables.specs.declared.letters.Conventions.{Conventions}
-use Rattle.tables.specs.Page.{cleared}
 use Rattle.reader.specs.declared.edition.Reading.{Reading}
 use Rattle.reader.specs.declared.edition.Reading.the-variants.{Taken}
 use Rattle.reader.specs.declared.edition.Reading.the-variants as reading
-use Rattle.reader.specs.Store.{zeros, padded, lent}
+use Rattle.reader.specs.Store.{padded, lent}
 use Rattle.reader.specs.Editions.{readNumber, readCarries, readingOf, cardsOf, entriesOf}
 use Rattle.writer.specs.declared.write.WriteRefusal.{WriteRefusal}
 use Rattle.writer.specs.declared.write.WriteRefusal.the-variants.{Edition, PageFull}
@@ -46,18 +45,11 @@ abbrev pub isWritten : Writing → Bool
 isWritten (Written n) = true
 isWritten (Refused f) = false
 
--- ---- contracts
+-- ---- the contract
 
 -- A page of m bytes after a call: the bytes bs and zeros behind them where all went well, nothing but zeros after a refusal.
 abbrev pub pageAfter : Bool → List ℕ → ℕ → List ℕ
 pageAfter well bs m = cond well (padded m bs) (replicate m 0)
-
--- n bytes were put on the page: zeros behind them, or nothing but zeros, in the boxes too, where they did not fit.
-pub record WritingEnded (n : ℕ) (cards entries page : List ℕ) (r : Writing) (cards′ entries′ page′ : List ℕ) : Type 0 where
-  pub answer : r ≡ pageAnswer n (length page)
-  pub page-after : page′ ≡ cond (leb n (length page)) (cleared page n) (zeros page)
-  pub cards-after : cards′ ≡ cond (leb n (length page)) cards (zeros cards)
-  pub entries-after : entries′ ≡ cond (leb n (length page)) entries (zeros entries)
 
 -- The contract of writing: the answer, every byte of the page and every word of the boxes. What is not used is zero; after a refusal all is.
 pub record IsWritten (c : Conventions) (text cards entries page : List ℕ) (r : Writing) (cards′ entries′ page′ : List ℕ) : Type 0 where

@@ -5,7 +5,7 @@ ghost use Prim.Native.Nat.{_+_, _*_, _≤_};
 ghost use lib.ListN.{length};
 ghost use Rattle.tables.specs.Letters.{builtIn};
 ghost use Rattle.reader.specs.Store.{zeros};
-ghost use Rattle.planning.specs.Steps.{BoxesKept};
+ghost use Rattle.planning.specs.PlanSteps.{BoxesKept};
 ghost use Rattle.writer.specs.GivenCards.{marked, givenCleared, changedAt, changedAll, checkedOf, FinishEnded, FinishPut, BoardsFinished};
 ghost use Rattle.writer.specs.Finishings.{finishNumber, finishCarries, finishEdition, firstAbove, IsFinished};
 use crate::give::give_tables;

@@ -7,7 +7,7 @@ ghost use lib.Dec.{ltb, leb};
 ghost use Rattle.tables.specs.Text.{ascii};
 ghost use Rattle.writer.specs.Puts.{Puts};
 ghost use Rattle.writer.specs.Sections.{noteValues};
-ghost use Rattle.writer.specs.Steps.{isAny};
+ghost use Rattle.writer.specs.PresentSteps.{isAny};
 ghost use Rattle.writer.specs.Held.{itemsAt};
 ghost use Rattle.writer.specs.Items.{afterText, tagLineText, notesText, tagsAt, noteNumber, noteNumberAt, nextNote, noteText};
 use crate::held::bytes_at;

@@ -1,6 +1,6 @@
 // Which tags of a board are written, decided by the numbers of their names.
 ghost use mathlib.Core.Path.{_≡_};
-ghost use Rattle.writer.specs.Steps.{isTagWritten};
+ghost use Rattle.writer.specs.PresentSteps.{isTagWritten};
 use reader::names;
 
 // What of a board there is: an id, a dealer, a table, an optimum score, a par contract, an auction, notes of it, a play.

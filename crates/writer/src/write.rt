@@ -2,7 +2,8 @@
 ghost use mathlib.Core.Path.{_≡_};
 ghost use Rattle.tables.specs.Letters.{builtIn};
 ghost use Rattle.reader.specs.Store.{zeros};
-ghost use Rattle.writer.specs.Writings.{writeNumber, writeCarries, WritingEnded, IsWritten};
+ghost use Rattle.writer.specs.Writings.{writeNumber, writeCarries, IsWritten};
+ghost use Rattle.writer.specs.WritingSteps.{WritingEnded};
 use crate::page::put_page;
 use reader::edition::ReadRefusal;
 use reader::edition::Reading;

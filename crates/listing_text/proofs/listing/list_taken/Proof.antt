@@ -1,6 +1,6 @@
 use Rattle.listing_text.proofs.ListingLaws.{listed-low, boards-refused, boards-listed}
 use Rattle.planning.specs.States.{boardPlans}
-use Rattle.planning.specs.Cards.{cardsIn}
+use Rattle.planning.specs.PlanSteps.{cardsIn}
 use denote.Ref.{now}
 use mathlib.Core.Path.{refl, _∙_}
 use native.Mathlib.Omega.{arith}

@@ -1,7 +1,7 @@
 use Prim.Native.Nat.{_-_}
 use native.Mathlib.Omega.{arith}
 use denote.Ref.{now}
-use Rattle.planning.specs.Cards.{cardsIn}
+use Rattle.planning.specs.PlanSteps.{cardsIn}
 use Rattle.planning.proofs.PlanLaws.{Rows, rows-first, rows-next, rows-end}
 use borrow.Author.Needs.{needs}
 use Rattle.planning.proofs.boards.put_boards.Statement.{statement}

@@ -1,5 +1,5 @@
 use native.Mathlib.Omega.{arith}
-use Rattle.planning.specs.Steps.{counted}
+use Rattle.planning.specs.PlanSteps.{counted}
 use borrow.Author.Needs.{needs}
 use Rattle.planning.proofs.plan.counted.Statement.{statement}
 use Rattle.planning.proofs.plan.counted.Tie as tie

@@ -1,7 +1,7 @@
 use Prim.Native.Nat.{_-_}
 use native.Mathlib.Omega.{arith}
 use denote.Ref.{now}
-use Rattle.planning.specs.Cards.{cardsIn}
+use Rattle.planning.specs.PlanSteps.{cardsIn}
 use Rattle.planning.proofs.PlanLaws.{Turn, turn-first, turn-next, turn-end, turn-within}
 use Rattle.planning.proofs.plan.put_slips.Statement.{statement}
 use Rattle.planning.proofs.plan.put_slips.Tie as tie

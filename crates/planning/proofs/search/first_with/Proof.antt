@@ -3,7 +3,8 @@ use mathlib.Core.Path.{sym, _∙_, _≡_}
 use Prim.Native.Nat.{_+_, _*_, _-_, _≤_}
 use native.Mathlib.Omega.{arith}
 use denote.Ref.{now}
-use Rattle.planning.specs.Cards.{fits, cardsIn}
+use Rattle.planning.specs.Cards.{fits}
+use Rattle.planning.specs.PlanSteps.{cardsIn}
 use Rattle.planning.specs.States.{firstFrom, firstWith}
 use lib.ListN.{drop}
 use borrow.Author.Needs.{needs}

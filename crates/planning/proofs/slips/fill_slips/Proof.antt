@@ -48,7 +48,7 @@ use denote.Triple.Table.{entered, cited}
 use denote.Triple.Walked.{says, needs, Stays, stay-slice, stay-none, stay-none-slice, walkOf, Walks, ends-at, walked, goes-slice, goes-none, goes-none-slice, walk-meets}
 use Rattle.planning.specs.declared.slips.Slip.{Slip}
 use Rattle.planning.specs.declared.slips.NextSlip.{NextSlip}
-use Rattle.planning.specs.Fills.{nextOf, filledFrom}
+use Rattle.planning.specs.SlipSteps.{nextOf, filledFrom}
 use Rattle.planning.proofs.FillLaws.{filledAt, filled-is}
 use Rattle.planning.proofs.slips.Slip as S
 use Rattle.planning.proofs.slips.Slip.Laws as S′

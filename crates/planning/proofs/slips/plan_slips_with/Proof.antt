@@ -47,7 +47,7 @@ use Rattle.tables.specs.declared.letters.Conventions.{Conventions}
 use Rattle.planning.specs.declared.plan.Planning.{Planning}
 use Rattle.planning.specs.Slips.{slipNumbers}
 use Rattle.planning.specs.Plans.{Boxes, IsPlanned}
-use Rattle.planning.specs.Fills.{nextOf, filledFrom, IsCounted}
+use Rattle.planning.specs.SlipSteps.{nextOf, filledFrom, IsCounted}
 use Rattle.planning.proofs.StructLaws.{slips-planned}
 use Rattle.planning.proofs.Lending.{named-as, lends, shares}
 use Rattle.planning.proofs.slips.Slip as S

@@ -1,4 +1,5 @@
-use Rattle.planning.specs.Slips.{slipOf, slipStruct}
+use Rattle.planning.specs.Slips.{slipOf}
+use Rattle.planning.specs.SlipSteps.{slipStruct}
 use borrow.Author.Needs.{needs}
 use Rattle.planning.proofs.slips.slip_here.Statement.{statement}
 use Rattle.planning.proofs.slips.slip_here.Tie as tie

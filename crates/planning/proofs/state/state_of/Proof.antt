@@ -1,5 +1,6 @@
 use Rattle.planning.proofs.StateLaws.{deal-whole, state-blank, state-own, state-old, state-near, state-twin, state-solve}
-use Rattle.planning.specs.Cards.{cardsIn, cardHere}
+use Rattle.planning.specs.Cards.{cardHere}
+use Rattle.planning.specs.PlanSteps.{cardsIn}
 use denote.Ref.{now}
 use borrow.Author.Tests.{not-true, not-false}
 use native.Mathlib.Omega.{arith}

@@ -2,7 +2,7 @@ use Prim.Native.Nat.{_+_, _-_}
 use native.Mathlib.Omega.{arith}
 use denote.Ref.{now}
 use mathlib.Core.Path.{_≡_}
-use Rattle.planning.specs.Cards.{cardsIn}
+use Rattle.planning.specs.PlanSteps.{cardsIn}
 use Rattle.planning.proofs.BoardLaws.{state-here, state-past}
 use borrow.Author.Needs.{needs}
 use Rattle.planning.proofs.state_at.state_in.Statement.{statement}

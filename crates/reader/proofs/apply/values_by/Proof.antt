@@ -1,5 +1,5 @@
 use borrow.Author.Needs.{needs}
-use Rattle.reader.specs.Boards.{valuesPut}
+use Rattle.reader.specs.BoardSteps.{valuesPut}
 use Rattle.reader.proofs.apply.values_by.Statement.{statement}
 use Rattle.reader.proofs.apply.values_by.Tie as tie
 

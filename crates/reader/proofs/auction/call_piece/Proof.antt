@@ -3,7 +3,7 @@ use mathlib.Core.Path.{refl, ap, _≡_}
 use native.Mathlib.Omega.{arith}
 use lib.ListN.{length-take, length-drop, length}
 use denote.Ref.{now}
-use Rattle.reader.specs.Pieces.{piece}
+use Rattle.reader.specs.PieceSteps.{piece}
 use Rattle.reader.specs.Auction.{called, calledPiece}
 use Rattle.reader.proofs.TokenLaws.{AtToken, reading-start, reading-some, reading-next, reading-done}
 use Rattle.reader.proofs.AuctionLaws.{next-call-count}

@@ -1,7 +1,7 @@
 use mathlib.Core.Path.{sym, _∙_}
 use Prim.Native.Nat.{_+_}
 use denote.Ref.{now}
-use Rattle.reader.specs.Pieces.{piece}
+use Rattle.reader.specs.PieceSteps.{piece}
 use Rattle.reader.proofs.AuctionLaws.{step-stopped, step-plus, step-star, step-annotation, step-lost, step-none, step-as}
 use borrow.Author.Needs.{needs}
 use Rattle.reader.proofs.auction.call_step.Statement.{statement}

@@ -4,7 +4,7 @@ use mathlib.Core.Path.{sym, _∙_}
 use Prim.Native.Nat.{_+_, _*_, _^_, _<_}
 use borrow.Author.Needs.{needs}
 use borrow.Author.Tests.{eq-eqb, ne-eqb}
-use Rattle.reader.specs.Deals.{addCard}
+use Rattle.reader.specs.DealSteps.{addCard}
 use Rattle.reader.proofs.deal.add_card.Statement.{statement}
 use Rattle.reader.proofs.deal.add_card.Tie as tie
 

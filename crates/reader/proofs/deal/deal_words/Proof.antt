@@ -1,6 +1,6 @@
 use native.Mathlib.Omega.{arith}
 use borrow.Author.Needs.{needs}
-use Rattle.reader.specs.Deals.{dealWords}
+use Rattle.reader.specs.DealSteps.{dealWords}
 use Rattle.reader.proofs.deal.deal_words.Statement.{statement}
 use Rattle.reader.proofs.deal.deal_words.Tie as tie
 

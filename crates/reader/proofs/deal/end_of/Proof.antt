@@ -1,5 +1,5 @@
 use borrow.Author.Tests.{eq-eqb, ne-eqb}
-use Rattle.reader.specs.Deals.{endOf}
+use Rattle.reader.specs.DealSteps.{endOf}
 use Rattle.reader.proofs.deal.end_of.Statement.{statement}
 use Rattle.reader.proofs.deal.end_of.Tie as tie
 

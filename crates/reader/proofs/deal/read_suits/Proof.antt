@@ -2,7 +2,7 @@ use Rattle.reader.proofs.DealLaws.{word-more, word-stop, word-end, end-
 use native.Mathlib.Omega.{arith}
 use mathlib.Core.Path.{refl, sym, _∙_, _≡_}
 use Rattle.tables.specs.Text.{word}
-use Rattle.reader.specs.Deals.{runFrom, startHand, Fine}
+use Rattle.reader.specs.DealSteps.{runFrom, startHand, Fine}
 use Prim.Native.Nat.{_-_, _≤_}
 use lib.ListN.{length, drop}
 use borrow.Author.Needs.{needs}

@@ -1,6 +1,6 @@
 use borrow.Author.Needs.{needs}
 use borrow.Author.Tests.{eq-eqb, ne-eqb}
-use Rattle.reader.specs.Deals.{stepOf}
+use Rattle.reader.specs.DealSteps.{stepOf}
 use Rattle.reader.proofs.deal.stepped.Statement.{statement}
 use Rattle.reader.proofs.deal.stepped.Tie as tie
 

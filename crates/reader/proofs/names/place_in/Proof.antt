@@ -2,7 +2,7 @@ use native.Mathlib.Omega.{arith}
 use mathlib.Core.Path.{refl}
 use denote.Ref.{now}
 use Prim.Native.Nat.{_+_, _*_}
-use Rattle.reader.specs.Names.{placeIn}
+use Rattle.reader.specs.NameSteps.{placeIn}
 use Rattle.reader.proofs.NameLaws.{place-step, place-stop}
 use Prim.Native.Nat.{_-_, _≤_}
 use mathlib.Core.Path.{_≡_}

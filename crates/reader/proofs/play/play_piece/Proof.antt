@@ -3,8 +3,9 @@ use mathlib.Core.Path.{refl, ap, _≡_}
 use native.Mathlib.Omega.{arith}
 use lib.ListN.{length-drop, length}
 use denote.Ref.{now}
-use Rattle.reader.specs.Pieces.{piece}
-use Rattle.reader.specs.Play.{playedToken, playedPiece, Seated}
+use Rattle.reader.specs.PieceSteps.{piece}
+use Rattle.reader.specs.Play.{playedToken, playedPiece}
+use Rattle.reader.specs.TokenSteps.{Seated}
 use Rattle.reader.proofs.TokenLaws.{AtToken, reading-start, reading-some, reading-next, reading-done}
 use Rattle.reader.proofs.PlayLaws.{next-trick-count, next-trick-few}
 use borrow.Author.Needs.{needs}

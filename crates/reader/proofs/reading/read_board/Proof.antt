@@ -3,7 +3,7 @@ use Rattle.reader.proofs.ReadingLaws.{section-none, kind-data, kind-dir
 use Rattle.reader.proofs.TagStepLaws.{sound-later, closed-tags, closed-sound, read-closed}
 use Rattle.reader.proofs.SectionLaws.{LineAt, line-at}
 use Rattle.reader.specs.Boards.{countedState, closed}
-use Rattle.reader.specs.Pieces.{Emits}
+use Rattle.reader.specs.PieceSteps.{Emits}
 use borrow.Author.Tests.{eq-eqb}
 use native.Mathlib.Omega.{arith}
 use mathlib.Core.Path.{_≡_, refl, ap, _∙_}

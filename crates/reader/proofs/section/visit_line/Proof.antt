@@ -1,5 +1,5 @@
 use borrow.Author.Needs.{needs}
-use Rattle.reader.specs.Sections.{visitOf}
+use Rattle.reader.specs.SectionSteps.{visitOf}
 use Rattle.reader.proofs.section.visit_line.Statement.{statement}
 use Rattle.reader.proofs.section.visit_line.Tie as tie
 

@@ -3,8 +3,8 @@ use denote.Ref.{now}
 use Prim.Native.Nat.{_+_}
 use lib.ListN.{length}
 use native.Mathlib.Omega.{arith}
-use Rattle.reader.specs.Pieces.{piece}
-use Rattle.reader.specs.Sections.{walkCount}
+use Rattle.reader.specs.PieceSteps.{piece}
+use Rattle.reader.specs.SectionSteps.{walkCount}
 use Rattle.reader.proofs.WalkLaws.{piece-called, piece-played, piece-row}
 use Rattle.reader.proofs.section.walk_piece.Statement.{statement}
 use Rattle.reader.proofs.section.walk_piece.Tie as tie

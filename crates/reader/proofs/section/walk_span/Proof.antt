@@ -5,8 +5,9 @@ use mathlib.Core.Path.{_≡_}
 use lib.ListN.{take, drop}
 use native.Mathlib.Omega.{arith}
 use borrow.Author.Tests.{eq-eqb, ne-eqb}
-use Rattle.reader.specs.Pieces.{piece}
-use Rattle.reader.specs.Sections.{walked, walkCount}
+use Rattle.reader.specs.PieceSteps.{piece}
+use Rattle.reader.specs.Sections.{walked}
+use Rattle.reader.specs.SectionSteps.{walkCount}
 use Rattle.reader.proofs.WalkLaws.{cut-short, walk-none, span-one}
 use Rattle.reader.proofs.section.walk_span.Statement.{statement}
 use Rattle.reader.proofs.section.walk_span.Tie as tie

@@ -4,7 +4,7 @@ use mathlib.Core.Path.{refl, sym, _∙_, _≡_}
 use native.Mathlib.Omega.{arith}
 use lib.ListN.{length-set, length}
 use borrow.Author.Needs.{needs}
-use Rattle.tables.specs.Page.{cleared}
+use Rattle.tables.specs.PageSteps.{cleared}
 use Rattle.tables.proofs.PageLaws.{clear-more, clear-done}
 use Rattle.tables.proofs.page.zero_from.Statement.{statement}
 use Rattle.tables.proofs.page.zero_from.Tie as tie

@@ -1,7 +1,7 @@
 use Prim.Native.Nat.{_-_}
 use native.Mathlib.Omega.{arith}
 use denote.Ref.{now}
-use Rattle.planning.specs.Cards.{cardsIn}
+use Rattle.planning.specs.PlanSteps.{cardsIn}
 use Rattle.writer.proofs.GiveLaws.{Giving, giving-first, giving-next, giving-few, giving-end}
 use borrow.Author.Needs.{needs}
 use Rattle.writer.proofs.give.give_tables.Statement.{statement}

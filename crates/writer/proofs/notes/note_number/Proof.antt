@@ -1,4 +1,4 @@
-use Rattle.tables.specs.Numbers.{within}
+use Rattle.tables.specs.NumberSteps.{within}
 use Rattle.writer.specs.Items.{orNone}
 use Rattle.writer.proofs.NoteLaws.{number-of, number-no}
 use mathlib.Core.Path.{_≡_, sym, refl, ap, _∙_}

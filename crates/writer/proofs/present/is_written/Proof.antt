@@ -1,4 +1,4 @@
-use Rattle.writer.specs.Steps.{isTagWritten}
+use Rattle.writer.specs.PresentSteps.{isTagWritten}
 use borrow.Author.Tests.{ne-eqb}
 use borrow.Author.Needs.{needs}
 use Rattle.writer.proofs.present.is_written.Statement.{statement}

@@ -1,5 +1,5 @@
 -- What the inner functions of planning with structs answer: the next slip, structs filled one after the other, and the plan before it is filled in.
-use Prim.Native.Nat.{ℕ, zero, suc, _+_, _*_, _≤_}
+use Prim.Native.Nat.{ℕ, zero, suc, _+_, _*_, _≤_, _-_}
 use mathlib.Core.Path.{_≡_}
 use mathlib.Core.Bool.{cond}
 use mathlib.Core.List.{List, [], _∷_}
@@ -8,10 +8,14 @@ use Rattle.tables.specs.declared.letters.Conventions.{Conventions}
 use Rattle.planning.specs.declared.slips.Slip.{Slip}
 use Rattle.planning.specs.declared.slips.NextSlip.{NextSlip}
 use Rattle.planning.specs.declared.slips.Counted.{Counted}
-use Rattle.planning.specs.Cards.{cardsIn}
+use Rattle.planning.specs.PlanSteps.{cardsIn}
 use Rattle.planning.specs.States.{BoardPlan, boardPlans, isSolve}
-use Rattle.planning.specs.Slips.{slipStruct, slipsOf}
 use Rattle.planning.specs.Plans.{Boxes, plansOf, planningOf, isPlanned, BoxesAfter}
+use Rattle.planning.specs.Cards.{handsOf}
+
+-- A slip as a struct.
+unfoldable pub slipStruct : ℕ → List ℕ → Slip
+slipStruct p card = record { position = p; north = handsOf card .north; east = handsOf card .east; south = handsOf card .south; west = handsOf card .west }
 
 -- A struct of zeros.
 abbrev pub noSlip : Slip

@@ -1,17 +1,22 @@
 -- What the inner functions of planning answer: a board of lent cards, totals board by board, and the end of planning.
-use Prim.Native.Nat.{ℕ, _+_, _≤_, _/_}
+use Prim.Native.Nat.{ℕ, _+_, _≤_, _/_, zero, suc}
 use mathlib.Core.Path.{_≡_}
 use mathlib.Core.Bool.{Bool, cond}
-use mathlib.Core.List.{List}
+use mathlib.Core.List.{List, [], _∷_}
 use lib.Dec.{eqb}
-use lib.ListN.{length}
+use lib.ListN.{length, take, drop}
 use Rattle.reader.specs.Store.{zeros}
 use Rattle.planning.specs.declared.state.BoardState.{BoardState}
 use Rattle.planning.specs.declared.plan.Totals.{Totals}
 use Rattle.planning.specs.declared.plan.Planning.{Planning}
-use Rattle.planning.specs.Cards.{cardsIn, cardHere}
+use Rattle.planning.specs.Cards.{cardHere}
 use Rattle.planning.specs.States.{BoardPlan, stateOf, stateNumber}
 use Rattle.planning.specs.Plans.{Boxes, slipsAnswer, isPlanned}
+
+-- The first n cards of lent words.
+abbrev pub cardsIn : ℕ → List ℕ → List (List ℕ)
+cardsIn zero box = []
+cardsIn (suc n) box = take 64 box ∷ cardsIn n (drop 64 box)
 
 -- The board at index k of the lent cards of the new edition.
 abbrev pub planHere : List (List ℕ) → List (List ℕ) → ℕ → List ℕ → BoardPlan
