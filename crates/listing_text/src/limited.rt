@@ -10,7 +10,7 @@ use reader::edition::read_pbn_with;
 use tables::letters::Conventions;
 
 // Reads both editions, if neither is longer than the limit. A refusal of either leaves all lent words zero.
-pub fn read_both_limited(
+pub(crate) fn read_both_limited(
     c: Conventions,
     old: &[u8],
     new: &[u8],

@@ -44,7 +44,7 @@ fn put_pair(page: &mut [u8], at: usize, name: &[u8], n: u64) -> usize
 }
 
 // The line of the board at the position p.
-pub fn put_board(page: &mut [u8], at: usize, p: u64, s: BoardState) -> usize
+pub(crate) fn put_board(page: &mut [u8], at: usize, p: u64, s: BoardState) -> usize
     requires { ⌜ (at + 100 ≤ 1099511627776) × (p < 4294967296) × (fromOf s < 4294967296) ⌝ }
     ensures { λ r. ⌜ Put (now (page .entry)) at (boardLine p s) (now (page .exit)) r × (r ≤ at + 60) ⌝ }
 {
@@ -55,7 +55,7 @@ pub fn put_board(page: &mut [u8], at: usize, p: u64, s: BoardState) -> usize
 }
 
 // The line of the totals.
-pub fn put_total(page: &mut [u8], at: usize, t: Totals) -> usize
+pub(crate) fn put_total(page: &mut [u8], at: usize, t: Totals) -> usize
     requires { ⌜ (at + 200 ≤ 1099511627776) × Countable t ⌝ }
     ensures { λ r. ⌜ Put (now (page .entry)) at (totalLine t) (now (page .exit)) r ⌝ }
 {
@@ -80,7 +80,7 @@ fn put_edition(page: &mut [u8], at: usize, edition: u64) -> usize
 }
 
 // The line of a refusal.
-pub fn put_refused(page: &mut [u8], at: usize, f: PlanRefusal) -> usize
+pub(crate) fn put_refused(page: &mut [u8], at: usize, f: PlanRefusal) -> usize
     requires { ⌜ at + 100 ≤ 1099511627776 ⌝ }
     ensures { λ r. ⌜ Put (now (page .entry)) at (refusedLine f) (now (page .exit)) r ⌝ }
 {

@@ -61,7 +61,7 @@ fn new_record(cards: &[u32], n: usize, p: u64) -> Behind
 }
 
 // The record behind the board at the position p of the new edition, whose state is s.
-pub fn behind_state(
+pub(crate) fn behind_state(
     old_cards: &[u32],
     olds: usize,
     new_cards: &[u32],

@@ -21,7 +21,7 @@ use tables::letters::Conventions;
 use tables::letters::built_in;
 
 // 0 none, 1 old, 2 new.
-pub fn edition_of(b: Behind) -> u64
+fn edition_of(b: Behind) -> u64
     ensures { λ r. ⌜ r ≡ getD (behindNumbers b) 0 0 ⌝ }
 {
     match b {
@@ -31,7 +31,7 @@ pub fn edition_of(b: Behind) -> u64
     }
 }
 
-pub fn start_of(b: Behind) -> u64
+fn start_of(b: Behind) -> u64
     ensures { λ r. ⌜ r ≡ getD (behindNumbers b) 1 0 ⌝ }
 {
     match b {
@@ -41,7 +41,7 @@ pub fn start_of(b: Behind) -> u64
     }
 }
 
-pub fn end_of(b: Behind) -> u64
+fn end_of(b: Behind) -> u64
     ensures { λ r. ⌜ r ≡ getD (behindNumbers b) 2 0 ⌝ }
 {
     match b {

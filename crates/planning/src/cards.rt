@@ -7,7 +7,7 @@ use reader::deal::HandWords;
 use reader::deal::hands_of_words;
 
 // Word w of the card.
-pub fn word_of(cards: &[u32], k: usize, w: usize) -> u32
+pub(crate) fn word_of(cards: &[u32], k: usize, w: usize) -> u32
     requires { ⌜ (64 * k + 64 ≤ length (now cards)) × (w < 64) ⌝ }
     ensures { λ r. ⌜ r ≡ getD (cardHere k (now (cards .entry))) w 0 ⌝ }
 {
@@ -15,7 +15,7 @@ pub fn word_of(cards: &[u32], k: usize, w: usize) -> u32
 }
 
 // Its deal, words 10 to 17.
-pub fn deal_at(cards: &[u32], k: usize) -> HandWords
+pub(crate) fn deal_at(cards: &[u32], k: usize) -> HandWords
     requires { ⌜ 64 * k + 64 ≤ length (now cards) ⌝ }
     ensures { λ r. ⌜ r .words ≡ cardDeal (cardHere k (now (cards .entry))) ⌝ }
 {

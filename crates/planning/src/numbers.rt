@@ -17,7 +17,7 @@ pub fn zero_numbers(numbers: &mut [u64])
 }
 
 // Copies src into dst from index at.
-pub fn copy_numbers(dst: &mut [u64], at: usize, src: &[u64])
+fn copy_numbers(dst: &mut [u64], at: usize, src: &[u64])
     requires { ⌜ at + length (now src) ≤ length (now dst) ⌝ }
     ensures { λ _. ⌜ now (dst .exit) ≡ sets (now (dst .entry)) at (now (src .entry)) ⌝ }
 {
@@ -29,7 +29,7 @@ pub fn copy_numbers(dst: &mut [u64], at: usize, src: &[u64])
 }
 
 // Stores the n-th block of five, where there is room for a whole one.
-pub fn put_five(numbers: &mut [u64], n: usize, five: [u64; 5])
+pub(crate) fn put_five(numbers: &mut [u64], n: usize, five: [u64; 5])
     ensures { λ _. ⌜ now (numbers .exit) ≡ put 5 (now (numbers .entry)) n five ⌝ }
 {
     if n < numbers.len() / 5 {

@@ -95,7 +95,7 @@ fn counted(mut t: Totals, s: BoardState) -> Totals
 }
 
 // The slip of the board at index k: its position from 1 and its hands.
-pub fn slip_of(cards: &[u32], k: usize) -> [u64; 5]
+pub(crate) fn slip_of(cards: &[u32], k: usize) -> [u64; 5]
     requires { ⌜ 64 * k + 64 ≤ length (now cards) ⌝ }
     ensures { λ r. ⌜ r ≡ slipOf (k + 1) (cardHere k (now (cards .entry))) ⌝ }
 {
@@ -144,7 +144,7 @@ pub fn put_slips(
 }
 
 // How many boards of the new edition are in each state: their totals alone, with no slip lent.
-pub fn count_boards(old_cards: &[u32], olds: usize, new_cards: &[u32], news: usize) -> Totals
+pub(crate) fn count_boards(old_cards: &[u32], olds: usize, new_cards: &[u32], news: usize) -> Totals
     requires { ⌜ (64 * olds ≤ length (now «old_cards»)) × (64 * news ≤ length (now «new_cards»)) ⌝ }
     ensures { λ r. ⌜ r ≡ totalsOf (boardPlans (cardsIn olds (now («old_cards» .entry))) (cardsIn news (now («new_cards» .entry)))) ⌝ }
 {
@@ -171,7 +171,7 @@ pub fn zero_boxes(
 }
 
 // The answer for the totals where so many slips have room; all cards and entries are set to 0 where it is a refusal.
-pub fn settle(
+pub(crate) fn settle(
     old_cards: &mut [u32],
     old_entries: &mut [u32],
     new_cards: &mut [u32],

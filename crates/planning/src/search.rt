@@ -41,7 +41,7 @@ fn fits(cards: &[u32], k: usize, words: &[u32], tabled: bool) -> bool
 }
 
 // The first of n boards, from 1, with the deal d, which is whole, and a table, where one is sought; 0 where there is none.
-pub fn first_with(cards: &[u32], n: usize, d: HandWords, tabled: bool) -> usize
+pub(crate) fn first_with(cards: &[u32], n: usize, d: HandWords, tabled: bool) -> usize
     requires { ⌜ (64 * n ≤ length (now cards)) × (wholeHands (handsOfWords (d .words)) ≡ true) ⌝ }
     ensures { λ r. ⌜ (r ≡ firstWith tabled (d .words) (cardsIn n (now (cards .entry)))) × (r ≤ n) ⌝ }
 {

@@ -43,7 +43,7 @@ pub struct Counted {
 }
 
 // The slip of the board at index k.
-pub fn slip_here(cards: &[u32], k: usize) -> Slip
+fn slip_here(cards: &[u32], k: usize) -> Slip
     requires { ⌜ 64 * k + 64 ≤ length (now cards) ⌝ }
     ensures { λ r. ⌜ r ≡ slipStruct (k + 1) (cardHere k (now (cards .entry))) ⌝ }
 {
@@ -58,13 +58,7 @@ pub fn slip_here(cards: &[u32], k: usize) -> Slip
 }
 
 // The slip of the first board from index k on that is to be solved; zeros where there is none.
-pub fn next_slip(
-    old_cards: &[u32],
-    olds: usize,
-    new_cards: &[u32],
-    news: usize,
-    k: usize,
-) -> NextSlip
+fn next_slip(old_cards: &[u32], olds: usize, new_cards: &[u32], news: usize, k: usize) -> NextSlip
     requires { ⌜ (64 * olds ≤ length (now «old_cards»)) × (64 * news ≤ length (now «new_cards»)) ⌝ }
     ensures { λ r. ⌜ r ≡ nextOf olds (now («old_cards» .entry)) news (now («new_cards» .entry)) k ⌝ }
 {
@@ -88,13 +82,7 @@ pub fn next_slip(
 }
 
 // Fills the structs with the slips of the boards to solve, as many as there is room for, and the rest with zeros.
-pub fn fill_slips(
-    old_cards: &[u32],
-    olds: usize,
-    new_cards: &[u32],
-    news: usize,
-    slips: &mut [Slip],
-)
+fn fill_slips(old_cards: &[u32], olds: usize, new_cards: &[u32], news: usize, slips: &mut [Slip])
     requires { ⌜ (64 * olds ≤ length (now «old_cards»)) × (64 * news ≤ length (now «new_cards»)) ⌝ }
     ensures { λ _. ⌜ now (slips .exit) ≡ filledFrom (nextOf olds (now («old_cards» .entry)) news (now («new_cards» .entry))) 0 (length (now (slips .entry))) ⌝ }
 {
@@ -121,7 +109,7 @@ fn refused(f: PlanRefusal) -> Counted
 }
 
 // What planning answers where so many slips have room; both editions are then in their boxes, or all is 0.
-pub fn plan_counted(
+fn plan_counted(
     c: Conventions,
     old: &[u8],
     new: &[u8],

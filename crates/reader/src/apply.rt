@@ -208,7 +208,7 @@ fn values_by(k: u8, value: &[u8], place: usize, v: Values) -> Values
 }
 
 // A board after a tag of number k; place is the value's entry plus 1.
-pub fn apply_tag(c: Conventions, k: u8, value: &[u8], place: usize, mut b: Board) -> Board
+pub(crate) fn apply_tag(c: Conventions, k: u8, value: &[u8], place: usize, mut b: Board) -> Board
     ensures { λ r. ⌜ r ≡ applied c k (now (value .entry)) place b ⌝ }
 {
     match k {
@@ -230,7 +230,7 @@ pub fn apply_tag(c: Conventions, k: u8, value: &[u8], place: usize, mut b: Board
     }
 }
 
-pub fn no_open() -> Open
+pub(crate) fn no_open() -> Open
     ensures { λ r. ⌜ r ≡ noOpen ⌝ }
 {
     Open {
@@ -256,7 +256,7 @@ fn seat_open(kind: usize, seat: usize, at: usize, split: Span) -> Open
 }
 
 // The section that a tag opens.
-pub fn open_by(c: Conventions, k: u8, value: &[u8], at: usize, split: Span) -> Open
+pub(crate) fn open_by(c: Conventions, k: u8, value: &[u8], at: usize, split: Span) -> Open
     ensures { λ r. ⌜ (r ≡ openBy c k (now (value .entry)) at split) × (r .seat ≤ 4) × (r .kind ≤ 3) × (r .kind ≡ 2 → r .seat ≤ 3) × (r .kind ≡ 1 → r .seat ≤ 3) ⌝ }
 {
     match k {
@@ -308,7 +308,7 @@ fn no_values() -> Values
 }
 
 // Before the first tag.
-pub fn no_board() -> Board
+pub(crate) fn no_board() -> Board
     ensures { λ r. ⌜ r ≡ noBoard ⌝ }
 {
     let none = Section {

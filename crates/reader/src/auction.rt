@@ -38,7 +38,7 @@ pub struct Bidding {
     pub count: usize,
 }
 
-pub fn no_bidding() -> Bidding
+pub(crate) fn no_bidding() -> Bidding
     ensures { λ r. ⌜ r ≡ noBidding ⌝ }
 {
     Bidding {
@@ -194,7 +194,7 @@ fn call_step(
 }
 
 // All tokens of a piece of data.
-pub fn call_piece(
+pub(crate) fn call_piece(
     c: Conventions,
     b: Bidding,
     s: &[u8],

@@ -253,7 +253,7 @@ fn deal_in(c: Conventions, v: &[u8]) -> DealRead
 }
 
 // Reads the value of a Deal tag.
-pub fn read_deal(c: Conventions, value: &[u8]) -> DealRead
+pub(crate) fn read_deal(c: Conventions, value: &[u8]) -> DealRead
     ensures { λ r. ⌜ (r ≡ dealOf c (now (value .entry))) × inDeal r ⌝ }
 {
     deal_in(c, trim(value))
@@ -269,19 +269,19 @@ pub fn is_whole(h: Hands) -> bool
         & (u64::count_ones(h.west) == 13)
 }
 
-pub fn low_word(x: u64) -> u32
+fn low_word(x: u64) -> u32
     ensures { λ r. ⌜ r ≡ x % 4294967296 ⌝ }
 {
     (x % 4294967296) as u32
 }
 
-pub fn high_word(x: u64) -> u32
+fn high_word(x: u64) -> u32
     ensures { λ r. ⌜ r ≡ x / 4294967296 ⌝ }
 {
     (x / 4294967296) as u32
 }
 
-pub fn from_words(low: u32, high: u32) -> u64
+fn from_words(low: u32, high: u32) -> u64
     ensures { λ r. ⌜ r ≡ high * 4294967296 + low ⌝ }
 {
     (high as u64) * 4294967296 + (low as u64)
@@ -292,7 +292,7 @@ pub struct HandWords {
     pub words: [u32; 8],
 }
 
-pub fn hand_words(h: Hands) -> HandWords
+pub(crate) fn hand_words(h: Hands) -> HandWords
     ensures { λ r. ⌜ r .words ≡ handWords h ⌝ }
 {
     HandWords {

@@ -32,21 +32,21 @@ pub enum Line {
     Data(Span),
 }
 
-pub fn is_blank(line: &[u8]) -> bool
+pub(crate) fn is_blank(line: &[u8]) -> bool
     ensures { λ r. ⌜ r ≡ isBlank (now (line .entry)) ⌝ }
 {
     lead_len(line) == line.len()
 }
 
 // Whether the line has a `}`.
-pub fn has_brace(line: &[u8]) -> bool
+pub(crate) fn has_brace(line: &[u8]) -> bool
     ensures { λ r. ⌜ r ≡ hasBrace (now (line .entry)) ⌝ }
 {
     contains(line, 125)
 }
 
 // The place of the last `}`, the line's length where there is none.
-pub fn last_brace(line: &[u8]) -> usize
+pub(crate) fn last_brace(line: &[u8]) -> usize
     ensures { λ r. ⌜ (r ≡ lastBrace (now (line .entry))) × (r ≤ length (now (line .entry))) ⌝ }
 {
     let mut e = line.len();
@@ -82,7 +82,7 @@ fn bracket_line(line: &[u8]) -> Line
 }
 
 // A line outside commentary, by its first byte that is not white.
-pub fn line_kind(line: &[u8]) -> Line
+pub(crate) fn line_kind(line: &[u8]) -> Line
     ensures { λ r. ⌜ (r ≡ lineKind (now (line .entry))) × linePlaced r (length (now (line .entry))) ⌝ }
 {
     let t = trim_span(line);
@@ -104,7 +104,7 @@ pub fn line_kind(line: &[u8]) -> Line
 }
 
 // Whether the line holds a tag, which opens a board or goes on with one.
-pub fn opens_board(line: &[u8]) -> bool
+pub(crate) fn opens_board(line: &[u8]) -> bool
     ensures { λ r. ⌜ r ≡ opensBoard (lineKind (now (line .entry))) ⌝ }
 {
     match line_kind(line) {

@@ -48,7 +48,7 @@ fn no_slots() -> Slots
     }
 }
 
-pub fn no_tricks() -> Tricks
+pub(crate) fn no_tricks() -> Tricks
     ensures { λ r. ⌜ r ≡ noTricks ⌝ }
 {
     Tricks {
@@ -301,7 +301,7 @@ fn play_step(
 }
 
 // All tokens of a piece of data at the place `at` of its record.
-pub fn play_piece(
+pub(crate) fn play_piece(
     c: Conventions,
     lead: usize,
     trump: usize,
@@ -344,7 +344,7 @@ fn one_more(t: Tricks) -> Tricks
 }
 
 // The section closes: its last trick is stored.
-pub fn last_trick(t: Tricks, a: usize, base: usize, entries: &mut [u32]) -> Tricks
+pub(crate) fn last_trick(t: Tricks, a: usize, base: usize, entries: &mut [u32]) -> Tricks
     requires { ⌜ Seated t × (a ≤ 2 ^ 40) × (base + t .count ≤ 2 ^ 60) ⌝ }
     ensures { λ r. ⌜ Emits a (base + t .count) (now (entries .entry)) (now (entries .exit)) r (lastTrick t) × (r .count ≤ t .count + 1) ⌝ }
 {

@@ -47,7 +47,7 @@ use tables::text::from;
 use tables::text::lead_len;
 use tables::text::upto;
 
-pub fn no_state() -> State
+fn no_state() -> State
     ensures { λ r. ⌜ r ≡ noState ⌝ }
 {
     State {
@@ -184,7 +184,7 @@ fn last_entries(kind: usize, w: Walk, a: usize, base: usize, entries: &mut [u32]
 }
 
 // Closes the open section, if there is one (close_sections): its calls or tricks are added, or its table is taken.
-pub fn close_sections(
+fn close_sections(
     c: Conventions,
     r: &[u8],
     s: State,
@@ -498,7 +498,13 @@ fn quiet_line(
 
 // The board of a record's own text r, which starts at a of its edition; base entries stand before its own. A data line changes the
 // count alone.
-pub fn read_board(c: Conventions, r: &[u8], a: usize, base: usize, entries: &mut [u32]) -> State
+pub(crate) fn read_board(
+    c: Conventions,
+    r: &[u8],
+    a: usize,
+    base: usize,
+    entries: &mut [u32],
+) -> State
     requires { ⌜ (a + length (now r) ≤ 16777215) × (base ≤ 2 ^ 56) ⌝ }
     ensures { λ t. ⌜ Emits a base (now (entries .entry)) (now (entries .exit)) t (recordOut c (now (r .entry))) ⌝ }
 {

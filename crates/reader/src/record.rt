@@ -51,7 +51,7 @@ fn scan_line(s: Scan, l: &[u8]) -> Scan
 }
 
 // The end of the record that starts at `a`.
-pub fn record_end(text: &[u8], a: usize) -> RecordEnd
+pub(crate) fn record_end(text: &[u8], a: usize) -> RecordEnd
     requires { ⌜ a < length (now text) ⌝ }
     ensures { λ r. ⌜ EndsAt (now (text .entry)) a r ⌝ }
 {

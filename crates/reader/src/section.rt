@@ -51,7 +51,7 @@ pub struct Walk {
 }
 
 // Whether commentary is open after the line. Of a line outside commentary only the first byte that is not white matters.
-pub fn commentary_after(commentary: bool, l: &[u8]) -> bool
+pub(crate) fn commentary_after(commentary: bool, l: &[u8]) -> bool
     ensures { λ r. ⌜ r ≡ commentaryAfter commentary (now (l .entry)) ⌝ }
 {
     if commentary {
@@ -240,7 +240,7 @@ fn walk_span(
 }
 
 // All the data of the open section `o` of the record `r`, which starts at `a`; its entries stand from `base` on.
-pub fn walk_section(
+pub(crate) fn walk_section(
     c: Conventions,
     r: &[u8],
     o: Open,

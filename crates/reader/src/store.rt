@@ -14,7 +14,7 @@ pub struct Entry {
 }
 
 // The low 32 bits.
-pub fn low_word(x: usize) -> u32
+pub(crate) fn low_word(x: usize) -> u32
     ensures { λ r. ⌜ r ≡ lowWord x ⌝ }
 {
     (x % 4294967296) as u32
@@ -51,7 +51,7 @@ fn moved_place(a: usize, kind: usize, x: usize) -> usize
 }
 
 // Stores e, of a record that starts at a, as the n-th entry, where there is room for a whole one.
-pub fn put_entry(entries: &mut [u32], n: usize, a: usize, e: Entry)
+pub(crate) fn put_entry(entries: &mut [u32], n: usize, a: usize, e: Entry)
     requires { ⌜ a + e .x < 2 ^ 63 ⌝ }
     ensures { λ _. ⌜ now (entries .exit) ≡ put 4 (now (entries .entry)) n (entryWords a e) ⌝ }
 {

@@ -99,14 +99,14 @@ fn last_byte(s: &[u8]) -> u8
     s[n - 1]
 }
 
-pub fn contains(s: &[u8], x: u8) -> bool
+pub(crate) fn contains(s: &[u8], x: u8) -> bool
     ensures { λ r. ⌜ r ≡ among x (now (s .entry)) ⌝ }
 {
     index_of(s, x) < s.len()
 }
 
 // Where a text lies once it is trimmed.
-pub fn trim_span(s: &[u8]) -> Span
+pub(crate) fn trim_span(s: &[u8]) -> Span
     ensures { λ r. ⌜ (r ≡ trimSpan (now (s .entry))) × (r .start + r .len ≤ length (now (s .entry))) ⌝ }
 {
     let n = lead_len(s);
@@ -117,7 +117,7 @@ pub fn trim_span(s: &[u8]) -> Span
 }
 
 // Where the part of a line from `a` up to `e` lies once it is trimmed.
-pub fn trim_part(line: &[u8], a: usize, e: usize) -> Span
+fn trim_part(line: &[u8], a: usize, e: usize) -> Span
     ensures { λ r. ⌜ (r ≡ trimPart a e (now (line .entry))) × (r .len ≤ length (now (line .entry)) - r .start) ⌝ }
 {
     let t = part(line, a, e);
@@ -226,7 +226,7 @@ fn trailing_comment(line: &[u8], a: usize) -> Comment
 }
 
 // A tag and the comment after it.
-pub fn parse_tag_line(line: &[u8]) -> TagLine
+pub(crate) fn parse_tag_line(line: &[u8]) -> TagLine
     ensures { λ r. ⌜ (r ≡ tagLine (now (line .entry))) × tagPlaced r (length (now (line .entry))) ⌝ }
 {
     let Bracket::Body(a) = opening_bracket(line) else {
@@ -251,7 +251,7 @@ pub fn parse_tag_line(line: &[u8]) -> TagLine
 }
 
 // A tag, whether or not a comment follows it.
-pub fn parse_tag_pair(line: &[u8]) -> Pair
+fn parse_tag_pair(line: &[u8]) -> Pair
     ensures { λ r. ⌜ (r ≡ pairOf (tagLine (now (line .entry)))) × pairInside r (length (now (line .entry))) ⌝ }
 {
     match parse_tag_line(line) {
@@ -303,7 +303,7 @@ fn data_after(line: &[u8], e: usize) -> Split
 }
 
 // A tag with section data after its bracket, as `[Play "W"]SJ`.
-pub fn split_tag_and_data(line: &[u8]) -> Split
+pub(crate) fn split_tag_and_data(line: &[u8]) -> Split
     ensures { λ r. ⌜ (r ≡ splitOf (now (line .entry))) × splitPlaced r (length (now (line .entry))) ⌝ }
 {
     let Close::At(k) = data_bracket(line) else {

@@ -7,7 +7,7 @@ use tables::text::index_of;
 use tables::text::upto;
 
 // The line that starts at `start`, with its LF, or up to the text's end; nothing past the end.
-pub fn line_at(text: &[u8], start: usize) -> &[u8]
+pub(crate) fn line_at(text: &[u8], start: usize) -> &[u8]
     ensures { λ r. ⌜ now r ≡ lineAt (now (text .entry)) start ⌝ }
 {
     let rest = from(text, start);
@@ -15,7 +15,7 @@ pub fn line_at(text: &[u8], start: usize) -> &[u8]
 }
 
 // The place just after that line.
-pub fn line_end(text: &[u8], start: usize) -> usize
+fn line_end(text: &[u8], start: usize) -> usize
     ensures { λ r. ⌜ r ≡ lineEnd (now (text .entry)) start ⌝ }
 {
     let l = line_at(text, start);

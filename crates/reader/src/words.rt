@@ -32,7 +32,7 @@ pub fn same(a: &[u8], b: &[u8]) -> bool
 }
 
 // A word in capitals, and a token in either case.
-pub fn same_word(word: &[u8], token: &[u8]) -> bool
+fn same_word(word: &[u8], token: &[u8]) -> bool
     ensures { λ r. ⌜ r ≡ sameWord (now (word .entry)) (now (token .entry)) ⌝ }
 {
     if word.len() != token.len() {
@@ -131,7 +131,7 @@ fn sign_code(token: &[u8]) -> u8
 }
 
 // The code of a call, 47 where the token is none.
-pub fn call_code(c: Conventions, token: &[u8]) -> u8
+pub(crate) fn call_code(c: Conventions, token: &[u8]) -> u8
     ensures { λ r. ⌜ (r ≡ callOf c (now (token .entry))) × (r ≤ 47) ⌝ }
 {
     let bid = bid_of(c, token);
@@ -149,7 +149,7 @@ fn is_mark(b: u8) -> bool
 }
 
 // The number of bytes before a token's annotation.
-pub fn call_len(token: &[u8]) -> usize
+pub(crate) fn call_len(token: &[u8]) -> usize
     ensures { λ r. ⌜ (r ≡ length (callPart (now (token .entry)))) × (r ≤ length (now (token .entry))) ⌝ }
 {
     let mut i = 0;
@@ -163,7 +163,7 @@ pub fn call_len(token: &[u8]) -> usize
 }
 
 // How a token ends its section: + is 1, * is 2, any other 0.
-pub fn section_end(token: &[u8]) -> u8
+pub(crate) fn section_end(token: &[u8]) -> u8
     ensures { λ r. ⌜ (r ≡ sectionEnd (now (token .entry))) × (r ≤ 2) ⌝ }
 {
     if same(b"+", token) {
@@ -176,7 +176,7 @@ pub fn section_end(token: &[u8]) -> u8
 }
 
 // AP, all pass.
-pub fn is_all_pass(token: &[u8]) -> bool
+pub(crate) fn is_all_pass(token: &[u8]) -> bool
     ensures { λ r. ⌜ r ≡ isAllPass (now (token .entry)) ⌝ }
 {
     same_word(b"AP", token)
@@ -190,7 +190,7 @@ fn is_doubling(t: &[u8]) -> bool
 }
 
 // The trump suit of a contract, 4 for notrump or no contract.
-pub fn contract_trump(c: Conventions, value: &[u8]) -> u8
+pub(crate) fn contract_trump(c: Conventions, value: &[u8]) -> u8
     ensures { λ r. ⌜ (r ≡ contractTrump c (now (value .entry))) × (r ≤ 4) ⌝ }
 {
     if level_of(byte_at(value, 0)) == 0 {
@@ -218,7 +218,7 @@ fn is_both_sides(value: &[u8]) -> bool
 }
 
 // 0 none, 1 NS, 2 EW, 3 all; 4 where it is no vulnerability.
-pub fn vulnerability_of(value: &[u8]) -> u8
+pub(crate) fn vulnerability_of(value: &[u8]) -> u8
     ensures { λ r. ⌜ (r ≡ vulnerabilityOf (now (value .entry))) × (r ≤ 4) ⌝ }
 {
     if is_no_side(value) {
@@ -250,7 +250,7 @@ fn card_number(suit: u8, rank: u8) -> u8
 }
 
 // The card that a token's first two characters name, 52 where they name none.
-pub fn card_named(c: Conventions, token: &[u8]) -> u8
+pub(crate) fn card_named(c: Conventions, token: &[u8]) -> u8
     ensures { λ r. ⌜ (r ≡ cardNamed c (now (token .entry))) × (r ≤ 52) ⌝ }
 {
     if token.len() < 2 {

@@ -109,7 +109,7 @@ fn less(a: usize, b: usize) -> usize
 }
 
 // A number to the right in w places.
-pub fn put_right(page: &mut [u8], at: usize, w: usize, n: u32) -> usize
+pub(crate) fn put_right(page: &mut [u8], at: usize, w: usize, n: u32) -> usize
     requires { ⌜ at + w + 10 ≤ 1099511627776 ⌝ }
     ensures { λ r. ⌜ Put (now (page .entry)) at (right w (decimal n)) (now (page .exit)) r ⌝ }
 {

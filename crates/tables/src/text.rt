@@ -72,7 +72,7 @@ pub fn kept_len(s: &[u8]) -> usize
     0
 }
 
-pub fn trim_start(s: &[u8]) -> &[u8]
+pub(crate) fn trim_start(s: &[u8]) -> &[u8]
     ensures { λ r. ⌜ now r ≡ trimStart (now (s .entry)) ⌝ }
 {
     let a = lead_len(s);
@@ -107,7 +107,7 @@ pub fn word_len(s: &[u8]) -> usize
 }
 
 // The first field of a text that begins with one.
-pub fn first_word(s: &[u8]) -> &[u8]
+pub(crate) fn first_word(s: &[u8]) -> &[u8]
     ensures { λ r. ⌜ now r ≡ word (now (s .entry)) ⌝ }
 {
     let n = word_len(s);
@@ -167,7 +167,7 @@ pub fn is_inside(b: u8) -> bool
 }
 
 // One more than `n`, or `n` where it is not to be counted.
-pub fn one_more_unless(n: usize, not_counted: bool) -> usize
+pub(crate) fn one_more_unless(n: usize, not_counted: bool) -> usize
     requires { ⌜ n < 2 ^ 63 ⌝ }
     ensures { λ r. ⌜ (r ≡ cond «not_counted» n (n + 1)) × (r ≤ n + 1) ⌝ }
 {
@@ -187,7 +187,7 @@ fn count_starts(s: &[u8]) -> usize
     n
 }
 
-pub fn count_characters(s: &[u8]) -> usize
+pub(crate) fn count_characters(s: &[u8]) -> usize
     ensures { λ r. ⌜ r ≡ length (characters (now (s .entry))) ⌝ }
 {
     if s.len() == 0 {

@@ -28,7 +28,7 @@ fn put_before(page: &mut [u8], at: usize, n: usize) -> usize
 }
 
 // An LF where there was anything.
-pub fn put_last(page: &mut [u8], at: usize, n: usize) -> usize
+pub(crate) fn put_last(page: &mut [u8], at: usize, n: usize) -> usize
     ensures { λ r. ⌜ Puts (now (page .entry)) at (cond (eqb n 0) [] (10 ∷ [])) (now (page .exit)) r ⌝ }
 {
     if n == 0 {
@@ -97,7 +97,7 @@ fn last_code(entries: &[u32], first: usize, count: usize, text: &[u8]) -> usize
 }
 
 // The end's line.
-pub fn put_end(page: &mut [u8], at: usize, end: usize) -> usize
+pub(crate) fn put_end(page: &mut [u8], at: usize, end: usize) -> usize
     ensures { λ r. ⌜ Puts (now (page .entry)) at (endText end) (now (page .exit)) r ⌝ }
 {
     if end == 1 {
@@ -110,7 +110,7 @@ pub fn put_end(page: &mut [u8], at: usize, end: usize) -> usize
 }
 
 // The data lines of an auction: its calls, then its end, unless the last call is `+`.
-pub fn put_auction(
+pub(crate) fn put_auction(
     text: &[u8],
     entries: &[u32],
     first: usize,

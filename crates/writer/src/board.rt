@@ -202,7 +202,7 @@ fn put_vulnerable(
 }
 
 // The tags before the deal, but for supplemental ones.
-pub fn put_head(
+pub(crate) fn put_head(
     text: &[u8],
     cards: &[u32],
     entries: &[u32],
@@ -304,7 +304,7 @@ fn put_outcome(
 }
 
 // Deal, Scoring, Declarer, Contract, Result.
-pub fn put_contract(
+pub(crate) fn put_contract(
     text: &[u8],
     cards: &[u32],
     entries: &[u32],
@@ -369,7 +369,7 @@ fn put_table(
 }
 
 // The table, the optimum score and the par contract, where there are any.
-pub fn put_analysis(
+pub(crate) fn put_analysis(
     text: &[u8],
     cards: &[u32],
     entries: &[u32],
@@ -387,7 +387,7 @@ pub fn put_analysis(
 }
 
 // a - b, or 0.
-pub fn less(a: usize, b: usize) -> usize
+pub(crate) fn less(a: usize, b: usize) -> usize
     ensures { λ r. ⌜ (r ≡ a - b) × (r ≤ a) ⌝ }
 {
     if a <= b {
@@ -397,7 +397,7 @@ pub fn less(a: usize, b: usize) -> usize
 }
 
 // The auction in force and its notes.
-pub fn put_bidding(
+pub(crate) fn put_bidding(
     text: &[u8],
     cards: &[u32],
     entries: &[u32],
@@ -435,7 +435,7 @@ pub fn put_bidding(
 }
 
 // The play in force.
-pub fn put_cards(
+pub(crate) fn put_cards(
     text: &[u8],
     cards: &[u32],
     entries: &[u32],

@@ -23,7 +23,7 @@ fn hand_at(cards: &[u32], b: usize, i: usize) -> u64
 }
 
 // The hands of the card b: words 10 to 17.
-pub fn hands_at(cards: &[u32], b: usize) -> Hands
+pub(crate) fn hands_at(cards: &[u32], b: usize) -> Hands
     ensures { λ r. ⌜ r ≡ handsOfWords (cardPart (now (cards .entry)) b 10 8) ⌝ }
 {
     let north = hand_at(cards, b, 10);
@@ -117,7 +117,7 @@ fn put_hands(page: &mut [u8], at: usize, c: Conventions, h: Hands) -> usize
 }
 
 // A deal from a seat on.
-pub fn put_deal(page: &mut [u8], at: usize, c: Conventions, seat: usize, h: Hands) -> usize
+pub(crate) fn put_deal(page: &mut [u8], at: usize, c: Conventions, seat: usize, h: Hands) -> usize
     requires { ⌜ seat < 4 ⌝ }
     ensures { λ r. ⌜ Puts (now (page .entry)) at (dealText c seat h) (now (page .exit)) r ⌝ }
 {

@@ -90,7 +90,7 @@ fn slip_after(slip: usize, s: BoardState) -> usize
 }
 
 // Gives every board of the new edition its cells, and answers how many are to be solved.
-pub fn give_tables(
+pub(crate) fn give_tables(
     old_cards: &[u32],
     olds: usize,
     new_cards: &mut [u32],

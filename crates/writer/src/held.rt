@@ -13,7 +13,7 @@ fn wide(w: u32) -> usize
 }
 
 // The word j of the entry e.
-pub fn entry_word(entries: &[u32], e: usize, j: usize) -> usize
+pub(crate) fn entry_word(entries: &[u32], e: usize, j: usize) -> usize
     requires { ⌜ j < 4 ⌝ }
     ensures { λ r. ⌜ (r ≡ entryWord (now (entries .entry)) e j) × (r < 4294967296) ⌝ }
 {
@@ -24,7 +24,7 @@ pub fn entry_word(entries: &[u32], e: usize, j: usize) -> usize
 }
 
 // The word i of the card k.
-pub fn card_word(cards: &[u32], k: usize, i: usize) -> usize
+pub(crate) fn card_word(cards: &[u32], k: usize, i: usize) -> usize
     requires { ⌜ i < 64 ⌝ }
     ensures { λ r. ⌜ (r ≡ cardWord (now (cards .entry)) k i) × (r < 4294967296) ⌝ }
 {
@@ -35,7 +35,7 @@ pub fn card_word(cards: &[u32], k: usize, i: usize) -> usize
 }
 
 // The bytes of the text at the place of the entry e.
-pub fn bytes_at<'a>(text: &'a [u8], entries: &[u32], e: usize) -> &'a [u8]
+pub(crate) fn bytes_at<'a>(text: &'a [u8], entries: &[u32], e: usize) -> &'a [u8]
     ensures { λ r. ⌜ now r ≡ placeBytes (now (text .entry)) (now (entries .entry)) e ⌝ }
 {
     let a = entry_word(entries, e, 1);

@@ -7,7 +7,13 @@ use crate::held::bytes_at;
 use crate::held::entry_word;
 
 // The place of the first tag of the name among count entries from first on; the place behind them where there is none.
-pub fn find_name(text: &[u8], entries: &[u32], first: usize, count: usize, name: &[u8]) -> usize
+pub(crate) fn find_name(
+    text: &[u8],
+    entries: &[u32],
+    first: usize,
+    count: usize,
+    name: &[u8],
+) -> usize
     requires { ⌜ first + count ≤ 8589934592 ⌝ }
     ensures { λ r. ⌜ r ≡ first + nameIndex (now (name .entry)) (itemsAt (now (text .entry)) (now (entries .entry)) first count) ⌝ }
 {

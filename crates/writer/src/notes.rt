@@ -99,7 +99,7 @@ fn put_note(text: &[u8], entries: &[u32], note: Note, page: &mut [u8], at: usize
 }
 
 // Whether an auction whose calls stand at the entry from has notes among the entries from there on, count of them.
-pub fn has_notes(text: &[u8], entries: &[u32], from: usize, count: usize) -> bool
+pub(crate) fn has_notes(text: &[u8], entries: &[u32], from: usize, count: usize) -> bool
     requires { ⌜ from + count ≤ 8589934592 ⌝ }
     ensures { λ r. ⌜ r ≡ isAny (noteValues (tagsAt (now (text .entry)) (now (entries .entry)) from count)) ⌝ }
 {
@@ -108,7 +108,7 @@ pub fn has_notes(text: &[u8], entries: &[u32], from: usize, count: usize) -> boo
 }
 
 // All notes by rising number, each with what follows it; scan entries from first on have the remarks.
-pub fn put_notes(
+pub(crate) fn put_notes(
     text: &[u8],
     entries: &[u32],
     first: usize,

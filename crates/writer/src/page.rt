@@ -282,7 +282,7 @@ fn put_parts(
 }
 
 // The page of boards that were just read.
-pub fn put_page(
+pub(crate) fn put_page(
     text: &[u8],
     cards: &[u32],
     entries: &[u32],

@@ -80,7 +80,7 @@ fn put_tricks(
 }
 
 // The data lines of a play: its tricks, then its end.
-pub fn put_play(
+pub(crate) fn put_play(
     text: &[u8],
     entries: &[u32],
     first: usize,

@@ -16,7 +16,7 @@ pub struct Present {
 }
 
 // Whether a tag is written whose name has the number k.
-pub fn is_written(p: Present, k: u8) -> bool
+pub(crate) fn is_written(p: Present, k: u8) -> bool
     ensures { λ r. ⌜ r ≡ isTagWritten p k ⌝ }
 {
     match k {

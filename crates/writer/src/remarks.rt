@@ -89,7 +89,7 @@ fn put_remark(page: &mut [u8], at: usize, kind: usize, s: &[u8]) -> usize
 }
 
 // The remarks of a kind (3 directives, 4 blocks) that are sought, among the entries from first on.
-pub fn put_remarks(
+pub(crate) fn put_remarks(
     text: &[u8],
     entries: &[u32],
     first: usize,
@@ -125,7 +125,7 @@ pub fn put_remarks(
 }
 
 // What follows a written tag: its directives and, after the first of its name, its blocks.
-pub fn put_after(
+pub(crate) fn put_after(
     text: &[u8],
     entries: &[u32],
     first: usize,

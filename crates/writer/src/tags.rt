@@ -15,7 +15,7 @@ use reader::names::tag_number;
 use reader::words::same;
 
 // `[`, the name, a blank and a quote.
-pub fn put_open(page: &mut [u8], at: usize, name: &[u8]) -> usize
+pub(crate) fn put_open(page: &mut [u8], at: usize, name: &[u8]) -> usize
     ensures { λ r. ⌜ Puts (now (page .entry)) at ((91 ∷ []) ++ now (name .entry) ++ (32 ∷ 34 ∷ [])) (now (page .exit)) r ⌝ }
 {
     let a = put_byte(page, at, 91);
@@ -24,14 +24,14 @@ pub fn put_open(page: &mut [u8], at: usize, name: &[u8]) -> usize
 }
 
 // A quote, `]` and the LF.
-pub fn put_close(page: &mut [u8], at: usize) -> usize
+pub(crate) fn put_close(page: &mut [u8], at: usize) -> usize
     ensures { λ r. ⌜ Puts (now (page .entry)) at (34 ∷ 93 ∷ 10 ∷ []) (now (page .exit)) r ⌝ }
 {
     put_bytes(page, at, b"\"]\n")
 }
 
 // A tag on its line.
-pub fn put_tag(page: &mut [u8], at: usize, name: &[u8], value: &[u8]) -> usize
+fn put_tag(page: &mut [u8], at: usize, name: &[u8], value: &[u8]) -> usize
     ensures { λ r. ⌜ Puts (now (page .entry)) at (tagLineText (now (name .entry)) (now (value .entry))) (now (page .exit)) r ⌝ }
 {
     let a = put_open(page, at, name);
@@ -40,7 +40,7 @@ pub fn put_tag(page: &mut [u8], at: usize, name: &[u8], value: &[u8]) -> usize
 }
 
 // A tag without data lines, the directives and the blocks after it.
-pub fn put_tagged(
+pub(crate) fn put_tagged(
     text: &[u8],
     entries: &[u32],
     first: usize,
@@ -76,7 +76,7 @@ fn is_extra(text: &[u8], entries: &[u32], first: usize, e: usize) -> bool
 }
 
 // The supplemental tags among the entries from e on, left of them; scan entries from first on have the remarks.
-pub fn put_extras(
+pub(crate) fn put_extras(
     text: &[u8],
     entries: &[u32],
     first: usize,

@@ -43,7 +43,7 @@ fn put_underscores(page: &mut [u8], at: usize, n: usize) -> usize
 }
 
 // A call by its code.
-pub fn put_call(page: &mut [u8], at: usize, c: Conventions, code: usize) -> usize
+pub(crate) fn put_call(page: &mut [u8], at: usize, c: Conventions, code: usize) -> usize
     ensures { λ r. ⌜ Puts (now (page .entry)) at (callToken c code) (now (page .exit)) r ⌝ }
 {
     match code {
@@ -57,7 +57,7 @@ pub fn put_call(page: &mut [u8], at: usize, c: Conventions, code: usize) -> usiz
 }
 
 // A suit's letter and a rank's.
-pub fn put_card(page: &mut [u8], at: usize, c: Conventions, k: usize) -> usize
+pub(crate) fn put_card(page: &mut [u8], at: usize, c: Conventions, k: usize) -> usize
     requires { ⌜ k < 52 ⌝ }
     ensures { λ r. ⌜ Puts (now (page .entry)) at (cardToken c k) (now (page .exit)) r ⌝ }
 {
@@ -66,7 +66,7 @@ pub fn put_card(page: &mut [u8], at: usize, c: Conventions, k: usize) -> usize
 }
 
 // A seat's letter, nothing for none.
-pub fn put_seat(page: &mut [u8], at: usize, c: Conventions, seat: usize) -> usize
+pub(crate) fn put_seat(page: &mut [u8], at: usize, c: Conventions, seat: usize) -> usize
     ensures { λ r. ⌜ Puts (now (page .entry)) at (seatText c seat) (now (page .exit)) r ⌝ }
 {
     if seat < 4 {
@@ -75,7 +75,7 @@ pub fn put_seat(page: &mut [u8], at: usize, c: Conventions, seat: usize) -> usiz
     at
 }
 
-pub fn put_vulnerability(page: &mut [u8], at: usize, v: usize) -> usize
+pub(crate) fn put_vulnerability(page: &mut [u8], at: usize, v: usize) -> usize
     ensures { λ r. ⌜ Puts (now (page .entry)) at (vulnerabilityToken v) (now (page .exit)) r ⌝ }
 {
     if v == 0 {
@@ -91,7 +91,7 @@ pub fn put_vulnerability(page: &mut [u8], at: usize, v: usize) -> usize
 }
 
 // A result, kept as the result plus 128, in decimal.
-pub fn put_result(page: &mut [u8], at: usize, met: usize, result: usize) -> usize
+pub(crate) fn put_result(page: &mut [u8], at: usize, met: usize, result: usize) -> usize
     requires { ⌜ result < 4294967296 ⌝ }
     ensures { λ r. ⌜ Puts (now (page .entry)) at (resultText (resultIn met result)) (now (page .exit)) r ⌝ }
 {
@@ -116,7 +116,7 @@ fn digit_of(w: usize) -> u8
 }
 
 // The digits of the table of the card b: words 18 to 37.
-pub fn put_digits(page: &mut [u8], at: usize, cards: &[u32], b: usize) -> usize
+pub(crate) fn put_digits(page: &mut [u8], at: usize, cards: &[u32], b: usize) -> usize
     ensures { λ r. ⌜ Puts (now (page .entry)) at (digitsText (cardPart (now (cards .entry)) b 18 20)) (now (page .exit)) r ⌝ }
 {
     let mut k = at;
