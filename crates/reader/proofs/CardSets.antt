@@ -114,7 +114,7 @@ times-append i (k ∷ ks) b =
     let h = times-append i ks b in
     by-cases (eqb k i) (λ t. rw (t, h) (omega arith)) (λ t. rw (t, h))
 
-among-times : (i : ℕ) (ks : List ℕ) → among i ks ≡ false → times i ks ≡ 0
+pub among-times : (i : ℕ) (ks : List ℕ) → among i ks ≡ false → times i ks ≡ 0
 among-times i [] e = refl
 among-times i (k ∷ ks) e = by-cases (eqb k i) (λ t. clash (sym (rw t at e))) (λ t. rw t (among-times i ks (rw t at e)))
 

@@ -92,13 +92,13 @@ read-cases : {P : Type 0} (r : HandRead) → (r ≡ NoHand → P) → ((y : ℕ)
 read-cases NoHand f g = f refl
 read-cases (Held y) f g = g y refl
 
-never-held : {P : Type 0} {y : ℕ} → NoHand ≡ Held y → P
+pub never-held : {P : Type 0} {y : ℕ} → NoHand ≡ Held y → P
 never-held e = let z : _≡_ {A = ℕ} 0 1 = cc in absurd (omega arith)
 
 undealt : (a b d e : List ℕ) → place 0 (a ++ (b ++ (d ++ e))) ≡ NoHand → NoDeal ≡ dealt a b d e
 undealt a b d e h = by-cases (distinct (a ++ (b ++ (d ++ e)))) (λ t. never-held (sym (rw (place-all (a ++ (b ++ (d ++ e))), t) at h))) (λ t. rw t)
 
-all-dealt : (ks : List ℕ) {y : ℕ} → place 0 ks ≡ Held y → distinct ks ≡ true
+pub all-dealt : (ks : List ℕ) {y : ℕ} → place 0 ks ≡ Held y → distinct ks ≡ true
 all-dealt ks h = by-cases (distinct ks) (λ t. t) (λ t. never-held (rw (place-all ks, t) at h))
 
 abbrev four : Option (List ℕ) → Option (List ℕ) → Option (List ℕ) → Option (List ℕ) → DealRead

@@ -26,7 +26,7 @@ use Rattle.reader.proofs.TagLaws.{length-part}
 use Rattle.reader.proofs.Tags.{trim-whole, front-whole, close-at, unquote-is, commentAs, placeValue, placeName, placeTag, line-by, tag-placed, no-tag}
 
 -- The trimmed text, and the white space before it, are no longer than the text.
-trim-length : (s : List ℕ) → length (lead s) + length (trimmed s) ≤ length s
+pub trim-length : (s : List ℕ) → length (lead s) + length (trimmed s) ≤ length s
 trim-length s = omega (arith, simp length-append at (ap length (trim-whole s)))
 
 inside-comment : (t : List ℕ) (g : TagPlaces) (n c : ℕ) → TagInside g n → c + length t ≤ n → tagPlaced (withComment (commentAs t c) g) n

@@ -78,7 +78,7 @@ call-cases P k h pass bid double redouble plus line =
     let d : 39 + (k - 39) ≡ k = omega arith in
     rw d at (line (k - 39) (omega arith)))))))
 
-bid-written : (c : Conventions) (n : ℕ) → n < 35 → callToken c (n + 1) ≡ bidToken c n
+pub bid-written : (c : Conventions) (n : ℕ) → n < 35 → callToken c (n + 1) ≡ bidToken c n
 unfolding callToken
 bid-written c n h =
     let d : n + 1 - 1 ≡ n = omega arith in

@@ -45,7 +45,7 @@ pub enum HandStep {
     Off,
 }
 
-fn power(k: u8) -> u64
+pub fn power(k: u8) -> u64
     requires { ⌜ k < 52 ⌝ }
     ensures { λ r. ⌜ r ≡ 2 ^ k ⌝ }
 {

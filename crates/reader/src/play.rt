@@ -37,7 +37,7 @@ pub struct Tricks {
     pub count: usize,
 }
 
-fn no_slots() -> Slots
+pub fn no_slots() -> Slots
     ensures { λ r. ⌜ r ≡ noSlots ⌝ }
 {
     Slots {
@@ -94,7 +94,7 @@ fn best_slot(p: usize, q: usize, r: usize, s: usize) -> usize
 }
 
 // The seat that wins a full trick (determine_winner).
-fn winner(trump: usize, leader: usize, s: Slots) -> usize
+pub fn winner(trump: usize, leader: usize, s: Slots) -> usize
     requires { ⌜ (leader ≤ 4) × Low s ⌝ }
     ensures { λ r. ⌜ (r ≡ winnerOf trump leader s) × (r ≤ 4) ⌝ }
 {
@@ -131,7 +131,7 @@ fn choose(test: bool, x: usize, y: usize) -> usize
     if test { x } else { y }
 }
 
-fn with_slot(s: Slots, k: usize, v: usize) -> Slots
+pub fn with_slot(s: Slots, k: usize, v: usize) -> Slots
     requires { ⌜ Low s × (v ≤ 255) ⌝ }
     ensures { λ r. ⌜ (r ≡ withSlot s k v) × Low r ⌝ }
 {
@@ -144,7 +144,7 @@ fn with_slot(s: Slots, k: usize, v: usize) -> Slots
 }
 
 // The slot of a seat, counted from the trick's own leader.
-fn slot_of(lead: usize, seat: usize, leader: usize) -> usize
+pub fn slot_of(lead: usize, seat: usize, leader: usize) -> usize
     requires { ⌜ (lead ≤ 3) × (seat ≤ 4) × (leader ≤ 4) ⌝ }
     ensures { λ r. ⌜ r ≡ slotOf lead seat leader ⌝ }
 {

@@ -32,7 +32,7 @@ pub fn same(a: &[u8], b: &[u8]) -> bool
 }
 
 // A word in capitals, and a token in either case.
-fn same_word(word: &[u8], token: &[u8]) -> bool
+pub fn same_word(word: &[u8], token: &[u8]) -> bool
     ensures { λ r. ⌜ r ≡ sameWord (now (word .entry)) (now (token .entry)) ⌝ }
 {
     if word.len() != token.len() {
@@ -131,7 +131,7 @@ fn sign_code(token: &[u8]) -> u8
 }
 
 // The code of a call, 47 where the token is none.
-pub(crate) fn call_code(c: Conventions, token: &[u8]) -> u8
+pub fn call_code(c: Conventions, token: &[u8]) -> u8
     ensures { λ r. ⌜ (r ≡ callOf c (now (token .entry))) × (r ≤ 47) ⌝ }
 {
     let bid = bid_of(c, token);
@@ -237,7 +237,7 @@ pub(crate) fn vulnerability_of(value: &[u8]) -> u8
 }
 
 // A card's number, 52 where suit or rank is none.
-fn card_number(suit: u8, rank: u8) -> u8
+pub fn card_number(suit: u8, rank: u8) -> u8
     ensures { λ r. ⌜ (r ≡ cardNumber suit rank) × (r ≤ 52) ⌝ }
 {
     if suit > 3 {
@@ -250,7 +250,7 @@ fn card_number(suit: u8, rank: u8) -> u8
 }
 
 // The card that a token's first two characters name, 52 where they name none.
-pub(crate) fn card_named(c: Conventions, token: &[u8]) -> u8
+pub fn card_named(c: Conventions, token: &[u8]) -> u8
     ensures { λ r. ⌜ (r ≡ cardNamed c (now (token .entry))) × (r ≤ 52) ⌝ }
 {
     if token.len() < 2 {

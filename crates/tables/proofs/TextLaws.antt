@@ -70,7 +70,7 @@ trim-last [] b e = rw e
 trim-last (x ∷ []) b e = rw e
 trim-last (x ∷ y ∷ ys) b e = rw (trim-last (y ∷ ys) b e)
 
-last-of : (s : List ℕ) (e : ℕ) → 0 < e → e ≤ length s → take e s ≡ take (e - 1) s ++ getD s (e - 1) 0 ∷ []
+pub last-of : (s : List ℕ) (e : ℕ) → 0 < e → e ≤ length s → take e s ≡ take (e - 1) s ++ getD s (e - 1) 0 ∷ []
 last-of s zero z h = absurd (omega arith)
 last-of s (suc e) z h =
     let d : suc e - 1 ≡ e = omega arith in

@@ -180,7 +180,7 @@ module _ (text entries : List ℕ) (n : ℕ) where
 
 -- ---- all notes by rising number
 
-none-between : (k n : ℕ) (ts : List TagPair) → ((m : ℕ) → n ≤ m → m < n + k → noteAt m ts ≡ none) → notesFrom k n ts ≡ []
+pub none-between : (k n : ℕ) (ts : List TagPair) → ((m : ℕ) → n ≤ m → m < n + k → noteAt m ts ≡ none) → notesFrom k n ts ≡ []
 unfolding notesFrom
 none-between zero n ts f = refl
 none-between (suc k) n ts f = rw (f n (omega arith) (omega arith), none-between k (n + 1) ts (λ m u v. f m (omega arith) (omega arith)))

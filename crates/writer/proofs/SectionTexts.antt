@@ -11,7 +11,7 @@ use Rattle.tables.proofs.Laws.{by-cases}
 use Rattle.reader.specs.Words.{cardToken}
 use Rattle.reader.specs.Plain.{Item, PlainCall, PlainAuction, PlainPlay, annotationsFirst, callsIn, slotsOf, tricksIn}
 use Rattle.writer.specs.Sections.{spaced, endLines, callText, rounds, endsContinued, auctionLines, inSlot, trickCards, cardsLines, tricksLines, playLines}
-use Rattle.writer.specs.Items.{beforeCall, callsText, lastCode, endText, auctionText, slotsText, fourSlots, tricksText, playText, dataText}
+use Rattle.writer.specs.Items.{beforeCall, tokensText, callsText, lastCode, endText, auctionText, slotsText, fourSlots, tricksText, playText, dataText}
 use Rattle.writer.proofs.GroupTexts.{rows-join}
 
 -- ---- ends
@@ -21,11 +21,6 @@ unfolding endLines endText
 end-text end = by-cases (eqb end 1) (λ e. rw e) (λ e. by-cases (eqb end 2) (λ f. rw (e, f)) (λ f. rw (e, f)))
 
 -- ---- calls
-
--- Calls with n before them, each behind its blank or LF.
-abbrev tokensText : ℕ → List (List ℕ) → List ℕ
-tokensText n [] = cond (eqb n 0) [] (10 ∷ [])
-tokensText n (t ∷ ts) = beforeCall n ++ (t ++ tokensText (n + 1) ts)
 
 calls-tokens : (c : Conventions) (n : ℕ) (called : Bool) (is : List Item)
     → callsText c n called is ≡ cond called (annotationsFirst is) [] ++ tokensText n (map (callText c) (callsIn is))
@@ -65,7 +60,7 @@ tokens-end : (m r : ℕ) → 0 < r → tokensText (4 * m + r) [] ≡ 10 ∷ []
 tokens-end m r h = rw (ne-eqb (4 * m + r) 0 (λ w. omega arith))
 
 -- Lines of four, behind m lines.
-tokens-rounds : (m : ℕ) (ts : List (List ℕ)) → tokensText (4 * m) ts ≡ cond (eqb (4 * m) 0) [] (10 ∷ []) ++ dataText (rounds ts)
+pub tokens-rounds : (m : ℕ) (ts : List (List ℕ)) → tokensText (4 * m) ts ≡ cond (eqb (4 * m) 0) [] (10 ∷ []) ++ dataText (rounds ts)
 tokens-rounds m [] = sym (append-nil _)
 tokens-rounds m (a ∷ []) = rw (tokens-end m 1 (omega arith), before-first m) (simp append-nil)
 tokens-rounds m (a ∷ b ∷ []) =

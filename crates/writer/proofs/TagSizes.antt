@@ -58,13 +58,13 @@ rounds-size (a ∷ b ∷ []) = omega (arith, spaced-size a (b ∷ []))
 rounds-size (a ∷ b ∷ d ∷ []) = omega (arith, spaced-size a (b ∷ d ∷ []))
 rounds-size (a ∷ b ∷ d ∷ e ∷ ts) = omega (arith, spaced-size a (b ∷ d ∷ e ∷ []), rounds-size ts)
 
-strain-few : (c : Conventions) (s : ℕ) → length (strainToken c s) ≤ 2
+pub strain-few : (c : Conventions) (s : ℕ) → length (strainToken c s) ≤ 2
 strain-few c s = by-cases (eqb s 4) (λ e. rw e (omega arith)) (λ e. rw e (omega arith))
 
-bid-few : (c : Conventions) (n : ℕ) → length (bidToken c n) ≤ 8
+pub bid-few : (c : Conventions) (n : ℕ) → length (bidToken c n) ≤ 8
 bid-few c n = omega (arith, strain-few c (n % 5))
 
-token-few : (c : Conventions) (k : ℕ) → k < 47 → length (callToken c k) ≤ 8
+pub token-few : (c : Conventions) (k : ℕ) → k < 47 → length (callToken c k) ≤ 8
 unfolding callToken
 token-few c k h =
     let P : List ℕ → Type 0 = λ t. length t ≤ 8 in
@@ -239,11 +239,11 @@ there-size : (name : String) (o : Option (List ℕ)) → writtenSize (ifThere na
 there-size name none = omega arith
 there-size name (some v) = omega arith
 
-seat-few : (c : Conventions) (s : ℕ) → length (seatText c s) ≤ 1
+pub seat-few : (c : Conventions) (s : ℕ) → length (seatText c s) ≤ 1
 unfolding seatText
 seat-few c s = by-cases (ltb s 4) (λ e. rw e (omega arith)) (λ e. rw e (omega arith))
 
-vulnerability-few : (k : ℕ) → length (vulnerabilityToken k) ≤ 4
+pub vulnerability-few : (k : ℕ) → length (vulnerabilityToken k) ≤ 4
 unfolding vulnerabilityToken
 vulnerability-few k =
     by-cases (eqb k 0)

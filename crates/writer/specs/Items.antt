@@ -95,6 +95,11 @@ resultIn met result = record { «number_met» = 0; number = 0; dealer = 4; vulne
 unfoldable pub beforeCall : ℕ → List ℕ
 beforeCall n = cond (eqb n 0) [] (cond (eqb (n % 4) 0) (10 ∷ []) (32 ∷ []))
 
+-- Calls with n before them, each behind its blank or LF, and an LF behind the last.
+abbrev pub tokensText : ℕ → List (List ℕ) → List ℕ
+tokensText n [] = cond (eqb n 0) [] (10 ∷ [])
+tokensText n (t ∷ ts) = beforeCall n ++ (t ++ tokensText (n + 1) ts)
+
 -- The calls of entries in a row, n calls before them; called says that an annotation would belong to the last call.
 -- An LF (10) ends the last line.
 abbrev pub callsText : Conventions → ℕ → Bool → List Item → List ℕ

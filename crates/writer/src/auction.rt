@@ -15,7 +15,7 @@ use crate::tokens::put_call;
 use tables::letters::Conventions;
 
 // The LF or the blank before the call number n.
-fn put_before(page: &mut [u8], at: usize, n: usize) -> usize
+pub fn put_before(page: &mut [u8], at: usize, n: usize) -> usize
     ensures { λ r. ⌜ Puts (now (page .entry)) at (beforeCall n) (now (page .exit)) r ⌝ }
 {
     if n == 0 {
@@ -28,7 +28,7 @@ fn put_before(page: &mut [u8], at: usize, n: usize) -> usize
 }
 
 // An LF where there was anything.
-pub(crate) fn put_last(page: &mut [u8], at: usize, n: usize) -> usize
+pub fn put_last(page: &mut [u8], at: usize, n: usize) -> usize
     ensures { λ r. ⌜ Puts (now (page .entry)) at (cond (eqb n 0) [] (10 ∷ [])) (now (page .exit)) r ⌝ }
 {
     if n == 0 {

@@ -117,7 +117,7 @@ fn put_hands(page: &mut [u8], at: usize, c: Conventions, h: Hands) -> usize
 }
 
 // A deal from a seat on.
-pub(crate) fn put_deal(page: &mut [u8], at: usize, c: Conventions, seat: usize, h: Hands) -> usize
+pub fn put_deal(page: &mut [u8], at: usize, c: Conventions, seat: usize, h: Hands) -> usize
     requires { ⌜ seat < 4 ⌝ }
     ensures { λ r. ⌜ Puts (now (page .entry)) at (dealText c seat h) (now (page .exit)) r ⌝ }
 {

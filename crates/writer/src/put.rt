@@ -4,7 +4,7 @@ ghost use Rattle.tables.specs.Numbers.{decimal};
 ghost use Rattle.writer.specs.Puts.{Puts};
 
 // Puts s at the place at.
-pub(crate) fn put_bytes(page: &mut [u8], at: usize, s: &[u8]) -> usize
+pub fn put_bytes(page: &mut [u8], at: usize, s: &[u8]) -> usize
     ensures { λ r. ⌜ Puts (now (page .entry)) at (now (s .entry)) (now (page .exit)) r ⌝ }
 {
     if 549755813888 < at {
@@ -17,7 +17,7 @@ pub(crate) fn put_bytes(page: &mut [u8], at: usize, s: &[u8]) -> usize
 }
 
 // Puts b at the place at.
-pub(crate) fn put_byte(page: &mut [u8], at: usize, b: u8) -> usize
+pub fn put_byte(page: &mut [u8], at: usize, b: u8) -> usize
     ensures { λ r. ⌜ Puts (now (page .entry)) at (b ∷ []) (now (page .exit)) r ⌝ }
 {
     if at < 549755813888 {

@@ -43,7 +43,7 @@ fn put_underscores(page: &mut [u8], at: usize, n: usize) -> usize
 }
 
 // A call by its code.
-pub(crate) fn put_call(page: &mut [u8], at: usize, c: Conventions, code: usize) -> usize
+pub fn put_call(page: &mut [u8], at: usize, c: Conventions, code: usize) -> usize
     ensures { λ r. ⌜ Puts (now (page .entry)) at (callToken c code) (now (page .exit)) r ⌝ }
 {
     match code {
@@ -57,7 +57,7 @@ pub(crate) fn put_call(page: &mut [u8], at: usize, c: Conventions, code: usize) 
 }
 
 // A suit's letter and a rank's.
-pub(crate) fn put_card(page: &mut [u8], at: usize, c: Conventions, k: usize) -> usize
+pub fn put_card(page: &mut [u8], at: usize, c: Conventions, k: usize) -> usize
     requires { ⌜ k < 52 ⌝ }
     ensures { λ r. ⌜ Puts (now (page .entry)) at (cardToken c k) (now (page .exit)) r ⌝ }
 {
@@ -66,7 +66,7 @@ pub(crate) fn put_card(page: &mut [u8], at: usize, c: Conventions, k: usize) -> 
 }
 
 // A seat's letter, nothing for none.
-pub(crate) fn put_seat(page: &mut [u8], at: usize, c: Conventions, seat: usize) -> usize
+pub fn put_seat(page: &mut [u8], at: usize, c: Conventions, seat: usize) -> usize
     ensures { λ r. ⌜ Puts (now (page .entry)) at (seatText c seat) (now (page .exit)) r ⌝ }
 {
     if seat < 4 {
@@ -75,7 +75,7 @@ pub(crate) fn put_seat(page: &mut [u8], at: usize, c: Conventions, seat: usize) 
     at
 }
 
-pub(crate) fn put_vulnerability(page: &mut [u8], at: usize, v: usize) -> usize
+pub fn put_vulnerability(page: &mut [u8], at: usize, v: usize) -> usize
     ensures { λ r. ⌜ Puts (now (page .entry)) at (vulnerabilityToken v) (now (page .exit)) r ⌝ }
 {
     if v == 0 {

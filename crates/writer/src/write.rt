@@ -46,7 +46,7 @@ pub fn write_carried(f: WriteRefusal) -> u64
 }
 
 // Sets every byte of a page to 0.
-pub(crate) fn clear(page: &mut [u8])
+pub fn clear(page: &mut [u8])
     ensures { λ _. ⌜ now (page .exit) ≡ zeros (now (page .entry)) ⌝ }
 {
     finish(page, 0);
