@@ -1,0 +1,14 @@
+pub mod BiddingLaws
+pub mod BoardLaws
+pub mod BoardTextLaws
+pub mod ConvertLaws
+pub mod DealingLaws
+pub mod DealingPins
+pub mod GoneLaws
+pub mod PairLaws
+pub mod PieceLaws
+pub mod Pins
+pub mod PlayingLaws
+pub mod Sizes
+pub mod SplitLaws
+pub mod SurveyLaws

@@ -1,0 +1,15 @@
+pub mod Pairs
+pub mod PairSteps
+pub mod Pieces
+pub mod Dealing
+pub mod DealingSteps
+pub mod Bidding
+pub mod BiddingSteps
+pub mod Playing
+pub mod PlayingSteps
+pub mod SurveySteps
+pub mod BoardSteps
+pub mod LinBoards
+pub mod PieceSteps
+pub mod Conversions
+pub mod ConversionSteps
