@@ -12,6 +12,8 @@
  *     golavimes_record_behind;
  *   - finishing, the new edition written with a table for every whole deal:
  *     golavimes_finish;
+ *   - LIN, a collection saved in that format converted to a page of PBN:
+ *     golavimes_lin_to_pbn;
  *   - tables: five functions on double-dummy tables.
  *
  * Every function
@@ -90,7 +92,8 @@ enum {
     GOLAVIMES_DENOMINATION = 12, /* a row's second field is no strain; the row */
     GOLAVIMES_RESULT = 13,       /* a row's third field is no number 0 to 255; the row */
     GOLAVIMES_OVER = 14,         /* a row's number is above 13; the row */
-    GOLAVIMES_MISSING = 15       /* cells have no row; how many */
+    GOLAVIMES_MISSING = 15,      /* cells have no row; how many */
+    GOLAVIMES_NO_DEAL = 16       /* a LIN text gives no deal, or a faulty one; 0 */
 };
 
 /* Lengths in bytes. The last three are pages that are never refused. */
@@ -591,6 +594,93 @@ uint64_t golavimes_finish(const uint8_t *old_text, size_t old_text_length,
  *         fwrite(page, 1, finished[3], stdout);
  *     }
  *     free(page);
+ */
+
+/*
+ * LIN. A collection saved as LIN, the format of Bridge Base Online, is converted
+ * to PBN and written on the page. docs/FORMAT.md section 18 says what is read and
+ * what is written.
+ *
+ * A LIN text is a run of pairs, command|value|. Where a command is qx, the text is
+ * split at each qx, and the parts with an md are the boards; else every line that
+ * is not blank is a board. Of a board are read
+ *   md  the dealer and the hands; the last one with a dealer counts
+ *   sv  the vulnerability; the last one counts
+ *   mb  the calls
+ *   pc  the cards played
+ * and written, each in the tags of PBN: dealer, vulnerability, deal, the calls as
+ * an auction; the contract, which is the last bid with the last X or XX after it,
+ * and its declarer; and, where there was a bid, the cards as a play, trick by
+ * trick, by seat from the opening leader on, with - for a seat without a card.
+ *
+ * Nothing else is carried over: no names and titles, no board headers and numbers
+ * (no Board tag is written, and boards keep their order), no alerts and
+ * annotations, no claims and results, no comments, and no cards played where there
+ * was no bid. A value that is no call or no card is dropped. Whether calls and
+ * cards are legal is not looked at.
+ *
+ * A board without cards in its hands is written too, with four empty hands, if
+ * another board has some. In a text without a qx each line of text that is no
+ * record, such as a heading, is such a board; planning calls it blank.
+ *
+ * The converted text stands at the start of the page, with zeros after it to the
+ * page's end. It does not end in a zero byte: its length is answer[3]. answer[4] is
+ * its boards. Both are 0 after a refusal. Nothing but the page is lent.
+ *
+ * The page is an edition. Its first answer[3] bytes go to golavimes_read,
+ * golavimes_plan and all others as a text does, and what is read there are the
+ * hands, the dealer, the vulnerability, the declarer, the calls and, where there
+ * was a bid, the cards of the LIN text; it is proved. It is written with the
+ * built-in letters (seats N E S W, suits S H D C, honours A K Q J T), as the LIN
+ * text is read with them, and must be read with the built-in letters too, which
+ * every function here does. A page of more than 16777215 bytes is not read: split
+ * the LIN text.
+ *
+ * Refusals, in the order tested:
+ *   1   the text has more than 16777215 bytes; answer[2] is its length
+ *   16  no board has a card in its hands, or some board has a card twice or more
+ *       than 13 cards in a hand; answer[2] is 0
+ *   7   the converted text is longer than the page; answer[2] is its length
+ * answer[1] is always 0. After a refusal every byte of the page is 0. Any bytes are
+ * read; what is no LIN is passed over, up to refusal 16.
+ *
+ * How much to lend. The page never needs more than 256 * text_length + 20 bytes,
+ * which is below 2^32; it is proved. The most is needed by boards of a few bytes,
+ * since each is written with fourteen tags. So a host asks rather than lends the
+ * bound: with page_length 0 (and page any pointer that is not null) refusal 7
+ * carries the need, since no converted text is empty, and a page of that length is
+ * never refused. Refusals 1 and 16 are given first, whatever the page's length.
+ *
+ * How long it takes. Each call goes over the text a fixed number of times, so the
+ * time is linear in the text and in what is lent. A call that is refused with 7
+ * does the same work as one that is not.
+ */
+uint64_t golavimes_lin_to_pbn(const uint8_t *text, size_t text_length, uint8_t *page,
+                              size_t page_length, uint64_t answer[5]);
+
+/*
+ * Example, in C: a LIN text is written to standard output as PBN. The page's
+ * length is asked for first.
+ *
+ *     uint8_t none[1], *page;
+ *     uint64_t converted[5];
+ *     if (golavimes_lin_to_pbn(text, text_length, none, 0, converted) != GOLAVIMES_PAGE_FULL) {
+ *         printf("refusal %d, %lu\n", (int)converted[0], (unsigned long)converted[2]);
+ *     } else if ((page = malloc(converted[2])) == NULL) {
+ *         printf("no memory\n");
+ *     } else {
+ *         golavimes_lin_to_pbn(text, text_length, page, converted[2], converted);
+ *         fwrite(page, 1, converted[3], stdout);
+ *         free(page);
+ *     }
+ *
+ * examples/lin is a whole program. With the text md|3SA|mb|1S|pc|D2| the page has
+ * 241 bytes: the header of 20 bytes, the fourteen tags, and
+ *
+ *     [Auction "N"]
+ *     1S
+ *     [Play "E"]
+ *     D2 - - -
  */
 
 /*

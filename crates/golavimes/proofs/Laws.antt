@@ -17,9 +17,11 @@ use Rattle.planning.specs.declared.editions.Editions.{Editions}
 use Rattle.planning.specs.declared.plan.Planning.{Planning}
 use Rattle.planning.specs.Slips.{slipsOf}
 use Rattle.planning.specs.Plans.{Boxes, editionsOf, areBoth, isPlanned, plansOf, stateBy, behindBy, boardsAfter, BoxesAfter, BothRead, IsPlanned, StateTold, BehindTold, BoardsTold}
-use Rattle.golavimes.specs.Answers.{writtenNumbers, decodedNumbers, readingNumbers, writingNumbers, finishingNumbers, planNumbers, stateNumbers, recordNumbers, boardsNumbers, WroteOut, ReadOut, EditionOut, WritingOut, PlanOut, StateOut, BehindOut, BoardsOut, FinishOut}
+use Rattle.golavimes.specs.Answers.{writtenNumbers, decodedNumbers, readingNumbers, writingNumbers, convertedNumbers, finishingNumbers, planNumbers, stateNumbers, recordNumbers, boardsNumbers, WroteOut, ReadOut, EditionOut, WritingOut, LinOut, PlanOut, StateOut, BehindOut, BoardsOut, FinishOut}
 use Rattle.writer.specs.declared.write.Writing.{Writing}
 use Rattle.writer.specs.Writings.{writingOf, IsWritten}
+use Rattle.lin.specs.declared.convert.Converted.{Converted}
+use Rattle.lin.specs.Conversions.{convertedOf, IsConverted}
 use Rattle.writer.specs.declared.finish.Finishing.{Finishing}
 use Rattle.writer.specs.Finishings.{IsFinished}
 
@@ -95,6 +97,16 @@ writing-out {c} {text} {cards} {entries} {page} a e =
     record {
       told = e ∙ ap writingNumbers (a .answer);
       lent-after = rw (a .answer) at a;
+      returned = refl;
+    }
+
+-- The same for a LIN text.
+pub lin-out : {c : Conventions} {text page : List ℕ} {r : Converted} {page′ numbers : List ℕ}
+    → IsConverted c text page r page′ → numbers ≡ convertedNumbers r → LinOut c text page page′ numbers (getD numbers 0 0)
+lin-out {c} {text} {page} a e =
+    record {
+      told = e ∙ ap convertedNumbers (a .answer);
+      lent-after = rw (← a .answer) a;
       returned = refl;
     }
 

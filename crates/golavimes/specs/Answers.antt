@@ -39,6 +39,10 @@ use Rattle.writer.specs.Writings.{writeNumber, writeCarries, writingOf, IsWritt
 use Rattle.writer.specs.declared.finish.Finishing.{Finishing}
 use Rattle.writer.specs.declared.finish.Finishing.the-variants as finishing
 use Rattle.writer.specs.Finishings.{finishNumber, finishEdition, finishCarries, finishingOf, IsFinished}
+use Rattle.lin.specs.declared.convert.Converted.{Converted}
+use Rattle.lin.specs.declared.convert.Converted.the-variants.{Page}
+use Rattle.lin.specs.declared.convert.Converted.the-variants as converted
+use Rattle.lin.specs.Conversions.{linNumber, linCarries, convertedOf, IsConverted}
 use Rattle.golavimes.specs.declared.Head.{Head}
 
 -- A writer's answer: the value is the bytes written.
@@ -65,6 +69,11 @@ writingNumbers (writing.Refused f) = writeNumber f ∷ 0 ∷ writeCarries f ∷ 
 abbrev pub finishingNumbers : Finishing → List ℕ
 finishingNumbers (finishing.Finished n) = 0 ∷ 0 ∷ 0 ∷ n ∷ []
 finishingNumbers (finishing.Refused f) = finishNumber f ∷ finishEdition f ∷ finishCarries f ∷ 0 ∷ []
+
+-- A converted LIN text's answer: the bytes written and the boards.
+abbrev pub convertedNumbers : Converted → List ℕ
+convertedNumbers (Page n boards) = 0 ∷ 0 ∷ 0 ∷ n ∷ boards ∷ []
+convertedNumbers (converted.Refused f) = linNumber f ∷ 0 ∷ linCarries f ∷ 0 ∷ 0 ∷ []
 
 -- The first three numbers of planning's answers: refusal, edition (0 none, 1 old, 2 new), carried number.
 abbrev pub refusedHead : PlanRefusal → Head
@@ -158,4 +167,10 @@ pub record BoardsOut (c : Conventions) (old new : List ℕ) (boxes : Boxes) (num
 pub record FinishOut (c : Conventions) (old new : List ℕ) (boxes : Boxes) (answers page : List ℕ) (boxes′ : Boxes) (page′ answer′ : List ℕ) (r : ℕ) : Type 0 where
   pub told : answer′ ≡ finishingNumbers (finishingOf c old new boxes answers (length page))
   pub lent-after : IsFinished c old new boxes answers page (finishingOf c old new boxes answers (length page)) boxes′ page′
+  pub returned : r ≡ getD answer′ 0 0
+
+-- A LIN text is converted to a lent page, whatever that and the answer held.
+pub record LinOut (c : Conventions) (text page page′ answer′ : List ℕ) (r : ℕ) : Type 0 where
+  pub told : answer′ ≡ convertedNumbers (convertedOf c text (length page))
+  pub lent-after : IsConverted c text page (convertedOf c text (length page)) page′
   pub returned : r ≡ getD answer′ 0 0

@@ -2,9 +2,10 @@
 ghost use mathlib.Core.Path.{_≡_};
 ghost use Prim.Native.Nat.{_-_};
 ghost use lib.ListN.{getD};
-ghost use Rattle.golavimes.specs.Answers.{writtenNumbers, decodedNumbers, readingNumbers, writingNumbers, finishingNumbers, refusedHead, editionsHead, planNumbers, stateNumbers, recordNumbers, boardsNumbers, WroteOut, ReadOut, EditionOut, WritingOut, PlanOut, StateOut, BehindOut, BoardsOut, FinishOut};
+ghost use Rattle.golavimes.specs.Answers.{writtenNumbers, decodedNumbers, readingNumbers, writingNumbers, convertedNumbers, finishingNumbers, refusedHead, editionsHead, planNumbers, stateNumbers, recordNumbers, boardsNumbers, WroteOut, ReadOut, EditionOut, WritingOut, LinOut, PlanOut, StateOut, BehindOut, BoardsOut, FinishOut};
 ghost use Rattle.tables.specs.Letters.{builtIn};
 ghost use Rattle.tables.specs.Tables.{digitsText, headerText, rowsText, tableOfDigits, tableOfRows};
+use lin::convert::Converted;
 use planning::behind::Behind;
 use planning::editions::Editions;
 use planning::plan::PlanRefusal;
@@ -178,6 +179,31 @@ pub extern "C" fn golavimes_write(
     ensures { λ r. ⌜ WritingOut builtIn (now (text .entry)) (now (cards .entry)) (now (entries .entry)) (now (page .entry)) (now (cards .exit)) (now (entries .exit)) (now (page .exit)) (now (answer .exit)) r ⌝ }
 {
     let numbers = writing_numbers(writer::write::write_pbn(text, cards, entries, page));
+    *answer = numbers;
+    numbers[0]
+}
+
+fn converted_numbers(r: Converted) -> [u64; 5]
+    ensures { λ n. ⌜ n ≡ convertedNumbers r ⌝ }
+{
+    match r {
+        Converted::Page(bytes, boards) => [0, 0, 0, bytes, boards],
+        Converted::Refused(f) => [
+            lin::convert::lin_number(f),
+            0,
+            lin::convert::lin_carried(f),
+            0,
+            0,
+        ],
+    }
+}
+
+// Converts a LIN text to the page of a PBN edition.
+#[no_mangle]
+pub extern "C" fn golavimes_lin_to_pbn(text: &[u8], page: &mut [u8], answer: &mut [u64; 5]) -> u64
+    ensures { λ r. ⌜ LinOut builtIn (now (text .entry)) (now (page .entry)) (now (page .exit)) (now (answer .exit)) r ⌝ }
+{
+    let numbers = converted_numbers(lin::convert::lin_to_pbn(text, page));
     *answer = numbers;
     numbers[0]
 }
