@@ -102,11 +102,11 @@ WritableLike w e f g h i =
 -- ---- data lines
 
 -- A token that may stand first on a data line.
-abbrev begins : List ℕ → Bool
+abbrev pub begins : List ℕ → Bool
 begins [] = false
 begins (b ∷ bs) = startsData b
 
-abbrev isToken : List ℕ → Bool
+abbrev pub isToken : List ℕ → Bool
 isToken t = begins t && every isWord t
 
 begins-append : (x y : List ℕ) → begins x ≡ true → begins (x ++ y) ≡ true
@@ -154,13 +154,13 @@ spaced-end (t ∷ u ∷ ts) e =
     let b = spaced-begins u ts (both (begins u) (every isWord u) (i .0) .0) in
     end-after t 32 (spaced (u ∷ ts)) (blank-end (spaced (u ∷ ts)) b (spaced-end (u ∷ ts) (h .1)))
 
-spaced-data : (t : List ℕ) (ts : List (List ℕ)) → all isToken (t ∷ ts) ≡ true → goodData (spaced (t ∷ ts)) ≡ true
+pub spaced-data : (t : List ℕ) (ts : List (List ℕ)) → all isToken (t ∷ ts) ≡ true → goodData (spaced (t ∷ ts)) ≡ true
 spaced-data t ts e =
     let h = both (isToken t) (all isToken ts) e in
     data-by (spaced (t ∷ ts)) (spaced-begins t ts (both (begins t) (every isWord t) (h .0) .0)) (spaced-feed (t ∷ ts) e) (spaced-end (t ∷ ts) e)
 
 -- Four tokens a line.
-rounds-data : (ts : List (List ℕ)) → all isToken ts ≡ true → all goodData (rounds ts) ≡ true
+pub rounds-data : (ts : List (List ℕ)) → all isToken ts ≡ true → all goodData (rounds ts) ≡ true
 rounds-data [] e = refl
 rounds-data (a ∷ []) e = rw (spaced-data a [] e)
 rounds-data (a ∷ b ∷ []) e = rw (spaced-data a (b ∷ []) e)
@@ -188,7 +188,7 @@ capital-begins b e =
     let h = leb-true b 90 (d .1) in
     rw (le-leb 9 b (omega arith), lt-leb b 13 (omega arith), ne-eqb b 32 (λ k. omega arith), ne-eqb b 123 (λ k. omega arith), ne-eqb b 59 (λ k. omega arith), ne-eqb b 37 (λ k. omega arith), ne-eqb b 91 (λ k. omega arith))
 
-call-begins : (c : Conventions) (k : ℕ) → k < 47 → begins (callToken c k) ≡ true
+pub call-begins : (c : Conventions) (k : ℕ) → k < 47 → begins (callToken c k) ≡ true
 unfolding callToken isWhite
 call-begins c k h =
     by-cases (eqb k 0)
@@ -235,7 +235,7 @@ module _ (c : Conventions) (ok : Accepted c) where
       all-append goodData (rounds (map (callText c) (a .calls))) _ (rounds-data (map (callText c) (a .calls)) (calls-tokens (a .calls) e))
       (chosen goodData (endsContinued (a .calls)) [] (endLines (a .end)) refl (ends-data (a .end)))
 
-  card-token : (k : ℕ) → k < 52 → isToken (cardToken c k) ≡ true
+  pub card-token : (k : ℕ) → k < 52 → isToken (cardToken c k) ≡ true
   card-token k h =
       let i = 7 - k / 13 in
       let s = every-at isCapital (c .letters) i (ok .capitals) (rw (ok .thirteen) (omega arith)) in
@@ -261,10 +261,10 @@ module _ (c : Conventions) (ok : Accepted c) where
 -- ---- values
 
 -- No LF and no `]`.
-abbrev isSafe : ℕ → Bool
+abbrev pub isSafe : ℕ → Bool
 isSafe b = not (eqb b 10 || eqb b 93)
 
-safe-good : (v : List ℕ) → every isSafe v ≡ true → goodValue v ≡ true
+pub safe-good : (v : List ℕ) → every isSafe v ≡ true → goodValue v ≡ true
 unfolding goodValue
 safe-good v e = rw (no-feed v e, no-close true v e)
   where
@@ -282,7 +282,7 @@ safe-good v e = rw (no-feed v e, no-close true v e)
         let s = neither (eqb b 10) (eqb b 93) (not-true (eqb b 10 || eqb b 93) (h .0)) in
         rw (s .1, no-close (quoted q b) bs (h .1))
 
-every-implied : (p q : ℕ → Bool) → ((b : ℕ) → p b ≡ true → q b ≡ true) → (s : List ℕ) → every p s ≡ true → every q s ≡ true
+pub every-implied : (p q : ℕ → Bool) → ((b : ℕ) → p b ≡ true → q b ≡ true) → (s : List ℕ) → every p s ≡ true → every q s ≡ true
 every-implied p q f [] e = refl
 every-implied p q f (x ∷ xs) e = let h = both (p x) (every p xs) e in rw (f x (h .0), every-implied p q f xs (h .1))
 
@@ -342,7 +342,7 @@ in-value-safe b e =
 first-seat : (d : ℕ) → firstSeat d < 4
 first-seat d = by-cases (ltb d 4) (λ t. rw t (ltb-true d 4 t)) (λ t. rw t (omega arith))
 
-capital-safe : (b : ℕ) → isCapital b ≡ true → isSafe b ≡ true
+pub capital-safe : (b : ℕ) → isCapital b ≡ true → isSafe b ≡ true
 unfolding isCapital
 capital-safe b e =
     let d = both (leb 65 b) (leb b 90) e in
@@ -354,7 +354,7 @@ or-empty-good none e = refl
 or-empty-good (some v) e = e
 
 module _ (c : Conventions) (ok : Accepted c) where
-  seat-good : (s : ℕ) → goodValue (seatText c s) ≡ true
+  pub seat-good : (s : ℕ) → goodValue (seatText c s) ≡ true
   unfolding seatText
   seat-good s =
       safe-good _
@@ -618,19 +618,24 @@ module _ (ds ks : List Anchored) (dg : all (goodBytes goodTrimmed) ds ≡ true) 
       (chosen goodLine (wrote (w .name) earlier) [] (blockLines (those (isUnder (w .name)) ks)) refl (blocks-lined (isUnder (w .name))))
       (tags-lined (earlier ++ w ∷ []) ws (h .1)))))
 
--- THEOREM. Every line of a board that can be written can be written.
+-- THEOREM. Every line of a board that can be written can be written, with any data lines of its play that can.
+pub BodyGood : (c : Conventions) → Accepted c → (b : PlainBoard) (play : List (List ℕ)) → Writable b → all goodData play ≡ true → all goodLine (bodyLines b (writtenTags c b play)) ≡ true
+unfolding bodyLines directivesOf blocksOf
+BodyGood c ok b play w e =
+    let ds = directivesOf b in
+    let ks = blocksOf b in
+    let dg = anchored-good goodTrimmed (b .tags) 0 (b .directives) (both-good (b .directives) (w .directives-good) (w .directives-trimmed)) in
+    let kg = anchored-good goodBlock (b .tags) 0 (b .blocks) (w .blocks-good) in
+    let ws = writtenTags c b play in
+    all-append goodLine (blockLines (those isLeading ks)) _ (blocks-lined ds ks dg kg isLeading)
+    (all-append goodLine (tagsLines ds ks [] ws) _ (tags-lined ds ks dg kg [] ws (TagsWritable c ok b play w e))
+    (all-append goodLine (blockLines (those (tagUnwritten ws) ks)) _ (blocks-lined ds ks dg kg (tagUnwritten ws)) (directives-lined ds ks dg kg (tagUnwritten ws))))
+
 pub LinesGood : (c : Conventions) → Accepted c → (b : PlainBoard) → Writable b → GoodLines c b
-unfolding leadingLines bodyLines directivesOf blocksOf
+unfolding leadingLines directivesOf blocksOf
 LinesGood c ok b w =
     let ds = directivesOf b in
     let ks = blocksOf b in
     let dg = anchored-good goodTrimmed (b .tags) 0 (b .directives) (both-good (b .directives) (w .directives-good) (w .directives-trimmed)) in
     let kg = anchored-good goodBlock (b .tags) 0 (b .blocks) (w .blocks-good) in
-    let ws = writtenTags c b (ownPlay c (b .play)) in
-    record {
-      leading-good = directives-lined ds ks dg kg isLeading;
-      body-good =
-          all-append goodLine (blockLines (those isLeading ks)) _ (blocks-lined ds ks dg kg isLeading)
-          (all-append goodLine (tagsLines ds ks [] ws) _ (tags-lined ds ks dg kg [] ws (TagsWritable c ok b (ownPlay c (b .play)) w (play-data c ok (b .play))))
-          (all-append goodLine (blockLines (those (tagUnwritten ws) ks)) _ (blocks-lined ds ks dg kg (tagUnwritten ws)) (directives-lined ds ks dg kg (tagUnwritten ws))));
-    }
+    record { leading-good = directives-lined ds ks dg kg isLeading; body-good = BodyGood c ok b (ownPlay c (b .play)) w (play-data c ok (b .play)) }

@@ -149,15 +149,15 @@ with-deal c t b k =
 
 -- ---- cards
 
-card-whole : (x : List ℕ) (p : PlainBoard) → OnCard x p → isWhole x ≡ wholeDeal (p .deal)
+pub card-whole : (x : List ℕ) (p : PlainBoard) → OnCard x p → isWhole x ≡ wholeDeal (p .deal)
 unfolding isWhole cardDeal
 card-whole x p h = rw (h .word-9, h .words-10)
 
-card-hands : (x : List ℕ) (p : PlainBoard) → OnCard x p → handsOf x ≡ handsOfWords (p .deal .words)
+pub card-hands : (x : List ℕ) (p : PlainBoard) → OnCard x p → handsOf x ≡ handsOfWords (p .deal .words)
 unfolding cardDeal
 card-hands x p h = ap handsOfWords (h .words-10)
 
-card-table : (x : List ℕ) (p : PlainBoard) → OnCard x p → hasTable x ≡ not (eqb (p .table .kind) 0)
+pub card-table : (x : List ℕ) (p : PlainBoard) → OnCard x p → hasTable x ≡ not (eqb (p .table .kind) 0)
 unfolding hasTable
 card-table x p h = rw (h .word-38)
 

@@ -40,6 +40,7 @@ pub record Held (c : Conventions) (text cards entries : List ℕ) : Type 0 where
   pub lent-cards : ℕ
   pub lent-entries : ℕ
   pub cards-fit : 64 * length (cardsOf c text) ≤ lent-cards
+  pub entries-fit : 4 * length (entriesOf c text) ≤ lent-entries
   pub cards-are : cards ≡ padded lent-cards (flat (cardsOf c text))
   pub entries-are : entries ≡ padded lent-entries (flat (entriesOf c text))
 
@@ -57,11 +58,13 @@ held : (c : Conventions) (text cards entries : List ℕ) (lc le : ℕ) → isTak
     → cards ≡ padded lc (flat (cardsOf c text)) → entries ≡ padded le (flat (entriesOf c text)) → Held c text cards entries
 held c text cards entries lc le t ec ee =
     let a = taken-as (readingOf c text lc le) t in
+    let f = taken-fits c text lc le (a .boards) (a .count) (a .is) in
     record {
       short = taken-short c text lc le t;
       lent-cards = lc;
       lent-entries = le;
-      cards-fit = taken-fits c text lc le (a .boards) (a .count) (a .is) .cards-fit;
+      cards-fit = f .cards-fit;
+      entries-fit = f .entries-fit;
       cards-are = ec;
       entries-are = ee;
     }

@@ -7,8 +7,19 @@ pub mod FinishedTables
 pub mod Finishing
 pub mod Handed
 pub mod Inside
+pub mod LinAuction
+pub mod LinContract
 pub mod LineBack
 pub mod LinesWritten
+pub mod LinKept
+pub mod LinPins
+pub mod LinPlanned
+pub mod LinPlay
+pub mod LinRecords
+pub mod LinRefusing
+pub mod LinSections
+pub mod LinTags
+pub mod LinWritable
 pub mod Listed
 pub mod Listing
 pub mod MeaningLaws
@@ -25,6 +36,8 @@ pub mod RemarksBack
 pub mod RemarksCounted
 pub mod RemarksOrdered
 pub mod RemarksPlaced
+pub mod SectionTokens
+pub mod SectionsBack
 pub mod StatesMean
 pub mod TableRefusing
 pub mod TablesBack
@@ -34,5 +47,6 @@ pub mod TrimmedDirectives
 pub mod Worked
 pub mod WorkedCards
 pub mod WorkedFinished
+pub mod WorkedLin
 pub mod WriteRefusing
 pub mod WrittenTagsBack

@@ -20,10 +20,11 @@ use Rattle.reader.specs.Tag.{tagText}
 use Rattle.reader.specs.Plain.{PlainBoard, goodDirective}
 use Rattle.writer.specs.Tags.{headTags, writtenTags}
 use Rattle.writer.specs.Remarks.{Anchored, directivesOf, blocksOf, those, isLeading, WrittenLine, tagLine, dataLine, directiveLine, blockLine, directiveLines, blockLines, leadingLines, bodyLines, lineText, linesText}
-use Rattle.writer.specs.Pages.{ownPlay, bodyText, builtInHeader, pageHeader, firstPart, nextPart, nextParts, pageText}
-use Rattle.demands.specs.PageBack.{all, goodLine, Shut, last, more, ReadsAs, tag, section, directive, comment, block, ownText, recordsAfter, pageRecords}
+use Rattle.writer.specs.Pages.{ownPlay, builtInHeader, pageHeader, firstPart, nextPart, nextParts, pageText}
+use Rattle.demands.specs.PageBack.{all, goodLine, Shut, last, more, ReadsAs, tag, section, directive, comment, block, ownText, partsText, partRecords, pageRecords}
 use Rattle.demands.proofs.LineBack.{or-true, LineBack}
 use Rattle.reader.proofs.Seams.{flat-raw}
+use Rattle.reader.proofs.EntryLaws.{All, none, one}
 
 -- ---- the lines of a text that ends with an LF, and of what follows it
 
@@ -71,7 +72,7 @@ calm-walk s text (l ∷ ls) r e =
     rw (not-true (closesRecord s l) (h .0)) (rw append-assoc at (calm-walk (scanned s l) (text ++ l) ls r (h .1)))
 
 -- Outside commentary, and inside it; m says whether a tag was met.
-abbrev outside : Bool → Scan
+abbrev pub outside : Bool → Scan
 outside m = record { commentary = false; met = m }
 
 abbrev inside : Bool → Scan
@@ -116,7 +117,7 @@ shut-ends m (l ∷ ls) (more h s) = let i = shut-ends m ls s in record { calmly 
 
 -- ---- written lines
 
-abbrev isTagLine : WrittenLine → Bool
+abbrev pub isTagLine : WrittenLine → Bool
 isTagLine (tagLine n v) = true
 isTagLine (dataLine d) = false
 isTagLine (directiveLine i d) = false
@@ -138,7 +139,7 @@ reads-pass m (blockLine i v) (b ∷ ls) (block {l = l} k (more h s) u) =
     let b = not-blank (123 ∷ l) (rw k) in
     record { calmly = rw (closes-none m (123 ∷ l) b, k, h, or-false m) (i .calmly); lands = rw (k, h, or-false m) (i .lands) }
 
-abbrev anyTag : List WrittenLine → Bool
+abbrev pub anyTag : List WrittenLine → Bool
 anyTag [] = false
 anyTag (l ∷ ls) = isTagLine l || anyTag ls
 
@@ -168,7 +169,7 @@ tag-behind [] ys e = e
 tag-behind (x ∷ xs) ys e = rw (tag-behind xs ys e) (or-true (isTagLine x))
 
 -- Every board has an Event tag.
-body-tag : (c : Conventions) (b : PlainBoard) (play : List (List ℕ)) → anyTag (bodyLines b (writtenTags c b play)) ≡ true
+pub body-tag : (c : Conventions) (b : PlainBoard) (play : List (List ℕ)) → anyTag (bodyLines b (writtenTags c b play)) ≡ true
 unfolding bodyLines writtenTags headTags
 body-tag c b play = tag-behind (blockLines (those isLeading (blocksOf b))) _ refl
 
@@ -177,13 +178,18 @@ pub record GoodLines (c : Conventions) (b : PlainBoard) : Type 0 where
   pub leading-good : all goodLine (leadingLines b) ≡ true
   pub body-good : all goodLine (bodyLines b (writtenTags c b (ownPlay c (b .play)))) ≡ true
 
-own-walk : (c : Conventions) (b : PlainBoard) (r : List ℕ) → GoodLines c b → recordsFrom fresh [] (rawLines (ownText c b ++ r)) ≡ recordsFrom (outside true) (ownText c b) (rawLines r)
-unfolding leadingLines
-own-walk c b r g =
-    let w = writtenTags c b (ownPlay c (b .play)) in
-    rw (append-assoc (linesText (leadingLines b)) (bodyText c b) r)
-    (lines-walk false [] (leadingLines b) (bodyText c b ++ r) (g .leading-good)
-    ∙ rw (no-tags (those isLeading (directivesOf b))) (lines-walk false (linesText (leadingLines b)) (bodyLines b w) r (g .body-good) ∙ rw (body-tag c b (ownPlay c (b .play)))))
+-- A record's text: from its start on, and whatever follows, its lines close no record, and they hold a tag.
+pub record Walked (own : List ℕ) : Type 0 where
+  pub walked : (r : List ℕ) → recordsFrom fresh [] (rawLines (own ++ r)) ≡ recordsFrom (outside true) own (rawLines r)
+
+-- Lines without a tag, and lines with one.
+pub LedWalk : (hs ls : List WrittenLine) → all goodLine hs ≡ true → anyTag hs ≡ false → all goodLine ls ≡ true → anyTag ls ≡ true → Walked (linesText hs ++ linesText ls)
+LedWalk hs ls g n h t =
+    record {
+      walked = λ r.
+          rw (append-assoc (linesText hs) (linesText ls) r)
+          (lines-walk false [] hs (linesText ls ++ r) g ∙ rw n (lines-walk false (linesText hs) ls r h ∙ rw t));
+    }
 
 -- ---- the header
 
@@ -219,14 +225,25 @@ header-none (l ∷ ls) e = e
 header-walk : (ls : List WrittenLine) (r : List ℕ) → all goodLine ls ≡ true → anyTag ls ≡ false → recordsFrom fresh [] (rawLines (pageHeader ls ++ r)) ≡ recordsFrom fresh (pageHeader ls) (rawLines r)
 header-walk ls r g n = rw (header-lines ls) (directives-walk (headerLines ls) r (header-good ls g) (header-none ls n))
 
-first-walk : (c : Conventions) (b : PlainBoard) (r : List ℕ) → GoodLines c b → recordsFrom fresh [] (rawLines (firstPart c b ++ r)) ≡ recordsFrom (outside true) (firstPart c b) (rawLines r)
+pub HeadedWalk : (hs ls : List WrittenLine) → all goodLine hs ≡ true → anyTag hs ≡ false → all goodLine ls ≡ true → anyTag ls ≡ true → Walked (pageHeader hs ++ linesText ls)
+HeadedWalk hs ls g n h t =
+    record {
+      walked = λ r.
+          rw (append-assoc (pageHeader hs) (linesText ls) r)
+          (header-walk hs (linesText ls ++ r) g n ∙ (lines-walk false (pageHeader hs) ls r h ∙ rw t));
+    }
+
+own-walk : (c : Conventions) (b : PlainBoard) → GoodLines c b → Walked (ownText c b)
+unfolding leadingLines
+own-walk c b g =
+    let play = ownPlay c (b .play) in
+    LedWalk (leadingLines b) (bodyLines b (writtenTags c b play)) (g .leading-good) (no-tags (those isLeading (directivesOf b))) (g .body-good) (body-tag c b play)
+
+first-walk : (c : Conventions) (b : PlainBoard) → GoodLines c b → Walked (firstPart c b)
 unfolding firstPart leadingLines
-first-walk c b r g =
-    let w = writtenTags c b (ownPlay c (b .play)) in
-    let h = pageHeader (leadingLines b) in
-    rw (append-assoc h (bodyText c b) r)
-    (header-walk (leadingLines b) (bodyText c b ++ r) (g .leading-good) (no-tags (those isLeading (directivesOf b)))
-    ∙ (lines-walk false h (bodyLines b w) r (g .body-good) ∙ rw (body-tag c b (ownPlay c (b .play)))))
+first-walk c b g =
+    let play = ownPlay c (b .play) in
+    HeadedWalk (leadingLines b) (bodyLines b (writtenTags c b play)) (g .leading-good) (no-tags (those isLeading (directivesOf b))) (g .body-good) (body-tag c b play)
 
 -- ---- the page
 
@@ -239,15 +256,32 @@ blank-after : (text r : List ℕ) → recordsFrom (outside true) text (rawLines 
 unfolding closesRecord isBlank trimmed isWhite
 blank-after text r = refl
 
-boards-after : (c : Conventions) (own : List ℕ) (bs : List PlainBoard) → AllLined c bs → recordsFrom (outside true) own (rawLines (nextParts c bs)) ≡ recordsAfter c own bs
+parts-after : {A : Type 0} (f : A → List ℕ) (own : List ℕ) {xs : List A} → All (λ x. Walked (f x)) xs → recordsFrom (outside true) own (rawLines (partsText f xs)) ≡ partRecords f own xs
+parts-after f own none = refl
+parts-after f own (one {x = x} {xs = xs} w a) =
+    blank-after own (f x ++ partsText f xs)
+    ∙ ap (λ (rs : List (List ℕ)). (own ++ 10 ∷ []) ∷ rs) (w .walked (partsText f xs) ∙ parts-after f (f x) a)
+
+-- THEOREM. Texts in a row, the first of them own, have one record for each.
+pub PartsRecords : {A : Type 0} (f : A → List ℕ) (own : List ℕ) (xs : List A) → Walked own → All (λ x. Walked (f x)) xs → recordsOf (own ++ partsText f xs) ≡ partRecords f own xs
+unfolding recordsOf
+PartsRecords f own xs w a = w .walked (partsText f xs) ∙ parts-after f own a
+
+-- A page without boards is the header alone.
+pub NoRecords : recordsOf builtInHeader ≡ []
+unfolding recordsOf builtInHeader closesRecord scanned commentaryAfter lineKind isBlank trimmed isWhite
+NoRecords = refl
+
+next-parts : (c : Conventions) (bs : List PlainBoard) → nextParts c bs ≡ partsText (ownText c) bs
 unfolding nextPart
-boards-after c own [] no-boards = refl
-boards-after c own (b ∷ bs) (a-board g h) =
-    blank-after own (ownText c b ++ nextParts c bs)
-    ∙ ap (λ (rs : List (List ℕ)). (own ++ 10 ∷ []) ∷ rs) (own-walk c b (nextParts c bs) g ∙ boards-after c (ownText c b) bs h)
+next-parts c [] = refl
+next-parts c (b ∷ bs) = ap (λ (t : List ℕ). (10 ∷ ownText c b) ++ t) (next-parts c bs)
+
+own-walks : (c : Conventions) (bs : List PlainBoard) → AllLined c bs → All (λ b. Walked (ownText c b)) bs
+own-walks c [] no-boards = none
+own-walks c (b ∷ bs) (a-board g h) = one (own-walk c b g) (own-walks c bs h)
 
 -- THEOREM. Where every line can be written, the page has one record for each board: its lines, the header in the first.
 pub LinedRecords : (c : Conventions) (bs : List PlainBoard) → AllLined c bs → recordsOf (pageText c bs) ≡ pageRecords c bs
-unfolding recordsOf builtInHeader closesRecord scanned commentaryAfter lineKind isBlank trimmed isWhite
-LinedRecords c [] no-boards = refl
-LinedRecords c (b ∷ bs) (a-board g h) = first-walk c b (nextParts c bs) g ∙ boards-after c (firstPart c b) bs h
+LinedRecords c [] no-boards = NoRecords
+LinedRecords c (b ∷ bs) (a-board g h) = rw (next-parts c bs) (PartsRecords (ownText c) (firstPart c b) bs (first-walk c b g) (own-walks c bs h))

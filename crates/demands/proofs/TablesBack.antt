@@ -175,7 +175,7 @@ rest-without n q e c b play =
     (table-without n (b .table) e)
     (quiet-without n q (behind c b play) (behind-quiet c b play))
 
-deal-told : (c : Conventions) (b : PlainBoard) (play : List (List ℕ))
+pub deal-told : (c : Conventions) (b : PlainBoard) (play : List (List ℕ))
     → foldDeal c (map tagPair (writtenTags c b play)) ≡ dealBy c 4 (dealValue c b (b .values .deal)) (noBoard .deal)
 deal-told c b play =
     let tables = tableTags (b .table) in
@@ -204,14 +204,14 @@ fold-within f n h a xs ws ys x y =
     )
     (FoldNone f n h (foldTags f a (map tagPair ws)) y)
 
-table-told : (c : Conventions) (b : PlainBoard) (play : List (List ℕ))
+pub table-told : (c : Conventions) (b : PlainBoard) (play : List (List ℕ))
     → foldTable (map tagPair (writtenTags c b play)) ≡ foldTable (map tagPair (tableTags (b .table)))
 table-told c b play =
     rw (written-parts c b play)
     (fold-within tableBy 18 table-heeds (noBoard .table) (before c b ++ dealTag c b ∷ between c b) (tableTags (b .table)) (behind c b play)
     (front-without 18 refl refl c b) (quiet-without 18 refl (behind c b play) (behind-quiet c b play)))
 
-no-rows : (c : Conventions) (b : PlainBoard) (play : List (List ℕ)) → Without 19 (writtenTags c b play)
+pub no-rows : (c : Conventions) (b : PlainBoard) (play : List (List ℕ)) → Without 19 (writtenTags c b play)
 no-rows c b play =
     rw (written-parts c b play)
     (without-append 19 (before c b ++ dealTag c b ∷ between c b) (tableTags (b .table) ++ behind c b play)

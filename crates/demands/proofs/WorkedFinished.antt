@@ -44,6 +44,9 @@ use Rattle.demands.proofs.Worked.{worked-pair, worked-answers}
 
 -- ---- what the C functions hand back, of any editions that are taken
 
+not-below : (a b : ℕ) → (a < b → ⊥) → ltb a b ≡ false
+not-below a b h = by-cases (ltb a b) (λ e. absurd (h (ltb-true a b e))) (λ e. e)
+
 taken-reading : (c : Conventions) (text cards entries : List ℕ) → IsTaken c text cards entries
     → readingOf c text (length cards) (length entries) ≡ Taken (boardsIn c text) (entriesIn c text)
 unfolding readingOf
@@ -53,11 +56,8 @@ taken-reading c text cards entries t =
       not-below (length cards / 64) (boardsIn c text) (t .box-not-full),
       not-below (length entries / 4) (entriesIn c text) (t .list-not-full),
     )
-  where
-    not-below : (a b : ℕ) → (a < b → ⊥) → ltb a b ≡ false
-    not-below a b h = by-cases (ltb a b) (λ e. absurd (h (ltb-true a b e))) (λ e. e)
 
-read-out : (c : Conventions) (text cards entries : List ℕ) → IsTaken c text cards entries
+pub read-out : (c : Conventions) (text cards entries : List ℕ) → IsTaken c text cards entries
     → EditionOut c text cards entries (lent true (length cards) (cardsOf c text)) (lent true (length entries) (entriesOf c text))
     (0 ∷ 0 ∷ 0 ∷ boardsIn c text ∷ entriesIn c text ∷ []) 0
 read-out c text cards entries t =
@@ -97,24 +97,30 @@ finish-out c old new boxes answers page f l =
       returned = refl;
     }
 
--- Planned with no slip lent, where no board is to be solved.
-plan-out : (c : Conventions) (old new : List ℕ) (boxes : Boxes) (t : Totals)
+-- Planned with enough slips lent.
+pub plan-out : (c : Conventions) (old new : List ℕ) (boxes : Boxes) (slips : List ℕ) → Plannable c old new boxes slips
+    → PlanOut c old new boxes slips (boxesAfter c true old new boxes) (lent true (length slips) (slipsOf (plansOf c old new)))
+    (planNumbers (Planned (totalsOf (plansOf c old new)))) 0
+unfolding planningOf editionsOf
+plan-out c old new boxes slips f =
+    let p : planningOf c old new boxes (length slips) ≡ Planned (totalsOf (plansOf c old new)) =
+    rw (
+      taken-reading c old (boxes .old-cards) (boxes .old-entries) (f .old-taken),
+      taken-reading c new (boxes .new-cards) (boxes .new-entries) (f .new-taken),
+      not-below (length slips / 5) (solveIn c old new) (f .slips-enough),
+    ) in
+    record { told = rw p; boxes-after = rw p (boxes-are c true old new boxes); slips-after = rw p; returned = refl }
+
+-- With none, where no board is to be solved.
+plan-none : (c : Conventions) (old new : List ℕ) (boxes : Boxes) (t : Totals)
     → IsTaken c old (boxes .old-cards) (boxes .old-entries) → IsTaken c new (boxes .new-cards) (boxes .new-entries)
     → totalsOf (plansOf c old new) ≡ t → t .solve ≡ 0
     → PlanOut c old new boxes [] (boxesAfter c true old new boxes) [] (planNumbers (Planned t)) 0
-unfolding planningOf editionsOf
-plan-out c old new boxes t to tn e z =
+plan-none c old new boxes t to tn e z =
     let js = plansOf c old new in
-    let p : planningOf c old new boxes 0 ≡ Planned t =
-    rw (
-      taken-reading c old (boxes .old-cards) (boxes .old-entries) to,
-      taken-reading c new (boxes .new-cards) (boxes .new-entries) tn,
-      e,
-      z,
-    ) in
-    let none : slipsOf js ≡ [] =
-    sym (take-all 0 (slipsOf js) (omega (arith, slips-count js, solve-sum js, ap (λ (u : Totals). u .solve) e))) in
-    record { told = rw p; boxes-after = rw p (boxes-are c true old new boxes); slips-after = rw (p, none); returned = refl }
+    let n = ap (λ (u : Totals). u .solve) e in
+    let none : slipsOf js ≡ [] = sym (take-all 0 (slipsOf js) (omega (arith, slips-count js, solve-sum js))) in
+    rw (none, e) at (plan-out c old new boxes [] (record { old-taken = to; new-taken = tn; slips-enough = λ h. omega arith }))
 
 -- ---- it is finished
 
@@ -191,7 +197,7 @@ each-own k l =
 plan-again : PlanOut builtIn old finished again [] again′ [] again-answer′ 0
 plan-again =
     rw (length-replicate {A = ℕ} (4 * entriesIn builtIn finished) 0) at
-    (plan-out builtIn old finished again allOwn (taken .old-taken) finished-taken
+    (plan-none builtIn old finished again allOwn (taken .old-taken) finished-taken
     (own-totals (cardsOf builtIn old) (cardsOf builtIn finished) three each-own) refl)
 
 pub worked-finished : WorkedFinished

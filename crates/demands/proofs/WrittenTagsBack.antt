@@ -50,7 +50,7 @@ reads-tags (directiveLine i d) (l ∷ []) r (comment g k h) = rw (k, h)
 reads-tags (blockLine i v) (l ∷ []) r (block k (last h) u) = rw (k, h)
 reads-tags (blockLine i v) (l ∷ ls) r (block k (more h s) u) = rw (k, h) (shut-tags ls r s)
 
-lines-tags : (ls : List WrittenLine) (r : List ℕ) → all goodLine ls ≡ true → tagsOfLines false (rawLines (linesText ls ++ r)) ≡ pairsIn ls ++ tagsOfLines false (rawLines r)
+pub lines-tags : (ls : List WrittenLine) (r : List ℕ) → all goodLine ls ≡ true → tagsOfLines false (rawLines (linesText ls ++ r)) ≡ pairsIn ls ++ tagsOfLines false (rawLines r)
 lines-tags [] r e = refl
 lines-tags (l ∷ ls) r e =
     let h = both (goodLine l) (all goodLine ls) e in
@@ -130,7 +130,7 @@ pub header-pairs : (ls : List WrittenLine) → pairsIn ls ≡ [] → pairsIn (he
 header-pairs [] e = refl
 header-pairs (l ∷ ls) e = e
 
-header-tags : (ls : List WrittenLine) (r : List ℕ) → all goodLine ls ≡ true → pairsIn ls ≡ [] → tagsOfLines false (rawLines (pageHeader ls ++ r)) ≡ tagsOfLines false (rawLines r)
+pub header-tags : (ls : List WrittenLine) (r : List ℕ) → all goodLine ls ≡ true → pairsIn ls ≡ [] → tagsOfLines false (rawLines (pageHeader ls ++ r)) ≡ tagsOfLines false (rawLines r)
 header-tags ls r e n = rw (header-lines ls) (directives-tags (headerLines ls) r (header-good ls e) (header-pairs ls n))
 
 module _ (c : Conventions) (b : PlainBoard) (g : GoodLines c b) where

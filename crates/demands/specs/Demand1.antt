@@ -6,7 +6,8 @@
 -- the order in which they are looked for, with the number carried; that 0 is answered exactly when none of the conditions holds; and
 -- that every lent word, and every value of the answer, is zero after a refusal. An answer array is: number, edition, carried number, values.
 -- The statements hold for every set of letters c; the C functions read with the built-in ones. proofs/Refusing.antt proves
--- them, proofs/TableRefusing.antt those of tables, proofs/WriteRefusing.antt that of writing and proofs/FinishRefusing.antt that of finishing.
+-- them, proofs/TableRefusing.antt those of tables, proofs/WriteRefusing.antt that of writing, proofs/FinishRefusing.antt that of finishing
+-- and proofs/LinRefusing.antt that of converting a LIN text.
 use Prim.Native.Nat.{ℕ, suc, _*_, _/_, _<_}
 use mathlib.Core.Path.{_≡_}
 use mathlib.Core.Logic.{_↔_}
@@ -28,7 +29,9 @@ use Rattle.planning.specs.Slips.{totalsOf}
 use Rattle.planning.specs.Plans.{Boxes, plansOf}
 use Rattle.writer.specs.Pages.{writtenText}
 use Rattle.writer.specs.Given.{finishedText}
-use Rattle.golavimes.specs.Answers.{WroteOut, ReadOut, EditionOut, WritingOut, PlanOut, StateOut, BehindOut, BoardsOut, FinishOut}
+use Rattle.lin.specs.Dealing.{Dealing, allCards}
+use Rattle.lin.specs.LinBoards.{LinBoard, linBoards, linText}
+use Rattle.golavimes.specs.Answers.{WroteOut, ReadOut, EditionOut, WritingOut, PlanOut, StateOut, BehindOut, BoardsOut, FinishOut, LinOut}
 
 -- ---- refusals, the first whose condition holds
 
@@ -207,6 +210,41 @@ ofRows c rows =
     ∷ refusal 15 0 (absent c rows) (0 < absent c rows)
     ∷ []
 
+-- ---- 16: a LIN text
+
+-- P holds of the dealing of one of the boards.
+pub record SomeBoard (P : Dealing → Type 0) (boards : List LinBoard) : Type 0 where
+  pub before : List LinBoard
+  pub board : LinBoard
+  pub behind : List LinBoard
+  pub whole : boards ≡ before ++ board ∷ behind
+  pub holds : P (board .dealing)
+
+-- Some hand has a card.
+abbrev pub HasCard : Dealing → Type 0
+HasCard d = 0 < length (allCards d)
+
+-- A card stands twice, in one hand or in two.
+pub record CardTwice (d : Dealing) : Type 0 where
+  pub card : ℕ
+  pub before : List ℕ
+  pub between : List ℕ
+  pub behind : List ℕ
+  pub whole : allCards d ≡ before ++ card ∷ (between ++ card ∷ behind)
+
+-- A hand has more than 13 cards.
+pub data HandOver (d : Dealing) : Type 0 where
+  north-over : 13 < length (d .north) → HandOver d
+  east-over : 13 < length (d .east) → HandOver d
+  south-over : 13 < length (d .south) → HandOver d
+  west-over : 13 < length (d .west) → HandOver d
+
+-- 16 no deal: no board of the text has a card, or one has a card twice or a hand above 13.
+pub data NoDeal (boards : List LinBoard) : Type 0 where
+  no-card : (SomeBoard HasCard boards → ⊥) → NoDeal boards
+  card-twice : SomeBoard CardTwice boards → NoDeal boards
+  hand-over : SomeBoard HandOver boards → NoDeal boards
+
 -- ---- the functions: all that is lent is zero after a refusal
 
 -- The four boxes hold nothing but zeros.
@@ -348,3 +386,18 @@ FinishRefuses =
     (c : Conventions) (old new : List ℕ) (boxes : Boxes) (answers page : List ℕ) (boxes′ : Boxes) (page′ answer′ : List ℕ) (r : ℕ)
     → FinishOut c old new boxes answers page boxes′ page′ answer′ r
     → FinishRefusals c old new boxes answers page boxes′ page′ answer′ r
+
+-- THEOREM. golavimes_lin_to_pbn: 1, carrying the length, 16, carrying 0, then 7, carrying the bytes needed.
+pub record LinRefusals (c : Conventions) (text page page′ answer′ : List ℕ) (r : ℕ) : Type 0 where
+  pub refused : FirstThatHolds (
+      refusal 1 0 (length text) (Overlong text)
+      ∷ refusal 16 0 0 (NoDeal (linBoards c text))
+      ∷ refusal 7 0 (length (linText c text)) (PageFull (linText c text) page)
+      ∷ []) answer′
+  pub one-edition : getD answer′ 1 0 ≡ 0
+  pub returned : r ≡ getD answer′ 0 0
+  pub page-zero : (r ≡ 0 → ⊥) → page′ ≡ zeros page
+  pub no-values : (r ≡ 0 → ⊥) → NoValues 2 answer′
+
+abbrev pub LinRefuses : Type 0
+LinRefuses = (c : Conventions) (text page page′ answer′ : List ℕ) (r : ℕ) → LinOut c text page page′ answer′ r → LinRefusals c text page page′ answer′ r

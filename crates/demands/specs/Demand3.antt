@@ -133,7 +133,7 @@ InsideAlone =
 -- as many boards as the new edition. At each position it has the same whole deal, with the cells of its own table or else of the one that
 -- document 01's Finishing gives it, or no whole deal where the new edition has none."
 
--- The finished edition, or the written one: the first bytes of the page as handed back, as many as answer[3] says.
+-- The finished edition, the written one, or a converted LIN text: the first bytes of the page as handed back, as many as answer[3] says.
 abbrev pub finishedPart : List ℕ → List ℕ → List ℕ
 finishedPart page answer = take (getD answer 3 0) page
 

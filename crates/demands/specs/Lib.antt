@@ -2,7 +2,10 @@ pub mod Boards
 pub mod Cases
 pub mod Demand1
 pub mod Demand3
+pub mod Finished
+pub mod Lin
+pub mod LinSteps
 pub mod NothingLost
 pub mod PageBack
-pub mod Finished
 pub mod Worked
+pub mod WorkedLin

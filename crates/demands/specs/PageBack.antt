@@ -111,10 +111,19 @@ pub data ReadsAs : WrittenLine → List (List ℕ) → Type 0 where
 abbrev pub ownText : Conventions → PlainBoard → List ℕ
 ownText c b = linesText (leadingLines b) ++ bodyText c b
 
--- One record for each board, its lines; the empty line (an LF, 10) between two boards ends the earlier one. own are those of the first.
+-- Texts in a row, an empty line (an LF, 10) before each; and one record for each, own being the text before them: that empty line ends the
+-- earlier one.
+abbrev pub partsText : {A : Type 0} → (A → List ℕ) → List A → List ℕ
+partsText f [] = []
+partsText f (x ∷ xs) = (10 ∷ f x) ++ partsText f xs
+
+abbrev pub partRecords : {A : Type 0} → (A → List ℕ) → List ℕ → List A → List (List ℕ)
+partRecords f own [] = own ∷ []
+partRecords f own (x ∷ xs) = (own ++ 10 ∷ []) ∷ partRecords f (f x) xs
+
+-- One record for each board, its lines; own are those of the first.
 abbrev pub recordsAfter : Conventions → List ℕ → List PlainBoard → List (List ℕ)
-recordsAfter c own [] = own ∷ []
-recordsAfter c own (b ∷ bs) = (own ++ 10 ∷ []) ∷ recordsAfter c (ownText c b) bs
+recordsAfter c own bs = partRecords (ownText c) own bs
 
 -- The file's header is in the first; a page without boards has no record.
 abbrev pub pageRecords : Conventions → List PlainBoard → List (List ℕ)
