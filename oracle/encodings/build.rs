@@ -1,6 +1,8 @@
 //! Finds the original Rust files and writes the list of modules that lib.rs
-//! includes. Nothing is copied: each module is compiled from its own path.
+//! includes. Nothing is copied: each module is compiled from its own path, but
+//! `lin/mod.rs` through a link, since it looks for its own modules beside itself.
 
+use std::os::unix::fs::symlink;
 use std::path::{Path, PathBuf};
 use std::{env, fs};
 
@@ -29,14 +31,15 @@ fn main() {
         )
     });
 
+    let out = PathBuf::from(env::var_os("OUT_DIR").expect("cargo sets it"));
     let text = format!(
-        "{}pub mod pbn {{\n{}{}{}\n    pub use self::dd::*;\n    pub use self::reader::*;\n    pub use self::writer::*;\n}}\n",
+        "{}{}pub mod pbn {{\n{}{}{}\n    pub use self::dd::*;\n    pub use self::reader::*;\n    pub use self::writer::*;\n}}\n",
         module(&folder, "error.rs", "error"),
+        linked_lin(&folder, &here.join("src"), &out),
         module(&folder, "pbn/dd.rs", "dd"),
         module(&folder, "pbn/reader.rs", "reader"),
         module(&folder, "pbn/writer.rs", "writer"),
     );
-    let out = PathBuf::from(env::var_os("OUT_DIR").expect("cargo sets it"));
     fs::write(out.join("modules.rs"), text).expect("OUT_DIR can be written");
 }
 
@@ -46,4 +49,21 @@ fn module(folder: &Path, file: &str, name: &str) -> String {
     println!("cargo:rerun-if-changed={}", path.display());
     let path = path.to_str().expect("the path is text");
     format!("#[path = {path:?}]\npub mod {name};\n")
+}
+
+/// The line that makes a module of a folder of links: the original `lin/mod.rs`,
+/// and the stand-ins for the two modules that it declares.
+fn linked_lin(folder: &Path, stand_ins: &Path, out: &Path) -> String {
+    fs::create_dir_all(out.join("lin")).expect("OUT_DIR can be written");
+    for (from, file) in [
+        (folder, "lin/mod.rs"),
+        (stand_ins, "lin/document.rs"),
+        (stand_ins, "lin/writer.rs"),
+    ] {
+        let (from, link) = (from.join(file), out.join(file));
+        println!("cargo:rerun-if-changed={}", from.display());
+        let _ = fs::remove_file(&link);
+        symlink(&from, &link).expect("OUT_DIR takes links");
+    }
+    module(out, "lin/mod.rs", "lin")
 }

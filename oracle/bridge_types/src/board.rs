@@ -8,7 +8,7 @@ pub enum Vulnerability {
     None,
     NorthSouth,
     EastWest,
-    All,
+    Both,
 }
 
 impl Vulnerability {
@@ -18,7 +18,7 @@ impl Vulnerability {
             "NONE" | "LOVE" | "-" => Some(Vulnerability::None),
             "NS" => Some(Vulnerability::NorthSouth),
             "EW" => Some(Vulnerability::EastWest),
-            "ALL" | "BOTH" => Some(Vulnerability::All),
+            "ALL" | "BOTH" => Some(Vulnerability::Both),
             _ => None,
         }
     }
@@ -28,7 +28,7 @@ impl Vulnerability {
             Vulnerability::None => "None",
             Vulnerability::NorthSouth => "NS",
             Vulnerability::EastWest => "EW",
-            Vulnerability::All => "All",
+            Vulnerability::Both => "All",
         }
     }
 }

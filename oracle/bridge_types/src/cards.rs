@@ -20,6 +20,8 @@ pub const DIRECTIONS: [Direction; 4] = [
 ];
 
 impl Direction {
+    pub const ALL: [Direction; 4] = DIRECTIONS;
+
     pub fn from_char(c: char) -> Option<Self> {
         match c.to_ascii_uppercase() {
             'N' => Some(Direction::North),
@@ -62,6 +64,8 @@ pub enum Suit {
 pub const SUITS: [Suit; 4] = [Suit::Clubs, Suit::Diamonds, Suit::Hearts, Suit::Spades];
 
 impl Suit {
+    pub const ALL: [Suit; 4] = SUITS;
+
     pub fn from_char(c: char) -> Option<Self> {
         match c.to_ascii_uppercase() {
             'C' => Some(Suit::Clubs),
@@ -134,6 +138,16 @@ pub const RANKS: [char; 13] = [
 ];
 
 impl Rank {
+    pub const ALL: [Rank; 13] = {
+        let mut all = [Rank(0); 13];
+        let mut at = 0;
+        while at < all.len() {
+            all[at] = Rank(at as u8);
+            at += 1;
+        }
+        all
+    };
+
     pub fn from_char(c: char) -> Option<Self> {
         let c = c.to_ascii_uppercase();
         let at = RANKS.iter().position(|letter| *letter == c)?;
@@ -166,44 +180,76 @@ impl Card {
     }
 }
 
-/// A hand: the set of its cards, a bit each.
+/// A hand: its cards, a bit each, and how often one was added that was there. A
+/// list, but for the order.
 #[derive(Debug, Clone, Copy, PartialEq, Eq, Default, Hash)]
-pub struct Hand(pub u64);
+pub struct Hand {
+    pub bits: u64,
+    pub repeats: usize,
+}
 
 impl Hand {
-    pub fn has(self, card: Card) -> bool {
-        self.0 >> card.bit() & 1 == 1
+    pub fn new() -> Self {
+        Self::default()
     }
 
-    pub fn count(self) -> u32 {
-        self.0.count_ones()
+    /// The hand of these cards, each once.
+    pub fn of_bits(bits: u64) -> Self {
+        Hand { bits, repeats: 0 }
+    }
+
+    /// Adds a card, also one that is there.
+    pub fn add_card(&mut self, card: Card) {
+        self.repeats += usize::from(self.has_card(card));
+        self.bits |= 1 << card.bit();
+    }
+
+    pub fn has_card(&self, card: Card) -> bool {
+        self.bits >> card.bit() & 1 == 1
+    }
+
+    /// How many cards were added.
+    pub fn len(&self) -> usize {
+        self.bits.count_ones() as usize + self.repeats
+    }
+
+    pub fn is_empty(&self) -> bool {
+        self.len() == 0
+    }
+
+    /// The cards, each once.
+    pub fn cards(&self) -> Vec<Card> {
+        let pack = SUITS
+            .iter()
+            .flat_map(|suit| Rank::ALL.map(|rank| Card::new(*suit, rank)));
+        pack.filter(|card| self.has_card(*card)).collect()
     }
 
     /// `-` or four dotted suits S H D C; no card twice, at most 13.
     fn from_pbn(text: &str) -> Option<Self> {
         if text == "-" {
-            return Some(Hand(0));
+            return Some(Hand::new());
         }
         let suits: Vec<&str> = text.split('.').collect();
         if suits.len() != 4 {
             return None;
         }
-        let mut hand = Hand(0);
+        let mut hand = Hand::new();
         for (suit, letters) in SUITS.iter().rev().zip(suits) {
             for letter in letters.chars() {
                 let card = Card::new(*suit, Rank::from_char(letter)?);
-                if hand.has(card) {
+                if hand.has_card(card) {
                     return None;
                 }
-                hand.0 |= 1 << card.bit();
+                hand.add_card(card);
             }
         }
-        (hand.count() <= 13).then_some(hand)
+        (hand.len() <= 13).then_some(hand)
     }
 
     /// Suits S.H.D.C, high to low; an empty hand is `-`.
     fn to_pbn(self) -> String {
-        if self.0 == 0 {
+        if self.is_empty() {
             return "-".to_string();
         }
         let suits: Vec<String> = SUITS
@@ -213,7 +259,7 @@ impl Hand {
                 (0..13)
                     .rev()
                     .map(Rank)
-                    .filter(|rank| self.has(Card::new(*suit, *rank)))
+                    .filter(|rank| self.has_card(Card::new(*suit, *rank)))
                     .map(Rank::to_char)
                     .collect()
             })
@@ -229,6 +275,18 @@ pub struct Deal {
 }
 
 impl Deal {
+    pub fn new() -> Self {
+        Self::default()
+    }
+
+    pub fn hand(&self, seat: Direction) -> &Hand {
+        &self.hands[seat.to_index()]
+    }
+
+    pub fn set_hand(&mut self, seat: Direction, hand: Hand) {
+        self.hands[seat.to_index()] = hand;
+    }
+
     /// A seat letter, `:`, and four hands clockwise from that seat with runs of
     /// white space between them. Outer white space is trimmed; there is none
     /// before or right after the colon. No card twice in the whole deal.
@@ -251,10 +309,10 @@ impl Deal {
         let mut dealt = 0u64;
         for (i, part) in parts.iter().enumerate() {
             let hand = Hand::from_pbn(part)?;
-            if dealt & hand.0 != 0 {
+            if dealt & hand.bits != 0 {
                 return None;
             }
-            dealt |= hand.0;
+            dealt |= hand.bits;
             deal.hands[first.after(i).to_index()] = hand;
         }
         Some(deal)

@@ -1,8 +1,8 @@
 //! Stand-in for the crate `bridge_types`, whose bodies could not be had.
 //!
-//! It holds exactly what the original `dd.rs`, `reader.rs` and `writer.rs` use,
-//! with the meanings that docs/FORMAT.md gives under "Borrowed meanings". Letters
-//! and words take either case, ASCII alone.
+//! It holds exactly what the original `dd.rs`, `reader.rs`, `writer.rs` and
+//! `lin/mod.rs` use, with the meanings that docs/FORMAT.md gives under "Borrowed
+//! meanings". Letters and words take either case, ASCII alone.
 
 mod board;
 mod call;

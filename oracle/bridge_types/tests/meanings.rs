@@ -135,10 +135,10 @@ fn vulnerability() {
 fn deals() {
     let a = "N:AKQJT98765432... .AKQJT98765432.. ..AKQJT98765432. ...AKQJT98765432";
     let deal = Deal::from_pbn(a).unwrap();
-    assert_eq!(deal.hands[0], Hand(0x1fff << 39));
-    assert_eq!(deal.hands[1], Hand(0x1fff << 26));
-    assert_eq!(deal.hands[2], Hand(0x1fff << 13));
-    assert_eq!(deal.hands[3], Hand(0x1fff));
+    assert_eq!(deal.hands[0], Hand::of_bits(0x1fff << 39));
+    assert_eq!(deal.hands[1], Hand::of_bits(0x1fff << 26));
+    assert_eq!(deal.hands[2], Hand::of_bits(0x1fff << 13));
+    assert_eq!(deal.hands[3], Hand::of_bits(0x1fff));
     assert_eq!(deal.to_pbn(Direction::North), a);
     assert_eq!(
         deal.to_pbn(Direction::South),
@@ -146,8 +146,8 @@ fn deals() {
     );
     // From another seat the hands go clockwise from it.
     let b = Deal::from_pbn(&a.replace("N:", "e:").to_lowercase()).unwrap();
-    assert_eq!(b.hands[1], Hand(0x1fff << 39));
-    assert_eq!(b.hands[0], Hand(0x1fff));
+    assert_eq!(b.hands[1], Hand::of_bits(0x1fff << 39));
+    assert_eq!(b.hands[0], Hand::of_bits(0x1fff));
     // Outer white space goes; runs of it stand between hands.
     assert_eq!(
         Deal::from_pbn("\t N:2.3.4.5 \t\u{b}- -\r\n... \u{c}").map(|d| d.to_pbn(Direction::North)),
@@ -267,4 +267,20 @@ fn boards() {
     assert_eq!(board.commentary_anchor_tag(2), None);
     assert_eq!(board.extra_tag("X"), Some("1"));
     assert_eq!(board.extra_tag("Y"), None);
+}
+
+#[test]
+fn a_hand_counts_a_card_that_is_added_again() {
+    let ace = Card::new(Suit::Spades, Rank::from_char('A').unwrap());
+    let mut hand = Hand::new();
+    assert!(hand.is_empty() && !hand.has_card(ace));
+    hand.add_card(ace);
+    hand.add_card(ace);
+    assert_eq!((hand.len(), hand.cards()), (2, vec![ace]));
+    let mut deal = Deal::new();
+    deal.set_hand(Direction::West, hand);
+    assert_eq!(deal.hand(Direction::West).len(), 2);
+    assert_eq!(deal.to_pbn(Direction::North), "N:- - - A...");
+    let letters: String = Rank::ALL.iter().map(|rank| rank.to_char()).collect();
+    assert_eq!(letters, "23456789TJQKA");
 }

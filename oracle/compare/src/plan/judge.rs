@@ -19,7 +19,7 @@ const MOST_RECORDS: usize = 64;
 /// The deal of a board, if it is whole.
 fn whole_deal(board: &Board) -> Option<Deal> {
     let parsed = board.unparsed_deal.is_none();
-    let full = board.deal.hands.iter().all(|hand| hand.count() == 13);
+    let full = board.deal.hands.iter().all(|hand| hand.len() == 13);
     (parsed && full).then_some(board.deal)
 }
 
@@ -75,7 +75,7 @@ fn slips(old: &[Board], new: &[Board]) -> Vec<Slip> {
             continue;
         };
         if !solved.contains(&deal) && listed.insert(deal) {
-            let [n, e, s, w] = deal.hands.map(|hand| hand.0);
+            let [n, e, s, w] = deal.hands.map(|hand| hand.bits);
             slips.push([index as u64 + 1, n, e, s, w]);
         }
     }

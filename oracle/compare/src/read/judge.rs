@@ -153,7 +153,7 @@ impl<'a> Words<'a> {
         fact!(card[7] == 1 || card[8] == 0, "word 8 without word 7");
         let mut dealt = 0;
         for seat in 0..4 {
-            let hand = hand(card, seat).0;
+            let hand = hand(card, seat).bits;
             fact!(hand < 1 << 52, "hand {seat} is {hand:x}");
             fact!(hand.count_ones() <= 13, "hand {seat} has too many cards");
             fact!(dealt & hand == 0, "hand {seat} has another's card");
@@ -361,7 +361,7 @@ impl<'a> Words<'a> {
                 Vulnerability::None,
                 Vulnerability::NorthSouth,
                 Vulnerability::EastWest,
-                Vulnerability::All,
+                Vulnerability::Both,
             ][card[5] as usize],
             deal: Deal {
                 hands: std::array::from_fn(|seat| hand(card, seat)),
@@ -444,7 +444,7 @@ impl<'a> Words<'a> {
 }
 
 fn hand(card: &[u32], seat: usize) -> Hand {
-    Hand(u64::from(card[10 + 2 * seat]) | u64::from(card[11 + 2 * seat]) << 32)
+    Hand::of_bits(u64::from(card[10 + 2 * seat]) | u64::from(card[11 + 2 * seat]) << 32)
 }
 
 fn seat(number: u32) -> Option<Direction> {
