@@ -91,9 +91,9 @@ impl<'a> Pair<'a> {
         let taken = wanted[0] == 0;
         if taken && answers != self.answers {
             let page = model::page(&self.plan, answers);
-            compare_written(wanted, &page, left.answer, left.page)?;
+            compare_written(&wanted, &page, left.answer, left.page)?;
         } else {
-            compare_written(wanted, &self.page, left.answer, left.page)?;
+            compare_written(&wanted, &self.page, left.answer, left.page)?;
         }
         self.plan.compare_boxes(taken, left.boxes)
     }
@@ -326,7 +326,7 @@ impl Run {
             self.product.call(plan.editions(), &answers, &lent)?;
             let wanted = model::answer(&plan, &answers, need, &lent);
             let left = self.product.left();
-            compare_written(wanted, &[], left.answer, left.page)?;
+            compare_written(&wanted, &[], left.answer, left.page)?;
             plan.compare_boxes(false, left.boxes)?;
             self.counts.met.call(left.answer);
         }
@@ -343,7 +343,7 @@ impl Run {
         let (mut page, mut answer) = ([1; 100], [0; 4]);
         golavimes::finish(plan.editions(), boxes, &answers, &mut page, &mut answer);
         let wanted = [5, 0, plan.slips.len() as u64, 0];
-        compare_written(wanted, &[], &answer, &page)?;
+        compare_written(&wanted, &[], &answer, &page)?;
         plan.compare_boxes(false, words.each_ref().map(|words| &words[..]))?;
         self.counts.met.call(&answer);
         Ok(())

@@ -5,10 +5,12 @@ mod clock;
 mod comparison;
 mod finish;
 mod guard;
+mod lin;
 mod model;
 mod plan;
 mod promise;
 mod read;
+mod record;
 mod rng;
 mod room;
 mod sample;
@@ -16,7 +18,10 @@ mod shrink;
 mod tables;
 mod write;
 
+use lin::record::Conversions;
+use read::record::Readings;
 use std::process::ExitCode;
+use write::record::Writings;
 
 const USAGE: &str = "\
 usage: compare tables [--seed N]
@@ -25,11 +30,13 @@ usage: compare tables [--seed N]
        compare write [--seed N]
        compare finish [--seed N]
        compare promise [--seed N]
+       compare lin [--seed N]
        compare bench [--seed N]
        compare outside [--seed N]
        compare record tables PATH [--seed N]
        compare record read PATH [--seed N]
-       compare record write PATH [--seed N]";
+       compare record write PATH [--seed N]
+       compare record lin PATH [--seed N]";
 
 /// The seed of every run that names no other.
 const SEED: u64 = 20_240_501;
@@ -48,6 +55,7 @@ fn main() -> ExitCode {
         ["write"] => exit(write::run(seed)),
         ["finish"] => exit(finish::run(seed)),
         ["promise"] => exit(promise::run(seed)),
+        ["lin"] => exit(lin::run(seed)),
         ["bench"] => {
             read::bench::run(seed);
             println!();
@@ -56,14 +64,20 @@ fn main() -> ExitCode {
             write::bench::run(seed);
             println!();
             finish::bench::run(seed);
+            println!();
+            lin::bench::run(seed);
             ExitCode::SUCCESS
         }
         ["outside"] => exit(
-            read::outside::run(seed) && write::outside::run(seed) && finish::outside::run(seed),
+            read::outside::run(seed)
+                && write::outside::run(seed)
+                && finish::outside::run(seed)
+                && lin::outside::run(seed),
         ),
         ["record", "tables", path] => recorded(path, tables::record::run(seed, path.as_ref())),
-        ["record", "read", path] => recorded(path, read::record::run(seed, path.as_ref())),
-        ["record", "write", path] => recorded(path, write::record::run(seed, path.as_ref())),
+        ["record", "read", path] => recorded(path, record::run::<Readings>(seed, path.as_ref())),
+        ["record", "write", path] => recorded(path, record::run::<Writings>(seed, path.as_ref())),
+        ["record", "lin", path] => recorded(path, record::run::<Conversions>(seed, path.as_ref())),
         _ => bad_usage(""),
     }
 }

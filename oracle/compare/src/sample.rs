@@ -12,7 +12,7 @@ pub const LONG: usize = 120;
 
 /// Gives every text, with the name of its group, to a receiver of them, until
 /// that says that it wants no more.
-type Texts = fn(u64, &mut dyn FnMut(&'static str, &[u8]) -> bool);
+pub type Texts = fn(u64, &mut dyn FnMut(&'static str, &[u8]) -> bool);
 
 /// Of a generator's group: where its texts are recorded, and how many short and
 /// how many long ones are kept.

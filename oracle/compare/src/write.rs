@@ -125,7 +125,7 @@ pub struct Left<'a> {
 /// What a call left, against the model.
 fn compare_left(edition: &Edition, lent: &Lent, left: &Left) -> Checked {
     let wanted = edition.answer(lent);
-    compare_written(wanted, &edition.page, left.answer, left.page)?;
+    compare_written(&wanted, &edition.page, left.answer, left.page)?;
     let taken = wanted[0] == 0;
     let reading = &edition.reading;
     for (what, seen, wanted) in [
@@ -139,11 +139,11 @@ fn compare_left(edition: &Edition, lent: &Lent, left: &Left) -> Checked {
 
 /// The answer and the page that a call left, against the model's: the text and
 /// then zeros, or zeros alone after a refusal.
-pub fn compare_written(wanted: [u64; 4], text: &[u8], answer: &[u64], page: &[u8]) -> Checked {
+pub fn compare_written(wanted: &[u64], text: &[u8], answer: &[u64], page: &[u8]) -> Checked {
     if answer != wanted {
         let mut error = format!("answer\n  the model: {wanted:?}\n  golavimes: {answer:?}");
         // Where both wrote, the first difference tells more.
-        if let ([0, ..], [0, _, _, length]) = (wanted, answer) {
+        if let ([0, ..], [0, _, _, length, ..]) = (wanted, answer) {
             let page = page.get(..*length as usize).unwrap_or(page);
             let same = same_page("the model", text, "golavimes", page);
             error += &same.map_or_else(|page| format!("\n{page}"), |()| String::new());

@@ -3,9 +3,9 @@
 //! Every function fills the answer array and returns its first number:
 //! `answer[0]` is the refusal (0 none), `answer[1]` the edition (1 old, 2 new, 0
 //! neither), `answer[2]` the number a refusal carries; a writer, of tables or of
-//! editions, and finishing add `answer[3]`, the bytes written, and the reader of
-//! editions `answer[3]` and `answer[4]`, its boards and entries. What the functions
-//! of planning add stands at each. Slices and arrays of the right length are all
+//! editions, and finishing add `answer[3]`, the bytes written, converting LIN also
+//! `answer[4]`, the boards, and the reader of editions `answer[3]` and `answer[4]`,
+//! its boards and entries. What the functions of planning add stands at each. Slices and arrays of the right length are all
 //! that the C functions ask for, so nothing here needs a test before the call.
 //!
 //! Nothing checks these declarations against the library: keep them in step
@@ -55,6 +55,13 @@ mod c {
             cards_len: usize,
             entries: *mut u32,
             entries_len: usize,
+            answer: *mut u64,
+        ) -> u64;
+        pub fn golavimes_lin_to_pbn(
+            text: *const u8,
+            text_len: usize,
+            page: *mut u8,
+            page_len: usize,
             answer: *mut u64,
         ) -> u64;
         pub fn golavimes_write(
@@ -373,6 +380,30 @@ pub fn write_fresh(
         page.len(),
         answer.as_mut_ptr().cast()
     )
+}
+
+/// Converts a LIN text to a page.
+pub fn lin_to_pbn(text: &[u8], page: &mut [u8], answer: &mut [u64; 5]) -> u64 {
+    lin_to_pbn_fresh(text, fresh(page), fresh_answer(answer))
+}
+
+/// Converts with memory that nothing was stored in yet. The call stores into all
+/// of it.
+pub fn lin_to_pbn_fresh(
+    text: &[u8],
+    page: &mut [MaybeUninit<u8>],
+    answer: &mut [MaybeUninit<u64>; 5],
+) -> u64 {
+    // SAFETY: as in call_over_edition.
+    unsafe {
+        c::golavimes_lin_to_pbn(
+            text.as_ptr(),
+            text.len(),
+            page.as_mut_ptr().cast(),
+            page.len(),
+            answer.as_mut_ptr().cast(),
+        )
+    }
 }
 
 /// Reads both editions and writes the new one, each whole board with a table. The

@@ -445,7 +445,7 @@ pub fn number(text: &[u8], most: u64) -> Option<u64> {
     (value <= most).then_some(value)
 }
 
-fn letter(character: &[u8], letters: &[u8]) -> Option<u32> {
+pub fn letter(character: &[u8], letters: &[u8]) -> Option<u32> {
     let [byte] = character else { return None };
     let byte = byte.to_ascii_uppercase();
     letters.iter().position(|l| *l == byte).map(|at| at as u32)
@@ -470,7 +470,7 @@ fn strain(text: &[u8]) -> Option<u32> {
     }
 }
 
-fn call(text: &[u8]) -> Option<u32> {
+pub fn call(text: &[u8]) -> Option<u32> {
     match &text.to_ascii_uppercase()[..] {
         b"PASS" | b"P" | b"-" => Some(0),
         b"X" => Some(36),
@@ -501,7 +501,7 @@ fn card_of(token: &[u8]) -> Option<u32> {
     Some(13 * suit + letter(found.get(1)?, RANKS)?)
 }
 
-fn winning_slot(slots: &[u32; 4], trump: u32) -> u32 {
+pub fn winning_slot(slots: &[u32; 4], trump: u32) -> u32 {
     let lead = slots[0] / 13;
     let strength = |card: u32| match card / 13 {
         suit if suit == trump => 200 + card % 13,

@@ -5,12 +5,13 @@
 //! unchanged `write_pbn`.
 
 use crate::model::trim;
+use crate::plan::model::hands;
 use crate::read::judge::MODELLED;
 use crate::read::model::{number, Reading, CARD, ENTRY, RANKS};
 use std::collections::{BTreeMap, HashMap, HashSet};
 
-const HEADER: &[u8] = b"% PBN 2.1\n% EXPORT\n\n";
-const SEATS: &[u8; 4] = b"NESW";
+pub const HEADER: &[u8] = b"% PBN 2.1\n% EXPORT\n\n";
+pub const SEATS: &[u8; 4] = b"NESW";
 const SUITS: &[u8; 4] = b"CDHS";
 const STRAINS: [&str; 5] = ["C", "D", "H", "S", "NT"];
 const ENDS: [&[u8]; 3] = [b"", b"+", b"*"];
@@ -280,32 +281,8 @@ impl<'a> Board<'a> {
     }
 
     fn deal(&self) -> Vec<u8> {
-        let first = if self.card[4] < 4 {
-            self.card[4] as usize
-        } else {
-            0
-        };
-        let mut value = vec![SEATS[first], b':'];
-        for i in 0..4 {
-            if i > 0 {
-                value.push(b' ');
-            }
-            let words = &self.card[10 + 2 * ((first + i) % 4)..];
-            if words[..2] == [0, 0] {
-                value.push(b'-');
-                continue;
-            }
-            for bit in (0..52).rev() {
-                if words[bit / 32] >> (bit % 32) & 1 == 1 {
-                    value.push(RANKS[bit % 13]);
-                }
-                // After the lowest card of a suit, but for the last suit.
-                if bit % 13 == 0 && bit > 0 {
-                    value.push(b'.');
-                }
-            }
-        }
-        value
+        let dealer = self.card[4] as usize;
+        deal(if dealer < 4 { dealer } else { 0 }, hands(self.card))
     }
 
     fn auction(&self) -> Vec<Vec<u8>> {
@@ -352,9 +329,7 @@ impl<'a> Board<'a> {
         for place in first..first + self.card[56] as usize {
             let slots = self.entry(place)[3].to_le_bytes();
             let cards = slots.iter().filter(|card| **card < 52);
-            let cards: Vec<[u8; 2]> = cards
-                .map(|card| [SUITS[usize::from(card / 13)], RANKS[usize::from(card % 13)]])
-                .collect();
+            let cards: Vec<[u8; 2]> = cards.map(|number| card((*number).into())).collect();
             if !cards.is_empty() {
                 lines.push(cards.join(&b' '));
             }
@@ -364,7 +339,38 @@ impl<'a> Board<'a> {
     }
 }
 
-fn call(code: u32) -> String {
+/// The deal, `first` seat's hand first.
+pub fn deal(first: usize, hands: [u64; 4]) -> Vec<u8> {
+    let mut value = vec![SEATS[first], b':'];
+    for i in 0..4 {
+        if i > 0 {
+            value.push(b' ');
+        }
+        let hand = hands[(first + i) % 4];
+        if hand == 0 {
+            value.push(b'-');
+            continue;
+        }
+        for bit in (0..52).rev() {
+            if hand >> bit & 1 == 1 {
+                value.push(RANKS[bit % 13]);
+            }
+            // After the lowest card of a suit, but for the last suit.
+            if bit % 13 == 0 && bit > 0 {
+                value.push(b'.');
+            }
+        }
+    }
+    value
+}
+
+/// A card as a word.
+pub fn card(number: usize) -> [u8; 2] {
+    [SUITS[number / 13], RANKS[number % 13]]
+}
+
+/// A call as a word, by its code.
+pub fn call(code: u32) -> String {
     match code {
         0 => "Pass".to_string(),
         1..=35 => {
