@@ -31,7 +31,7 @@ usage: compare tables [--seed N]
        compare finish [--seed N]
        compare promise [--seed N]
        compare lin [--seed N]
-       compare bench [--seed N]
+       compare bench [MODE] [--seed N]
        compare outside [--seed N]
        compare record tables PATH [--seed N]
        compare record read PATH [--seed N]
@@ -56,18 +56,8 @@ fn main() -> ExitCode {
         ["finish"] => exit(finish::run(seed)),
         ["promise"] => exit(promise::run(seed)),
         ["lin"] => exit(lin::run(seed)),
-        ["bench"] => {
-            read::bench::run(seed);
-            println!();
-            plan::bench::run(seed);
-            println!();
-            write::bench::run(seed);
-            println!();
-            finish::bench::run(seed);
-            println!();
-            lin::bench::run(seed);
-            ExitCode::SUCCESS
-        }
+        ["bench"] => bench(seed, |_| true),
+        ["bench", wanted] => bench(seed, |name| name == wanted),
         ["outside"] => exit(
             read::outside::run(seed)
                 && write::outside::run(seed)
@@ -80,6 +70,29 @@ fn main() -> ExitCode {
         ["record", "lin", path] => recorded(path, record::run::<Conversions>(seed, path.as_ref())),
         _ => bad_usage(""),
     }
+}
+
+/// The benches, by the name of the mode.
+const BENCHES: [(&str, fn(u64)); 5] = [
+    ("read", read::bench::run),
+    ("plan", plan::bench::run),
+    ("write", write::bench::run),
+    ("finish", finish::bench::run),
+    ("lin", lin::bench::run),
+];
+
+fn bench(seed: u64, wanted: impl Fn(&str) -> bool) -> ExitCode {
+    let chosen: Vec<_> = BENCHES.iter().filter(|(name, _)| wanted(name)).collect();
+    for (at, (_, run)) in chosen.iter().enumerate() {
+        if at > 0 {
+            println!();
+        }
+        run(seed);
+    }
+    if chosen.is_empty() {
+        return bad_usage("no such bench");
+    }
+    ExitCode::SUCCESS
 }
 
 /// Takes `--seed N` out of the words.
