@@ -111,6 +111,21 @@ impl Report {
         ));
     }
 
+    /// What was read and written.
+    pub fn written(&self, met: &Met, boards: u64, written: u64) {
+        let read = met.bytes;
+        self.say(format_args!(
+            "{read} bytes read, {boards} boards, {written} bytes written"
+        ));
+    }
+
+    /// How many inputs held each thing.
+    pub fn held<Holds>(&mut self, inputs: &str, counts: &[u64], held: &[(&str, Holds)]) {
+        for (count, (name, _)) in counts.iter().zip(held) {
+            self.line(*count, format_args!("{inputs} with {name}"));
+        }
+    }
+
     pub fn say(&self, what: impl Display) {
         println!("{}: {what}", self.name);
     }

@@ -321,13 +321,8 @@ impl Comparison for Run {
     fn print(&self, report: &mut Report) {
         let counts = &self.counts;
         report.inputs(&counts.met, "texts", "lin/mod.rs");
-        report.say(format_args!(
-            "{} bytes read, {} boards, {} bytes written",
-            counts.met.bytes, counts.boards, counts.written
-        ));
-        for (count, (name, _)) in counts.held.into_iter().zip(HELD) {
-            report.line(count, format_args!("texts with {name}"));
-        }
+        report.written(&counts.met, counts.boards, counts.written);
+        report.held("texts", &counts.held, &HELD);
         report.calls(&counts.met, &REFUSALS);
         report.line(counts.sized, "texts with each room for the page");
         report.line(counts.every_length, "texts with every page length");
@@ -358,7 +353,7 @@ mod tests {
             if let Some(text) = text_in_domain(&text) {
                 compare_rust(&conversion, text).expect("the Rust agrees");
             }
-            let page = wanted.map(|boards| chosen::page(&boards));
+            let page = wanted.map(chosen::page);
             let seen = (!conversion.need.no_deal).then_some(conversion.page);
             assert_eq!(seen, page, "\"{}\"", text.escape_ascii());
         }

@@ -72,8 +72,10 @@ fn main() -> ExitCode {
     }
 }
 
-/// The benches, by the name of the mode.
-const BENCHES: [(&str, fn(u64)); 5] = [
+/// A mode's name and its bench.
+type Bench = (&'static str, fn(u64));
+
+const BENCHES: [Bench; 5] = [
     ("read", read::bench::run),
     ("plan", plan::bench::run),
     ("write", write::bench::run),

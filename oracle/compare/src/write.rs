@@ -399,13 +399,8 @@ impl Comparison for Run {
     fn print(&self, report: &mut Report) {
         let counts = &self.counts;
         report.inputs(&counts.met, "texts", "writer.rs");
-        report.say(format_args!(
-            "{} bytes read, {} boards, {} bytes written",
-            counts.met.bytes, counts.boards, counts.written
-        ));
-        for (count, (name, _)) in counts.held.into_iter().zip(HELD) {
-            report.line(count, format_args!("editions with {name}"));
-        }
+        report.written(&counts.met, counts.boards, counts.written);
+        report.held("editions", &counts.held, &HELD);
         report.calls(&counts.met, &REFUSALS);
         let sized = "texts with each room for cards, entries and page";
         report.line(counts.sized, sized);

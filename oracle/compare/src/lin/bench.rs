@@ -13,8 +13,10 @@ use std::time::Duration;
 const HOSTILE_RUNS: usize = 5;
 const HOSTILE_LENGTHS: [usize; 4] = [1_000_000, 2_000_000, 4_000_000, 8_000_000];
 
-/// Kinds of texts as they are met.
-const KINDS: [(&str, fn(u64, usize) -> Vec<u8>); 2] = [
+/// A kind of texts as they are met: its name, and a text by seed and length.
+type Kind = (&'static str, fn(u64, usize) -> Vec<u8>);
+
+const KINDS: [Kind; 2] = [
     ("file with qx", plain_file),
     ("records in lines", plain_lines),
 ];

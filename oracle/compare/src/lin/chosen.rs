@@ -17,7 +17,7 @@ pub struct Written {
 }
 
 /// The page of a text, or none where refusal 16 is given.
-type Page = Option<Vec<Written>>;
+type Page = Option<&'static [Written]>;
 
 const fn dealt(dealer: &'static str, deal: &'static str) -> Written {
     Written {
@@ -35,12 +35,11 @@ const fn dealt(dealer: &'static str, deal: &'static str) -> Written {
 const ACE: Written = dealt("N", "N:- - A... -");
 /// South's ace of hearts alone.
 const HEART: Written = dealt("S", "S:.A.. - - -");
+const KING: [Written; 1] = [dealt("N", "N:- - K... -")];
 const EMPTY: Written = dealt("N", "N:- - - -");
 
 /// Three whole hands.
 const WHOLE: &str = "SAKQJT98765432,HAKQJT98765432,DAKQJT98765432";
-/// South's, West's and North's hands of these.
-const THREE: &str = "S:AKQJT98765432... .AKQJT98765432.. ..AKQJT98765432.";
 
 impl Written {
     const fn vulnerable(mut self, vulnerable: &'static str) -> Self {
@@ -88,203 +87,191 @@ pub fn page(boards: &[Written]) -> Vec<u8> {
     [HEADER, texts.join("\n").as_bytes()].concat()
 }
 
+/// A text, in which `W` stands for three whole hands, and its boards.
+type Case = (&'static str, &'static [Written]);
+
+const REFUSED: [&[u8]; 21] = [
+    b"",
+    b" \n\t\r\n",
+    b"hello",
+    b"md|0SA|",
+    b"md||",
+    b"md",
+    b"md|3|",
+    b"md|3,,,|",
+    b"md|3S10|",
+    b"md|3SA|md|1|",
+    b"md|1SAA|",
+    b"md|1SA,SA|",
+    b"md|1SAKQJT98765432H2|",
+    b"qx|o1|",
+    b"\xef\xbb\xbfmd|3SA|",
+    b"md|3\x80SA|",
+    b"md|3S\x80A|",
+    b"md|3SA|\nmd|1SAA|",
+    b"qx|o1|md|3SA|qx|o2|md|1SK,H2,,SK|",
+    b"md|3SAKQJT98765432,SAKQJT98765432,HAKQJT98765432|",
+    b"md|3SAKQJT9876543AA,,|",
+];
+
+/// South's, West's and North's whole hands, with the rest, nothing and a deuce for
+/// East.
+const ALL: Written = dealt(
+    "S",
+    "S:AKQJT98765432... .AKQJT98765432.. ..AKQJT98765432. ...AKQJT98765432",
+);
+const NO_EAST: Written = dealt(
+    "S",
+    "S:AKQJT98765432... .AKQJT98765432.. ..AKQJT98765432. -",
+);
+const TWO: Written = dealt(
+    "S",
+    "S:AKQJT98765432... .AKQJT98765432.. ..AKQJT98765432. ...2",
+);
+
+const DEALS: &[Case] = &[
+    ("md|3SA|", &[ACE]),
+    ("md|3SA", &[ACE]),
+    ("md|3SA|md|0SK|", &[ACE]),
+    ("md|1W|", &[ALL]),
+    ("md|1W, |", &[ALL]),
+    ("md|1W,,S2|", &[ALL]),
+    ("md|1W,x|", &[NO_EAST]),
+    ("md|1W,C2|", &[TWO]),
+    ("md|1W,C2,S2|", &[TWO]),
+    ("md| 4sak xh2 |", &[dealt("E", "E:- AK.2.. - -")]),
+    ("md|3AKQS2|", &[dealt("N", "N:- - 2... -")]),
+    (
+        "MD|3sa|Sv| Ns |",
+        &[dealt("N", "N:- - A... -").vulnerable("NS")],
+    ),
+    ("md|3SA|sv|b|sv|x|", &[ACE]),
+    ("md|3SA|sv|b|sv", &[ACE.vulnerable("All")]),
+    (
+        "md|2,,SA|sv|ew|",
+        &[dealt("W", "W:- A... - -").vulnerable("EW")],
+    ),
+    ("md|3|md|3SA|", &[ACE]),
+    ("md|3SAA|md|3SA|", &[ACE]),
+    ("md|31SA|", &[ACE]),
+    ("md|3SA|nt|qx|", &[ACE]),
+    ("\t md\r|3SA|", &[ACE]),
+];
+
+const AUCTIONS: &[Case] = &[
+    (
+        "md|3SA|mb|1C|mb|p|mb|1N!|an|weak|mb|d|mb|r|mb|p|mb|p|mb|p|",
+        &[ACE
+            .contract("S", "1NTXX")
+            .auction("1C Pass 1NT X\nXX Pass Pass Pass")],
+    ),
+    (
+        "md|3SA|mb|1S|mb|p|mb|2S|",
+        &[ACE.contract("N", "2S").auction("1S Pass 2S")],
+    ),
+    (
+        "md|3SA|mb|1H|mb|p|mb|p|mb|2H|",
+        &[ACE.contract("W", "2H").auction("1H Pass Pass 2H")],
+    ),
+    (
+        "md|3SA|mb|1C|mb|d|mb|1D|",
+        &[ACE.contract("S", "1D").auction("1C X 1D")],
+    ),
+    (
+        "md|3SA|mb| 1C|mb|zz|mb|1D|",
+        &[ACE.contract("N", "1D").auction("1D")],
+    ),
+    (
+        "md|3SA|mb|r|mb|1C|mb|+|mb|_|",
+        &[ACE.contract("E", "1C").auction("XX 1C + _")],
+    ),
+    (
+        "md|3SA|mb|3N|mb|-|mb|x|mb|xx|mb|PASS!!|",
+        &[ACE.contract("N", "3NTXX").auction("3NT Pass X XX\nPass")],
+    ),
+    (
+        "md|3SA|mb|p|mb|p|mb|p|mb|p|pc|SA|",
+        &[ACE.auction("Pass Pass Pass Pass")],
+    ),
+    ("md|3SA|mb||mb|!|mb|ap|mb|1C |mb|1C! |", &[ACE]),
+    // A line is trimmed before it is cut, so its last value is too.
+    ("md|3SA|mb|1C \t", &[ACE.contract("N", "1C").auction("1C")]),
+    ("qx||md|3SA|mb|1C ", &[ACE]),
+    (
+        "mb|1C|md|4SA|mb|1D|",
+        &[dealt("E", "E:- A... - -")
+            .contract("S", "1D")
+            .auction("1C 1D")],
+    ),
+];
+
+const HEARTS: Written = ACE.contract("N", "1H").auction("1H");
+const NO_TRUMP: Written = ACE.contract("N", "1NT").auction("1NT");
+
+const PLAYS: &[Case] = &[
+    (
+        "md|3SA|mb|1N|pc|D2|pc|DA|pc|D6|pc|D5|pc|S3|pc|S2|",
+        &[NO_TRUMP.play("E", "D2 DA D6 D5\n- S3 S2 -")],
+    ),
+    (
+        "md|3SA|mb|1H|pc|D2|pc|H2|pc|SA!|pc|S10|pc|D6|pc| d5 |pc|CA|",
+        &[HEARTS.play("E", "D2 H2 D6 D5\n- CA - -")],
+    ),
+    (
+        "md|3SA|mb|1N|pc|D2|pc|D2|pc|D2|pc|D2|pc|D2|",
+        &[NO_TRUMP.play("E", "D2 D2 D2 D2\nD2 - - -")],
+    ),
+    (
+        "pc|D2|md|3SA|pc|s|pc|!sa|mb|1H|pc|sA|",
+        &[HEARTS.play("E", "D2 SA - -")],
+    ),
+    (
+        "md|3SA|mb|1N|pc|D2|pc|D3|pc|D4|pc|D5|pc|S5|pc|S4|pc|S3|pc|S6|pc|H2|",
+        &[NO_TRUMP.play("E", "D2 D3 D4 D5\nS4 S3 S6 S5\n- - H2 -")],
+    ),
+    ("md|3SA|pc|D2|", &[ACE]),
+];
+
+const BOARDS: &[Case] = &[
+    ("md|3SA|\n\n \nmd|1HA|\r\n", &[ACE, HEART]),
+    ("vg|x|\nqx|o1|md|3SA|\nqx|o2|md|1HA|", &[ACE, HEART]),
+    ("md|3SA|qx|o1|md|1HA|", &[ACE, HEART]),
+    ("qx|o1|md|0SA|\nqx|o2|md|1HA|", &[EMPTY, HEART]),
+    ("md|3SA|\nhello", &[ACE, EMPTY]),
+    ("hello\nqx|o1|md|3SA|", &[EMPTY, ACE]),
+    ("md|3SA\n|mb|1C|", &[ACE, EMPTY]),
+    (
+        "mn|t|pn|a,b|QX|o1|md|3SA|pn|c|mn|u| qx\n|o2|md|1HA|",
+        &[ACE, HEART],
+    ),
+    // The md behind the names stays with the first board.
+    ("qx||mn||md|3SA|pn||qx||md|1HA|", &[ACE, HEART]),
+    (
+        "qx||md|3SA|pn||mb|1C|qx||",
+        &[ACE.contract("N", "1C").auction("1C")],
+    ),
+    ("qx||qx||md|3SA|\nmd|1HA|", &[HEART]),
+];
+
+fn text_of(text: &str) -> Vec<u8> {
+    text.replace('W', WHOLE).into_bytes()
+}
+
 /// The texts with their pages.
 pub fn cases() -> Vec<(Vec<u8>, Page)> {
-    let mut cases = Vec::new();
-    for part in [refused(), deals(), auctions(), plays(), boards()] {
-        cases.extend(part);
+    let mut cases: Vec<(Vec<u8>, Page)> = Vec::new();
+    cases.extend(REFUSED.map(|text| (text.to_vec(), None)));
+    for (text, boards) in [DEALS, AUCTIONS, PLAYS, BOARDS].concat() {
+        cases.push((text_of(text), Some(boards)));
     }
+    // The ace has a second byte, and is none.
+    cases.push((b"md|3SA\x80K|".to_vec(), Some(&KING)));
     cases
-}
-
-type Part = Vec<(Vec<u8>, Page)>;
-
-fn refused() -> Part {
-    let texts: [&[u8]; 21] = [
-        b"",
-        b" \n\t\r\n",
-        b"hello",
-        b"md|0SA|",
-        b"md||",
-        b"md",
-        b"md|3|",
-        b"md|3,,,|",
-        b"md|3S10|",
-        b"md|3SA|md|1|",
-        b"md|1SAA|",
-        b"md|1SA,SA|",
-        b"md|1SAKQJT98765432H2|",
-        b"qx|o1|",
-        b"\xef\xbb\xbfmd|3SA|",
-        b"md|3\x80SA|",
-        b"md|3S\x80A|",
-        b"md|3SA|\nmd|1SAA|",
-        b"qx|o1|md|3SA|qx|o2|md|1SK,H2,,SK|",
-        b"md|3SAKQJT98765432,SAKQJT98765432,HAKQJT98765432|",
-        b"md|3SAKQJT9876543AA,,|",
-    ];
-    texts.map(|text| (text.to_vec(), None)).to_vec()
-}
-
-/// Texts of one board or several with their page.
-fn part(list: &[(&str, &[Written])]) -> Part {
-    let case = |(text, boards): &(&str, &[Written])| {
-        let text = text.replace('W', WHOLE);
-        (text.into_bytes(), Some(boards.to_vec()))
-    };
-    list.iter().map(case).collect()
-}
-
-fn deals() -> Part {
-    let all = dealt(
-        "S",
-        "S:AKQJT98765432... .AKQJT98765432.. ..AKQJT98765432. ...AKQJT98765432",
-    );
-    let no_east = dealt(
-        "S",
-        "S:AKQJT98765432... .AKQJT98765432.. ..AKQJT98765432. -",
-    );
-    let two = dealt(
-        "S",
-        "S:AKQJT98765432... .AKQJT98765432.. ..AKQJT98765432. ...2",
-    );
-    assert!(all.deal.starts_with(THREE) && two.deal.starts_with(THREE));
-    let mut list = part(&[
-        ("md|3SA|", &[ACE]),
-        ("md|3SA", &[ACE]),
-        ("md|3SA|md|0SK|", &[ACE]),
-        ("md|1W|", &[all]),
-        ("md|1W, |", &[all]),
-        ("md|1W,,S2|", &[all]),
-        ("md|1W,x|", &[no_east]),
-        ("md|1W,C2|", &[two]),
-        ("md|1W,C2,S2|", &[two]),
-        ("md| 4sak xh2 |", &[dealt("E", "E:- AK.2.. - -")]),
-        ("md|3AKQS2|", &[dealt("N", "N:- - 2... -")]),
-        (
-            "MD|3sa|Sv| Ns |",
-            &[dealt("N", "N:- - A... -").vulnerable("NS")],
-        ),
-        ("md|3SA|sv|b|sv|x|", &[ACE]),
-        ("md|3SA|sv|b|sv", &[ACE.vulnerable("All")]),
-        (
-            "md|2,,SA|sv|ew|",
-            &[dealt("W", "W:- A... - -").vulnerable("EW")],
-        ),
-        ("md|3|md|3SA|", &[ACE]),
-        ("md|3SAA|md|3SA|", &[ACE]),
-        ("md|31SA|", &[ACE]),
-        ("md|3SA|nt|qx|", &[ACE]),
-        ("\t md\r|3SA|", &[ACE]),
-    ]);
-    let king = dealt("N", "N:- - K... -");
-    list.push((b"md|3SA\x80K|".to_vec(), Some(vec![king])));
-    list
-}
-
-fn auctions() -> Part {
-    part(&[
-        (
-            "md|3SA|mb|1C|mb|p|mb|1N!|an|weak|mb|d|mb|r|mb|p|mb|p|mb|p|",
-            &[ACE
-                .contract("S", "1NTXX")
-                .auction("1C Pass 1NT X\nXX Pass Pass Pass")],
-        ),
-        (
-            "md|3SA|mb|1S|mb|p|mb|2S|",
-            &[ACE.contract("N", "2S").auction("1S Pass 2S")],
-        ),
-        (
-            "md|3SA|mb|1H|mb|p|mb|p|mb|2H|",
-            &[ACE.contract("W", "2H").auction("1H Pass Pass 2H")],
-        ),
-        (
-            "md|3SA|mb|1C|mb|d|mb|1D|",
-            &[ACE.contract("S", "1D").auction("1C X 1D")],
-        ),
-        (
-            "md|3SA|mb| 1C|mb|zz|mb|1D|",
-            &[ACE.contract("N", "1D").auction("1D")],
-        ),
-        (
-            "md|3SA|mb|r|mb|1C|mb|+|mb|_|",
-            &[ACE.contract("E", "1C").auction("XX 1C + _")],
-        ),
-        (
-            "md|3SA|mb|3N|mb|-|mb|x|mb|xx|mb|PASS!!|",
-            &[ACE.contract("N", "3NTXX").auction("3NT Pass X XX\nPass")],
-        ),
-        (
-            "md|3SA|mb|p|mb|p|mb|p|mb|p|pc|SA|",
-            &[ACE.auction("Pass Pass Pass Pass")],
-        ),
-        ("md|3SA|mb||mb|!|mb|ap|mb|1C |mb|1C! |", &[ACE]),
-        // A line is trimmed before it is cut, so its last value is too.
-        ("md|3SA|mb|1C \t", &[ACE.contract("N", "1C").auction("1C")]),
-        ("qx||md|3SA|mb|1C ", &[ACE]),
-        (
-            "mb|1C|md|4SA|mb|1D|",
-            &[dealt("E", "E:- A... - -")
-                .contract("S", "1D")
-                .auction("1C 1D")],
-        ),
-    ])
-}
-
-fn plays() -> Part {
-    let hearts = ACE.contract("N", "1H").auction("1H");
-    let no_trump = ACE.contract("N", "1NT").auction("1NT");
-    part(&[
-        (
-            "md|3SA|mb|1N|pc|D2|pc|DA|pc|D6|pc|D5|pc|S3|pc|S2|",
-            &[no_trump.play("E", "D2 DA D6 D5\n- S3 S2 -")],
-        ),
-        (
-            "md|3SA|mb|1H|pc|D2|pc|H2|pc|SA!|pc|S10|pc|D6|pc| d5 |pc|CA|",
-            &[hearts.play("E", "D2 H2 D6 D5\n- CA - -")],
-        ),
-        (
-            "md|3SA|mb|1N|pc|D2|pc|D2|pc|D2|pc|D2|pc|D2|",
-            &[no_trump.play("E", "D2 D2 D2 D2\nD2 - - -")],
-        ),
-        (
-            "pc|D2|md|3SA|pc|s|pc|!sa|mb|1H|pc|sA|",
-            &[hearts.play("E", "D2 SA - -")],
-        ),
-        (
-            "md|3SA|mb|1N|pc|D2|pc|D3|pc|D4|pc|D5|pc|S5|pc|S4|pc|S3|pc|S6|pc|H2|",
-            &[no_trump.play("E", "D2 D3 D4 D5\nS4 S3 S6 S5\n- - H2 -")],
-        ),
-        ("md|3SA|pc|D2|", &[ACE]),
-    ])
-}
-
-fn boards() -> Part {
-    part(&[
-        ("md|3SA|\n\n \nmd|1HA|\r\n", &[ACE, HEART]),
-        ("vg|x|\nqx|o1|md|3SA|\nqx|o2|md|1HA|", &[ACE, HEART]),
-        ("md|3SA|qx|o1|md|1HA|", &[ACE, HEART]),
-        ("qx|o1|md|0SA|\nqx|o2|md|1HA|", &[EMPTY, HEART]),
-        ("md|3SA|\nhello", &[ACE, EMPTY]),
-        ("hello\nqx|o1|md|3SA|", &[EMPTY, ACE]),
-        ("md|3SA\n|mb|1C|", &[ACE, EMPTY]),
-        (
-            "mn|t|pn|a,b|QX|o1|md|3SA|pn|c|mn|u| qx\n|o2|md|1HA|",
-            &[ACE, HEART],
-        ),
-        // The md behind the names stays with the first board.
-        ("qx||mn||md|3SA|pn||qx||md|1HA|", &[ACE, HEART]),
-        (
-            "qx||md|3SA|pn||mb|1C|qx||",
-            &[ACE.contract("N", "1C").auction("1C")],
-        ),
-        ("qx||qx||md|3SA|\nmd|1HA|", &[HEART]),
-    ])
 }
 
 /// Texts of several boards.
 pub fn several() -> Vec<Vec<u8>> {
-    let texts = boards().into_iter().map(|(text, _)| text);
+    let texts = BOARDS.iter().map(|(text, _)| text_of(text));
     let long = [
         "md|3SA|\n".repeat(40),
         "qx||md|3SA|mb|1N|pc|D2|".repeat(30),

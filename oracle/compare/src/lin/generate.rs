@@ -2,7 +2,7 @@
 //! records and files as they are met; damaged copies of these.
 
 use super::chosen;
-use crate::read::generate::{all_of, put_outside, Group, Out};
+use crate::read::generate::{all_of, move_parts, put_outside, Group, Out, RANKS};
 use crate::rng::Rng;
 
 const GROUPS: [Group; 15] = [
@@ -216,8 +216,6 @@ fn values(_: &mut Rng, out: &mut Out) {
 
 // ---- Records ----
 
-const RANKS: &[u8; 13] = b"AKQJT98765432";
-
 /// A hand as LIN writes it, of cards 0 to 51 from the ace of spades.
 fn hand(cards: &[usize]) -> String {
     let mut text = String::new();
@@ -412,26 +410,15 @@ fn damage(rng: &mut Rng, text: &mut Vec<u8>) {
         }
         let at = rng.below(text.len());
         let byte = BYTES[rng.below(BYTES.len())];
-        match rng.below(8) {
+        match rng.below(9) {
             0 | 1 => text[at] = byte,
             2 => {
                 text.remove(at);
             }
             3 | 4 => text.insert(at, byte),
             5 => text.truncate(at),
-            _ => {
-                let cut = if rng.once_in(3) { b'\n' } else { b'|' };
-                let mut parts: Vec<&[u8]> = text.split_inclusive(|b| *b == cut).collect();
-                let (a, b) = (rng.below(parts.len()), rng.below(parts.len()));
-                match rng.below(3) {
-                    0 => parts.swap(a, b),
-                    1 => {
-                        parts.remove(a);
-                    }
-                    _ => parts.insert(a, parts[b]),
-                }
-                *text = parts.concat();
-            }
+            6 => move_parts(rng, text, b'\n'),
+            _ => move_parts(rng, text, b'|'),
         }
     }
 }

@@ -27,7 +27,7 @@ impl Recording for Conversions {
         match group {
             "LIN: outside the domain" | "LIN: long texts" => None,
             "LIN: records" | "LIN: files" => Some((Group::Sampled, [10, 60])),
-            "LIN: damaged" => Some((Group::Damaged, [40, 90])),
+            "LIN: damaged" => Some((Group::Damaged, [40, 80])),
             "LIN: random bytes" => Some((Group::Sampled, [40, 0])),
             "LIN: chosen texts" => Some((Group::Sampled, [60, 10])),
             _ => Some((Group::Sampled, [50, 4])),

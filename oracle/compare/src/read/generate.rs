@@ -431,7 +431,7 @@ fn values(_: &mut Rng, out: &mut Out) {
     }
 }
 
-const RANKS: &[u8; 13] = b"AKQJT98765432";
+pub const RANKS: &[u8; 13] = b"AKQJT98765432";
 
 /// Four hands of cards drawn from a pack.
 pub fn deal(rng: &mut Rng) -> String {
@@ -775,20 +775,23 @@ pub fn damage(rng: &mut Rng, text: &mut Vec<u8>) {
                 text.remove(at);
             }
             3 | 4 => text.insert(at, byte),
-            _ => {
-                let mut lines: Vec<&[u8]> = text.split_inclusive(|b| *b == b'\n').collect();
-                let (a, b) = (rng.below(lines.len()), rng.below(lines.len()));
-                match rng.below(3) {
-                    0 => lines.swap(a, b),
-                    1 => {
-                        lines.remove(a);
-                    }
-                    _ => lines.insert(a, lines[b]),
-                }
-                *text = lines.concat();
-            }
+            _ => move_parts(rng, text, b'\n'),
         }
     }
+}
+
+/// Swaps two of the parts that end with this byte, drops one or repeats one.
+pub fn move_parts(rng: &mut Rng, text: &mut Vec<u8>, end: u8) {
+    let mut parts: Vec<&[u8]> = text.split_inclusive(|b| *b == end).collect();
+    let (a, b) = (rng.below(parts.len()), rng.below(parts.len()));
+    match rng.below(3) {
+        0 => parts.swap(a, b),
+        1 => {
+            parts.remove(a);
+        }
+        _ => parts.insert(a, parts[b]),
+    }
+    *text = parts.concat();
 }
 
 fn damaged(rng: &mut Rng, out: &mut Out) {
