@@ -151,7 +151,7 @@ const COMMANDS: [&str; 22] = [
     "an", "ah", "mc", "nt", "st", "", "\u{e9}",
 ];
 
-const VALUES: [&str; 44] = [
+const VALUES: [&str; 47] = [
     "",
     " ",
     "3SA",
@@ -196,6 +196,10 @@ const VALUES: [&str; 44] = [
     "a\nb",
     "caf\u{e9}",
     "\u{3a9}A",
+    // Characters that fold to ASCII letters, but not here.
+    "n\u{17f}",
+    "3S\u{212a}A\u{17f}2",
+    "\u{17f}A",
 ];
 
 fn values(_: &mut Rng, out: &mut Out) {
