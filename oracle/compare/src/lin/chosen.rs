@@ -31,7 +31,7 @@ const fn dealt(dealer: &'static str, deal: &'static str) -> Written {
     }
 }
 
-/// North's ace of spades alone.
+/// South's ace of spades alone, dealt by North.
 const ACE: Written = dealt("N", "N:- - A... -");
 /// South's ace of hearts alone.
 const HEART: Written = dealt("S", "S:.A.. - - -");

@@ -655,7 +655,7 @@ pub fn as_long_as_can_be(seed: u64) -> [Vec<u8>; 2] {
     [plain_lines(seed, length), plain_file(seed, length)]
 }
 
-/// Texts that need pages of a gigabyte and more.
+/// Texts that need pages of 1.5 and 0.4 GB.
 pub fn needing_most() -> [Vec<u8>; 2] {
     let length = crate::read::LONGEST;
     [
