@@ -2,7 +2,7 @@
 use Prim.Native.Nat.{ℕ, zero, suc, _+_, _-_, _*_, _<_}
 use mathlib.Core.Path.{_≡_, refl, sym, _∙_, ap}
 use mathlib.Core.Bool.{true, false, not}
-use mathlib.Core.List.{List, [], _∷_, _++_, map}
+use mathlib.Core.List.{List}
 use native.Mathlib.Omega.{arith}
 use lib.Dec.{eqb}
 use lib.ListN.{length, getD, take}
@@ -15,7 +15,7 @@ use Rattle.reader.specs.Editions.{cardsOf}
 use Rattle.planning.specs.declared.state.BoardState.{BoardState}
 use Rattle.planning.specs.declared.state.BoardState.the-variants.{Blank, Own, Old, Near, Twin, Solve}
 use Rattle.planning.specs.Cards.{handsOf, isWhole, hasTable, cardHere}
-use Rattle.planning.specs.States.{BoardPlan, boardPlansFrom, boardPlans, planFrom, stateIn, stateAt, stateNumber, fromOf}
+use Rattle.planning.specs.States.{boardPlans, stateAt, stateNumber, fromOf}
 use Rattle.planning.specs.Slips.{countOf, slipsOf, cardFrom}
 use Rattle.planning.specs.Plans.{plansOf}
 use Rattle.planning.specs.Demands.{StateIs}
@@ -25,19 +25,11 @@ use Rattle.demands.specs.Demand1.{boardsIn}
 use Rattle.demands.specs.Demand3.{AnswersOf, CellsFrom}
 use Rattle.demands.specs.Demand3 as cells
 use Rattle.demands.specs.Finished.{noTable}
+use Rattle.demands.proofs.MeaningLaws.{plan-here, state-here, mapped-at}
 use Rattle.demands.proofs.StatesMean.{states-mean, twins-of-solve}
 use Rattle.demands.proofs.FinishedSlips.{slip-answers}
 
 -- ---- the table of a position
-
-table-from : (f : BoardPlan → TableCard) (olds news : List (List ℕ)) (p : ℕ) (earlier xs : List (List ℕ)) (i : ℕ) (d : TableCard)
-    → i < length xs → getD (map f (boardPlansFrom olds news p earlier xs)) i d
-    ≡ f (record { position = p + i; card = cardFrom xs i; state = stateIn (planFrom (boardPlansFrom olds news p earlier xs) i) })
-table-from f olds news p earlier [] i d h = absurd (omega arith)
-table-from f olds news p earlier (x ∷ xs) zero d h = let n : p + 0 ≡ p = omega arith in rw n
-table-from f olds news p earlier (x ∷ xs) (suc i) d h =
-    let n : p + suc i ≡ p + 1 + i = omega arith in
-    rw n (table-from f olds news (p + 1) (earlier ++ (x ∷ [])) xs i d (omega arith))
 
 -- The table of the board number k, from 0.
 abbrev pub tableHere : Conventions → List ℕ → List ℕ → List ℕ → ℕ → BoardState → TableCard
@@ -46,12 +38,14 @@ tableHere c old new answers k s =
 
 pub table-at : (c : Conventions) (old new answers : List ℕ) (k : ℕ) → k < length (cardsOf c new)
     → getD (tablesOf c old new answers) k noTable ≡ tableHere c old new answers k (stateAt (plansOf c old new) (suc k))
-unfolding tablesOf tableOf boardPlans
+unfolding tablesOf tableOf
 table-at c old new answers k h =
     let olds = cardsOf c old in
     let news = cardsOf c new in
+    let js = boardPlans olds news in
     let n : 1 + k ≡ suc k = omega arith in
-    rw n at (table-from (tableOf olds news (boardPlans olds news) answers) olds news 1 [] news k noTable h)
+    let e = mapped-at (tableOf olds news js answers) js k noTable (plan-here olds news k h) in
+    rw (n, ← state-here olds news k h) at e
 
 -- ---- by its state
 

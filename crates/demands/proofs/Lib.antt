@@ -7,6 +7,7 @@ pub mod FinishedTables
 pub mod Finishing
 pub mod Handed
 pub mod Inside
+pub mod LeftBySix
 pub mod LinAuction
 pub mod LinContract
 pub mod LineBack
@@ -36,6 +37,8 @@ pub mod RemarksBack
 pub mod RemarksCounted
 pub mod RemarksOrdered
 pub mod RemarksPlaced
+pub mod SearchesMean
+pub mod SearchPins
 pub mod SectionTokens
 pub mod SectionsBack
 pub mod StatesMean

@@ -1,12 +1,13 @@
 -- The state of a board is what its words say.
-use Prim.Native.Nat.{ℕ, zero, suc, _+_, _≤_, _<_}
+use Prim.Native.Nat.{ℕ, zero, suc, _+_, _<_}
 use mathlib.Core.Path.{_≡_, refl, sym, _∙_, ap}
 use mathlib.Core.Logic.{_↔_}
 use mathlib.Core.Bool.{Bool, true, false, cond}
-use mathlib.Core.List.{List, [], _∷_, _++_, append-nil}
+use mathlib.Core.List.{List, [], _∷_, _++_, map, append-nil}
+use mathlib.Core.Option.{some}
 use native.Mathlib.Omega.{arith}
 use lib.Dec.{eqb}
-use lib.ListN.{length, take}
+use lib.ListN.{length, getD, take}
 use lib.Seq.{append-snoc}
 use borrow.Author.Tests.{ne-eqb}
 use Rattle.tables.proofs.Laws.{both}
@@ -16,7 +17,7 @@ use Rattle.reader.proofs.WordLaws.{same-is, same-self}
 use Rattle.planning.specs.declared.state.BoardState.{BoardState}
 use Rattle.planning.specs.declared.state.BoardState.the-variants.{Blank, Own, Old, Near, Twin, Solve}
 use Rattle.planning.specs.Cards.{cardDeal, handsOf, isWhole, hasTable, hasDeal, fits}
-use Rattle.planning.specs.States.{firstFrom, firstWith, orElse, stateOf, boardPlansFrom, boardPlans, planFrom, stateIn, stateAt}
+use Rattle.planning.specs.States.{BoardPlan, firstFrom, firstWith, orElse, stateOf, boardPlansFrom, boardPlans, planFrom, stateIn, stateAt}
 use Rattle.planning.specs.Slips.{cardFrom}
 use Rattle.planning.specs.Demands.{WithDeal, Tabled, StateIs}
 use Rattle.planning.proofs.BoardLaws.{plans-count, past-none}
@@ -99,18 +100,30 @@ module _ (olds news earlier : List (List ℕ)) (x : List ℕ) (g : OfHands x) (s
 
 -- ---- the boards of an edition
 
--- The state of the board number i, from 0.
-from-state : (olds news : List (List ℕ)) (p : ℕ) (earlier xs : List (List ℕ)) (i : ℕ) → i < length xs
-    → stateIn (planFrom (boardPlansFrom olds news p earlier xs) i) ≡ stateOf olds news (earlier ++ take i xs) (cardFrom xs i)
-from-state olds news p earlier [] i h = absurd (omega arith)
-from-state olds news p earlier (x ∷ xs) zero h = rw append-nil
-from-state olds news p earlier (x ∷ xs) (suc i) h =
-    from-state olds news (p + 1) (earlier ++ (x ∷ [])) xs i (omega arith)
-    ∙ ap (λ (l : List (List ℕ)). stateOf olds news l (cardFrom xs i)) (append-snoc earlier x (take i xs))
+-- The board number i, from 0.
+abbrev pub planOf : List (List ℕ) → List (List ℕ) → ℕ → List (List ℕ) → List (List ℕ) → ℕ → BoardPlan
+planOf olds news p earlier xs i = record { position = p + i; card = cardFrom xs i; state = stateOf olds news (earlier ++ take i xs) (cardFrom xs i) }
+
+from-plan : (olds news : List (List ℕ)) (p : ℕ) (earlier xs : List (List ℕ)) (i : ℕ) → i < length xs
+    → planFrom (boardPlansFrom olds news p earlier xs) i ≡ some (planOf olds news p earlier xs i)
+from-plan olds news p earlier [] i h = absurd (omega arith)
+from-plan olds news p earlier (x ∷ xs) zero h = let n : p + 0 ≡ p = omega arith in rw (n, append-nil)
+from-plan olds news p earlier (x ∷ xs) (suc i) h =
+    let n : p + suc i ≡ p + 1 + i = omega arith in
+    rw (n, ← append-snoc earlier x (take i xs)) (from-plan olds news (p + 1) (earlier ++ (x ∷ [])) xs i (omega arith))
+
+pub plan-here : (olds news : List (List ℕ)) (i : ℕ) → i < length news → planFrom (boardPlans olds news) i ≡ some (planOf olds news 1 [] news i)
+unfolding boardPlans
+plan-here olds news i h = from-plan olds news 1 [] news i h
 
 pub state-here : (olds news : List (List ℕ)) (i : ℕ) → i < length news → stateAt (boardPlans olds news) (suc i) ≡ stateOf olds news (take i news) (cardFrom news i)
-unfolding boardPlans
-state-here olds news i h = from-state olds news 1 [] news i h
+state-here olds news i h = ap stateIn (plan-here olds news i h)
+
+-- What a function gives for each board, at the board number i.
+pub mapped-at : {B : Type 0} (f : BoardPlan → B) (js : List BoardPlan) (i : ℕ) (d : B) {j : BoardPlan} → planFrom js i ≡ some j → getD (map f js) i d ≡ f j
+mapped-at f [] i d e = let z : _≡_ {A = ℕ} 0 1 = cc in absurd (omega arith)
+mapped-at f (x ∷ js) zero d e = ap f (cc)
+mapped-at f (x ∷ js) (suc i) d e = mapped-at f js i d e
 
 pub state-none : (olds news : List (List ℕ)) (p : ℕ) → length news < p → stateAt (boardPlans olds news) p ≡ Blank
 unfolding boardPlans

@@ -13,11 +13,13 @@ use Rattle.reader.specs.Editions.{cardsOf}
 use Rattle.reader.proofs.StoreLaws.{Blocks, none, one, blocks-map, length-flat, put-zeros, putAll-append}
 use Rattle.planning.specs.declared.behind.Behind.{Behind}
 use Rattle.planning.specs.declared.behind.Behind.the-variants.{InOld, InNew, Nothing}
-use Rattle.planning.specs.States.{BoardPlan, stateNumber, fromOf}
+use Rattle.planning.specs.States.{BoardPlan, boardPlans, stateNumber, fromOf}
+use Rattle.planning.specs.Searches.{searchNumbers, searchesFrom}
 use Rattle.planning.specs.Slips.{behindOf, behindNumbers, boardNumbers, numbersFrom}
 use Rattle.planning.specs.Plans.{plansOf}
-use Rattle.planning.specs.Demands.{fiveAt, Numbered, NumbersTold}
+use Rattle.planning.specs.Demands.{fiveAt, searchesAt, Numbered, NumbersTold, SearchNumbersTold}
 use Rattle.planning.proofs.SlipLaws.{fives-length, fives-here}
+use Rattle.demands.proofs.MeaningLaws.{plan-here, mapped-at}
 use Rattle.demands.proofs.Listed.{behind-zero}
 use Rattle.demands.proofs.TotalsAdd.{boards-all}
 
@@ -63,45 +65,64 @@ numbers-five : (os ns : List (List ℕ)) (js : List BoardPlan) → Blocks 5 (num
 unfolding boardNumbers
 numbers-five os ns js = blocks-map 5 (boardNumbers os ns) (λ j. five-long (behindOf os ns j) (stateNumber (j .state)) (fromOf (j .state))) js
 
-numbers-at : (os ns : List (List ℕ)) (js : List BoardPlan) (k : ℕ) → k < length js → getD (numbersFrom os ns js) k [] ≡ fiveAt os ns js (suc k)
+searches-five : (os ns : List (List ℕ)) (js : List BoardPlan) → Blocks 5 (searchesFrom os ns js)
+unfolding searchNumbers
+searches-five os ns js = blocks-map 5 (searchNumbers os ns) (λ j. refl) js
+
+numbers-at : (os ns : List (List ℕ)) (k : ℕ) → k < length ns → getD (numbersFrom os ns (boardPlans os ns)) k [] ≡ fiveAt os ns (boardPlans os ns) (suc k)
 unfolding boardNumbers
-numbers-at os ns [] k h = absurd (omega arith)
-numbers-at os ns (j ∷ js) zero h = refl
-numbers-at os ns (j ∷ js) (suc k) h = numbers-at os ns js k (omega arith)
+numbers-at os ns k h =
+    let e = plan-here os ns k h in
+    mapped-at (boardNumbers os ns) (boardPlans os ns) k [] e ∙ rw e
+
+searches-at : (os ns : List (List ℕ)) (k : ℕ) → k < length ns → getD (searchesFrom os ns (boardPlans os ns)) k [] ≡ searchesAt os ns (boardPlans os ns) (suc k)
+searches-at os ns k h =
+    let e = plan-here os ns k h in
+    let n : 1 + k ≡ suc k = omega arith in
+    mapped-at (searchNumbers os ns) (boardPlans os ns) k [] e ∙ rw (e, n)
 
 -- ---- all boards
 
-all-numbered : (olds news : List (List ℕ)) (js : List BoardPlan) (L : ℕ) (back : List ℕ) → length js ≡ length news
-    → back ≡ putAll 5 (replicate L 0) 0 (numbersFrom olds news js) → Numbered olds news js L back
-all-numbered olds news js L back ej e =
-    let xs = numbersFrom olds news js in
-    let b = numbers-five olds news js in
+all-numbered : (five : ℕ → List ℕ) (boards L : ℕ) (back : List ℕ) {xs : List (List ℕ)} → Blocks 5 xs → length xs ≡ boards
+    → ((k : ℕ) → k < boards → getD xs k [] ≡ five (suc k)) → back ≡ putAll 5 (replicate L 0) 0 xs → Numbered five boards L back
+all-numbered five boards L back {xs} b lx at e =
     let m = L / 5 in
     let ws : List ℕ = flat (take m xs) in
     let zs : List ℕ = replicate (L - length ws) 0 in
     let f = take-blocks m b in
-    let lx : length xs ≡ length news = length-map js (boardNumbers olds news) ∙ ej in
     let q : back ≡ padded L ws = e ∙ put-fitting L xs b in
-    let few : length news ≤ m → length (take m xs) ≡ length news = λ h. ap length (take-all m xs (omega arith)) ∙ lx in
-    let many : m ≤ length news → length (take m xs) ≡ m = λ h. length-take-le m xs (omega arith) in
+    let few : boards ≤ m → length (take m xs) ≡ boards = λ h. ap length (take-all m xs (omega arith)) ∙ lx in
+    let many : m ≤ boards → length (take m xs) ≡ m = λ h. length-take-le m xs (omega arith) in
     let fit : length (take m xs) ≤ m =
-    by-cases (ltb m (length news))
-    (λ t. omega (arith, ltb-true m (length news) t, many (omega (arith, ltb-true m (length news) t))))
-    (λ t. omega (arith, ltb-false m (length news) t, few (ltb-false m (length news) t))) in
-    let more : (k : ℕ) → k < length news → k < m → k < length (take m xs) =
+    by-cases (ltb m boards)
+    (λ t. omega (arith, ltb-true m boards t, many (omega (arith, ltb-true m boards t))))
+    (λ t. omega (arith, ltb-false m boards t, few (ltb-false m boards t))) in
+    let more : (k : ℕ) → k < boards → k < m → k < length (take m xs) =
     λ k h i.
-    by-cases (ltb m (length news))
-    (λ t. omega (arith, many (omega (arith, ltb-true m (length news) t))))
-    (λ t. omega (arith, few (ltb-false m (length news) t))) in
+    by-cases (ltb m boards)
+    (λ t. omega (arith, many (omega (arith, ltb-true m boards t))))
+    (λ t. omega (arith, few (ltb-false m boards t))) in
     record {
       as-many = ap length q ∙ omega (arith, length-append ws zs, length-replicate {A = ℕ} (L - length ws) 0, fives-length f);
       each = λ k h i.
           rw q (fives-here (take m xs) zs k f (more k h (omega arith)))
-          ∙ getD-take m xs k [] (omega arith) ∙ numbers-at olds news js k (omega arith);
-      rest-zero = λ h. behind-zero ws L (5 * length news) back (fives-length f ∙ omega (arith, few h)) q;
+          ∙ getD-take m xs k [] (omega arith) ∙ at k h;
+      rest-zero = λ h. behind-zero ws L (5 * boards) back (fives-length f ∙ omega (arith, few h)) q;
       tail-zero = λ h. behind-zero ws L (5 * m) back (fives-length f ∙ omega (arith, many h)) q;
     }
 
 pub numbers-told : NumbersTold
 numbers-told c old new boxes numbers boxes′ numbers′ m n b =
-    all-numbered (cardsOf c old) (cardsOf c new) (plansOf c old new) (length numbers) numbers′ (boards-all (cardsOf c old) (cardsOf c new)) (b .numbers-after)
+    let olds = cardsOf c old in
+    let news = cardsOf c new in
+    let js = plansOf c old new in
+    all-numbered (fiveAt olds news js) (length news) (length numbers) numbers′ (numbers-five olds news js)
+    (length-map js (boardNumbers olds news) ∙ boards-all olds news) (numbers-at olds news) (b .numbers-after)
+
+pub search-numbers-told : SearchNumbersTold
+search-numbers-told c old new boxes numbers boxes′ numbers′ m n words b =
+    let olds = cardsOf c old in
+    let news = cardsOf c new in
+    let js = plansOf c old new in
+    all-numbered (searchesAt olds news js) (length news) (length numbers) numbers′ (searches-five olds news js)
+    (length-map js (searchNumbers olds news) ∙ boards-all olds news) (searches-at olds news) (b .numbers-after)

@@ -13,19 +13,19 @@ use Rattle.planning.specs.Cards.{cardDeal, isWhole, hasTable, hasDeal, fits}
 use Rattle.planning.specs.States.{BoardPlan, firstWith, stateOf, boardPlans}
 use Rattle.planning.specs.Slips.{slipOf, slipsOf, totalsOf, behindAt}
 
-abbrev hands : ℕ → ℕ → ℕ → ℕ → Hands
+abbrev pub hands : ℕ → ℕ → ℕ → ℕ → Hands
 hands n e s w = record { north = n; east = e; south = s; west = w }
 
 -- All spades, hearts, diamonds and clubs are 4503049871556608, 549688705024, 67100672 and 8191. In the deal a N has the spades, in the
 -- deal b E has.
-abbrev a : Hands
+abbrev pub a : Hands
 a = hands 4503049871556608 549688705024 67100672 8191
 
-abbrev b : Hands
+abbrev pub b : Hands
 b = hands 8191 4503049871556608 549688705024 67100672
 
 -- A card with word 9, hands, word 38, and a record from start to end.
-abbrev card : ℕ → Hands → ℕ → ℕ → ℕ → List ℕ
+abbrev pub card : ℕ → Hands → ℕ → ℕ → ℕ → List ℕ
 card kind h table start end =
     replicate 9 0 ++ (kind ∷ handWords h) ++ replicate 20 0 ++ (table ∷ replicate 21 0) ++ (start ∷ end ∷ 0 ∷ 0 ∷ [])
 

@@ -17,12 +17,13 @@ use Rattle.reader.specs.Fellows.{Stands}
 use Rattle.reader.proofs.Fellows.{EveryBoard, RecordFilled, RecordEnds}
 use Rattle.planning.specs.declared.state.BoardState.{BoardState}
 use Rattle.planning.specs.declared.state.BoardState.the-variants.{Blank, Own, Old, Near, Twin, Solve}
-use Rattle.planning.specs.States.{boardPlansFrom, boardPlans, planFrom, stateIn, stateAt}
-use Rattle.planning.specs.Slips.{cardFrom, behindState, behindIn, behindAt, partOf}
+use Rattle.planning.specs.States.{boardPlans, stateAt}
+use Rattle.planning.specs.Slips.{cardFrom, behindState, behindAt, partOf}
 use Rattle.planning.specs.Plans.{oldReading, newReading, bothAfter, editionsOf, behindBy, plansOf}
 use Rattle.planning.specs.Demands.{recordAt, IsBehind, PlacesBehind, RecordsBehind}
 use Rattle.planning.proofs.BothLaws.{taken-short}
 use Rattle.planning.proofs.StateLaws.{reach}
+use Rattle.demands.proofs.MeaningLaws.{plan-here}
 use Rattle.demands.proofs.StatesMean.{reach-here}
 use Rattle.demands.proofs.Inside.{stands-card, starts-at, ends-at}
 
@@ -64,16 +65,9 @@ whole-record c text k short h =
 
 -- ---- a board and its state
 
-from-behind : (os ns olds news : List (List ℕ)) (p : ℕ) (earlier xs : List (List ℕ)) (i : ℕ) → i < length xs
-    → behindIn os ns (planFrom (boardPlansFrom olds news p earlier xs) i) ≡ behindState os ns (cardFrom xs i) (stateIn (planFrom (boardPlansFrom olds news p earlier xs) i))
-from-behind os ns olds news p earlier [] i h = absurd (omega arith)
-from-behind os ns olds news p earlier (x ∷ xs) zero h = refl
-from-behind os ns olds news p earlier (x ∷ xs) (suc i) h = from-behind os ns olds news (p + 1) (earlier ++ (x ∷ [])) xs i (omega arith)
-
 behind-here : (olds news : List (List ℕ)) (i : ℕ) → i < length news
     → behindAt olds news (boardPlans olds news) (suc i) ≡ behindState olds news (cardFrom news i) (stateAt (boardPlans olds news) (suc i))
-unfolding boardPlans
-behind-here olds news i h = from-behind olds news olds news 1 [] news i h
+behind-here olds news i h = rw (plan-here olds news i h)
 
 -- The record at a position from 1.
 at-position : (text : List ℕ) (k : ℕ) {part : List ℕ} → WholeRecord text k part → part ≡ recordAt text (suc k)

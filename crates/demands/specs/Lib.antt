@@ -7,5 +7,6 @@ pub mod Lin
 pub mod LinSteps
 pub mod NothingLost
 pub mod PageBack
+pub mod Searches
 pub mod Worked
 pub mod WorkedLin

@@ -12,6 +12,7 @@ use Rattle.tables.proofs.Laws.{clash}
 use Rattle.reader.specs.Store.{zeros, putAll}
 use Rattle.reader.proofs.EditionLaws.{ended}
 use Rattle.reader.proofs.CardLength.{CardsWhole}
+use Rattle.reader.proofs.Counts.{TextBoardsFew}
 use Rattle.planning.specs.declared.state.BoardState.{BoardState}
 use Rattle.planning.specs.declared.state.BoardState.the-variants.{Blank}
 use Rattle.planning.specs.declared.behind.Behind.{Behind}
@@ -27,9 +28,10 @@ use Rattle.planning.specs.declared.plan.Planning.the-variants.{Planned}
 use Rattle.planning.specs.declared.plan.Planning.the-variants as planning
 use Rattle.planning.specs.PlanSteps.{cardsIn, BoxesKept, PlanEnded}
 use Rattle.planning.specs.States.{BoardPlan, boardPlans, stateAt}
+use Rattle.planning.specs.Searches.{searchesFrom, allWords}
 use Rattle.planning.specs.Slips.{slipsOf, countOf, totalsOf, behindAt, partOf, numbersFrom}
-use Rattle.planning.specs.Plans.{Boxes, editionsOf, areBoth, plansOf, slipsAnswer, planningOf, isPlanned, BoxesAfter, BothRead, IsPlanned, behindBy, StateTold, BehindTold, PartTold, BoardsTold}
-use Rattle.planning.proofs.BothLaws.{CardsThere, both-cards}
+use Rattle.planning.specs.Plans.{Boxes, editionsOf, areBoth, plansOf, slipsAnswer, planningOf, isPlanned, BoxesAfter, BothRead, IsPlanned, behindBy, oldReading, newReading, StateTold, BehindTold, PartTold, BoardsTold, SearchesTold}
+use Rattle.planning.proofs.BothLaws.{CardsThere, both-cards, both-are-taken, taken-short}
 use Rattle.planning.proofs.SlipLaws.{slips-count, slips-five}
 
 -- ---- the end of planning
@@ -101,6 +103,28 @@ module _ {c : Conventions} {old new : List ℕ} {boxes boxes′ : Boxes} {r : Ed
 
   pub boards-none : {numbers numbers′ : List ℕ} {f : EditionsRefusal} → r ≡ editions.Refused f → numbers′ ≡ zeros numbers → BoardsTold c old new boxes numbers boxes′ numbers′ r
   boards-none e z = record { editions-read = b; numbers-after = rw e z }
+
+  -- Neither edition has more boards than a text may have bytes.
+  pub boards-low : {m n : ℕ} → r ≡ Both m n → (m ≤ 16777215) × (n ≤ 16777215)
+  unfolding editionsOf
+  boards-low e =
+      let t = both-are-taken (oldReading c old boxes) (newReading c new boxes) (rw (← b .answer, e)) in
+      let ho = taken-short c old (length (boxes .old-cards)) (length (boxes .old-entries)) (t .0) in
+      let hn = taken-short c new (length (boxes .new-cards)) (length (boxes .new-entries)) (t .1) in
+      (omega (arith, ho, there e .0 .count, TextBoardsFew c old), omega (arith, hn, there e .1 .count, TextBoardsFew c new))
+
+  pub searches-told : {m n words : ℕ} {zs numbers numbers′ : List ℕ} → r ≡ Both m n → zs ≡ zeros numbers
+      → (words ≡ allWords (cardsIn m (boxes′ .old-cards)) (cardsIn n (boxes′ .new-cards)) (boardPlans (cardsIn m (boxes′ .old-cards)) (cardsIn n (boxes′ .new-cards))))
+      × (numbers′ ≡ putAll 5 zs 0 (searchesFrom (cardsIn m (boxes′ .old-cards)) (cardsIn n (boxes′ .new-cards)) (boardPlans (cardsIn m (boxes′ .old-cards)) (cardsIn n (boxes′ .new-cards)))))
+      → SearchesTold c old new boxes numbers boxes′ numbers′ (Both m n) words
+  searches-told e z f = record {
+    editions-read = as-told e;
+    numbers-after = f .1 ∙ rw (z, there e .0 .cards, there e .1 .cards);
+    all-words = f .0 ∙ rw (there e .0 .cards, there e .1 .cards);
+  }
+
+  pub searches-none : {numbers numbers′ : List ℕ} {f : EditionsRefusal} → r ≡ editions.Refused f → numbers′ ≡ zeros numbers → SearchesTold c old new boxes numbers boxes′ numbers′ r 0
+  searches-none e z = record { editions-read = b; numbers-after = rw e z; all-words = rw e }
 
   pub plan-refused : {f : EditionsRefusal} {slips slips′ : List ℕ} → r ≡ editions.Refused f → slips′ ≡ zeros slips
       → IsPlanned c old new boxes slips boxes′ slips′ (planning.Refused (Edition f))

@@ -7,7 +7,9 @@ pub mod FillLaws
 pub mod FoundLaws
 pub mod Lending
 pub mod PlanLaws
+pub mod CardWords
 pub mod SearchLaws
+pub mod SearchesLaws
 pub mod SlipLaws
 pub mod StateLaws
 pub mod StructLaws

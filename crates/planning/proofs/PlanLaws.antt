@@ -2,18 +2,17 @@
 use Prim.Native.Nat.{ℕ, suc, _+_, _≤_, _<_}
 use mathlib.Core.Path.{_≡_, refl, sym, ap, _∙_, subst⁻¹}
 use mathlib.Core.Bool.{Bool, true, false, cond}
-use mathlib.Core.List.{List, [], _∷_}
+use mathlib.Core.List.{List, [], _∷_, map}
 use native.Mathlib.Omega.{arith}
 use lib.Dec.{eqb}
 use lib.ListN.{length}
 use Rattle.reader.specs.Store.{put, putAll}
-use Rattle.reader.proofs.StoreLaws.{Blocks, none, one}
 use Rattle.planning.specs.declared.state.BoardState.{BoardState}
 use Rattle.planning.specs.declared.plan.Totals.{Totals}
 use Rattle.planning.specs.Cards.{cardHere}
 use Rattle.planning.specs.PlanSteps.{cardsIn, planHere, tally, counted, noTotals, Within}
 use Rattle.planning.specs.States.{BoardPlan, boardPlans, isSolve, stateNumber, stateOf}
-use Rattle.planning.specs.Slips.{slipOf, slipsOf, countOf, totalsOf, boardNumbers, numbersFrom}
+use Rattle.planning.specs.Slips.{slipOf, slipsOf, countOf, totalsOf}
 use Rattle.planning.proofs.BoardLaws.{boardsLeft, left-first, left-step, left-none, boards-count}
 
 -- ---- counts
@@ -144,33 +143,33 @@ module _ {os : List (List ℕ)} {n : ℕ} {box slips₀ : List ℕ} {t : Totals}
         solve = omega (arith, l .solve-in, count-few 5 all, e);
       }
 
--- ---- five numbers a board, stored board after board
+-- ---- five numbers a board, stored board after board: row gives those of a board
 
-pub record Rows (os : List (List ℕ)) (n : ℕ) (box numbers₀ : List ℕ) (k : ℕ) (numbers : List ℕ) : Type 0 where
+pub record Rows (row : BoardPlan → List ℕ) (os : List (List ℕ)) (n : ℕ) (box numbers₀ : List ℕ) (k : ℕ) (numbers : List ℕ) : Type 0 where
   pub inside : k ≤ n
   pub numbers-length : length numbers ≡ length numbers₀
-  pub rest : putAll 5 numbers k (numbersFrom os (cardsIn n box) (boardsLeft os (cardsIn n box) k n box)) ≡ putAll 5 numbers₀ 0 (numbersFrom os (cardsIn n box) (boardPlans os (cardsIn n box)))
+  pub rest : putAll 5 numbers k (map row (boardsLeft os (cardsIn n box) k n box)) ≡ putAll 5 numbers₀ 0 (map row (boardPlans os (cardsIn n box)))
 
-pub rows-first : (os : List (List ℕ)) (n : ℕ) (box numbers : List ℕ) → Rows os n box numbers 0 numbers
-rows-first os n box numbers =
+pub rows-first : (row : BoardPlan → List ℕ) (os : List (List ℕ)) (n : ℕ) (box numbers : List ℕ) → Rows row os n box numbers 0 numbers
+rows-first row os n box numbers =
     record {
       inside = omega arith;
       numbers-length = refl;
-      rest = ap (λ (js : List BoardPlan). putAll 5 numbers 0 (numbersFrom os (cardsIn n box) js)) (sym (left-first os n box));
+      rest = ap (λ (js : List BoardPlan). putAll 5 numbers 0 (map row js)) (sym (left-first os n box));
     }
 
-module _ {os : List (List ℕ)} {n : ℕ} {box numbers₀ : List ℕ} {k : ℕ} {numbers : List ℕ} (i : Rows os n box numbers₀ k numbers) where
-  pub rows-next : {numbers′ five : List ℕ} → k < n → five ≡ boardNumbers os (cardsIn n box) (planHere os (cardsIn n box) k box)
-      → numbers′ ≡ put 5 numbers k five → length numbers′ ≡ length numbers → Rows os n box numbers₀ (k + 1) numbers′
+module _ {row : BoardPlan → List ℕ} {os : List (List ℕ)} {n : ℕ} {box numbers₀ : List ℕ} {k : ℕ} {numbers : List ℕ} (i : Rows row os n box numbers₀ k numbers) where
+  pub rows-next : {numbers′ five : List ℕ} → k < n → five ≡ row (planHere os (cardsIn n box) k box)
+      → numbers′ ≡ put 5 numbers k five → length numbers′ ≡ length numbers → Rows row os n box numbers₀ (k + 1) numbers′
   rows-next {numbers′} {five} h ef ep el =
       let ns = cardsIn n box in
-      let rest = numbersFrom os ns (boardsLeft os ns (k + 1) n box) in
-      let e : numbers′ ≡ put 5 numbers k (boardNumbers os ns (planHere os ns k box)) = ep ∙ ap (put 5 numbers k) ef in
+      let rest = map row (boardsLeft os ns (k + 1) n box) in
+      let e : numbers′ ≡ put 5 numbers k (row (planHere os ns k box)) = ep ∙ ap (put 5 numbers k) ef in
       record {
         inside = omega arith;
         numbers-length = el ∙ i .numbers-length;
         rest = ap (λ (l : List ℕ). putAll 5 l (k + 1) rest) e ∙ (rw (left-step os ns k n box h) at (i .rest));
       }
 
-  pub rows-end : n ≤ k → numbers ≡ putAll 5 numbers₀ 0 (numbersFrom os (cardsIn n box) (boardPlans os (cardsIn n box)))
+  pub rows-end : n ≤ k → numbers ≡ putAll 5 numbers₀ 0 (map row (boardPlans os (cardsIn n box)))
   rows-end h = rw (left-none os (cardsIn n box) k n box h) at (i .rest)

@@ -1,119 +1,202 @@
--- Laws of a card's words and of the search.
+-- Laws of the search and of the words that it compares.
 use Prim.Native.Nat.{ℕ, _+_, _*_, _-_, _≤_, _<_}
 use mathlib.Core.Path.{_≡_, refl, sym, ap, _∙_}
 use mathlib.Core.Bool.{Bool, true, false, cond, _&&_, _||_, not}
 use mathlib.Core.List.{List, [], _∷_}
 use native.Mathlib.Omega.{arith}
 use lib.Dec.{eqb}
-use lib.ListN.{length, drop, getD, length-drop}
-use lib.Seq.{getD-take, getD-drop, length-take-le}
-use borrow.Author.Tests.{eq-eqb, ne-eqb}
-use Rattle.tables.proofs.Laws.{step, stop, by-cases, both}
+use lib.ListN.{length, drop, getD, length-take}
+use Rattle.tables.proofs.Laws.{by-cases, both, clash}
 use Rattle.reader.specs.Words.{same}
 use Rattle.reader.specs.Deals.{wholeHands, handsOfWords}
-use Rattle.reader.proofs.WordLaws.{same-is, and-false}
-use Rattle.planning.specs.Cards.{cardDeal, isWhole, hasTable, hasDeal, fits, cardHere}
-use Rattle.planning.specs.PlanSteps.{cardsIn}
-use Rattle.planning.specs.States.{firstFrom}
+use Rattle.reader.proofs.WordLaws.{same-is}
+use Rattle.planning.specs.declared.search.Found.{Found}
+use Rattle.planning.specs.Cards.{cardDeal, handsOf, isWhole, hasTable, hasDeal, fits, cardHere}
+use Rattle.planning.specs.PlanSteps.{cardsIn, equalFront, mayFit}
+use Rattle.planning.specs.States.{firstFrom, firstWith}
+use Rattle.planning.specs.Searches.{passedOver, comparedWords, compared, searchFrom, searched}
+use Rattle.planning.specs.Demands.{FoundSame, WordsFew}
 use Rattle.planning.proofs.BoxLaws.{card-step}
 
--- ---- words of a card
+-- ---- the words of two deals
 
-pub word-here : (k w : ℕ) (box : List ℕ) → w < 64 → getD (cardHere k box) w 0 ≡ getD box (64 * k + w) 0
-word-here k w box h = getD-take 64 (drop (64 * k) box) w 0 h ∙ getD-drop (64 * k) box w 0
+-- All words are equal.
+front-all : (xs ys : List ℕ) → length xs ≡ length ys → equalFront xs ys ≡ length xs → (same xs ys ≡ true) × (comparedWords xs ys ≡ length xs)
+front-all [] [] l e = (refl, refl)
+front-all [] (y ∷ ys) l e = absurd (omega arith)
+front-all (x ∷ xs) [] l e = absurd (omega arith)
+front-all (x ∷ xs) (y ∷ ys) l e =
+    by-cases (eqb x y)
+    (λ q.
+    let i = front-all xs ys (omega arith) (omega (arith, rw q at e)) in
+    rw (q, i .0, i .1) (refl, omega arith))
+    (λ q. let z = rw q at e in absurd (omega arith))
 
-pub here-length : (k : ℕ) (box : List ℕ) → 64 * k + 64 ≤ length box → length (cardHere k box) ≡ 64
-here-length k box h = length-take-le 64 (drop (64 * k) box) (rw length-drop (omega arith))
+-- Some word differs.
+front-less : (xs ys : List ℕ) → length xs ≡ length ys → (equalFront xs ys ≡ length xs → ⊥)
+    → (same xs ys ≡ false) × (comparedWords xs ys ≡ equalFront xs ys + 1)
+front-less [] [] l n = absurd (n refl)
+front-less [] (y ∷ ys) l n = absurd (omega arith)
+front-less (x ∷ xs) [] l n = absurd (omega arith)
+front-less (x ∷ xs) (y ∷ ys) l n =
+    by-cases (eqb x y)
+    (λ q.
+    let i = front-less xs ys (omega arith) (λ z. n (rw q (omega arith))) in
+    rw (q, i .0, i .1) (refl, omega arith))
+    (λ q. rw q (refl, refl))
 
-pub deal-length : (k : ℕ) (box : List ℕ) → 64 * k + 64 ≤ length box → length (cardDeal (cardHere k box)) ≡ 8
+-- At most as many words as a card's deal has.
+words-few : (xs ys : List ℕ) → comparedWords xs ys ≤ length ys
+words-few [] ys = omega arith
+words-few (x ∷ xs) [] = omega arith
+words-few (x ∷ xs) (y ∷ ys) = by-cases (eqb x y) (λ q. rw q (omega (arith, words-few xs ys))) (λ q. rw q (omega arith))
+
+deal-few : (d card : List ℕ) → comparedWords d (cardDeal card) ≤ 8
 unfolding cardDeal
-deal-length k box h = length-take-le 8 (drop 10 (cardHere k box)) (rw (length-drop, here-length k box h) (omega arith))
+deal-few d card = omega (arith, words-few d (cardDeal card), length-take 8 (drop 10 card))
 
-pub deal-word : (k i : ℕ) (box : List ℕ) → i < 8 → getD (cardDeal (cardHere k box)) i 0 ≡ getD box (64 * k + 10 + i) 0
-unfolding cardDeal
-deal-word k i box h =
-    let e : 64 * k + (10 + i) ≡ 64 * k + 10 + i = omega arith in
-    getD-take 8 (drop 10 (cardHere k box)) i 0 h ∙ getD-drop 10 (cardHere k box) i 0 ∙ word-here k (10 + i) box (omega arith) ∙ rw e
+-- ---- a board
 
--- One word more of a list, from index i on.
-more : (l : List ℕ) (i : ℕ) {rest : List ℕ} → i < length l → drop (i + 1) l ≡ rest → drop i l ≡ getD l i 0 ∷ rest
-more l i h e = step l i h ∙ ap (λ (r : List ℕ). getD l i 0 ∷ r) e
+-- What fits is not passed over, and has the same words.
+either : (w s t h : Bool) → ((w && s) && (not t || h)) ≡ cond (not w || (t && not h)) false s
+either false s t h = refl
+either true true true true = refl
+either true true true false = refl
+either true true false h = refl
+either true false true true = refl
+either true false true false = refl
+either true false false h = refl
 
-eight : (l : List ℕ) → length l ≡ 8 → l ≡ getD l 0 0 ∷ getD l 1 0 ∷ getD l 2 0 ∷ getD l 3 0 ∷ getD l 4 0 ∷ getD l 5 0 ∷ getD l 6 0 ∷ getD l 7 0 ∷ []
-eight l e =
-    more l 0 (omega arith)
-    (more l 1 (omega arith)
-    (more l 2 (omega arith)
-    (more l 3 (omega arith)
-    (more l 4 (omega arith)
-    (more l 5 (omega arith)
-    (more l 6 (omega arith)
-    (more l 7 (omega arith)
-    (stop l 8 (omega arith)))))))))
+pub fits-is : (tabled : Bool) (d card : List ℕ) → fits tabled d card ≡ cond (passedOver tabled card) false (same d (cardDeal card))
+unfolding fits hasDeal passedOver
+fits-is tabled d card = either (isWhole card) (same d (cardDeal card)) tabled (hasTable card)
 
--- Words 10 to 17 of the card at index k.
-pub deal-words : (k : ℕ) (box : List ℕ) → 64 * k + 64 ≤ length box
-    → cardDeal (cardHere k box)
-    ≡ getD box (64 * k + 10) 0 ∷ getD box (64 * k + 11) 0 ∷ getD box (64 * k + 12) 0 ∷ getD box (64 * k + 13) 0
-    ∷ getD box (64 * k + 14) 0 ∷ getD box (64 * k + 15) 0 ∷ getD box (64 * k + 16) 0 ∷ getD box (64 * k + 17) 0 ∷ []
-deal-words k box h =
-    let w : (i : ℕ) → i < 8 → getD (cardDeal (cardHere k box)) i 0 ≡ getD box (64 * k + (10 + i)) 0 = λ i lt.
-    let e : 64 * k + 10 + i ≡ 64 * k + (10 + i) = omega arith in
-    deal-word k i box lt ∙ rw e in
-    eight (cardDeal (cardHere k box)) (deal-length k box h)
-    ∙ rw (w 0 (omega arith), w 1 (omega arith), w 2 (omega arith), w 3 (omega arith), w 4 (omega arith), w 5 (omega arith), w 6 (omega arith), w 7 (omega arith))
+-- A table, where one is sought.
+pub there-sought : (t h : Bool) → (not t || h) ≡ not (t && not h)
+there-sought true true = refl
+there-sought true false = refl
+there-sought false h = refl
 
--- ---- a card that fits
+-- The want of a table or word 9 decides.
+may-not : (tabled : Bool) (card : List ℕ) → mayFit tabled card ≡ false → passedOver tabled card ≡ true
+unfolding mayFit passedOver isWhole
+may-not tabled card m = go tabled (hasTable card) (eqb (getD card 9 0) 1) (wholeHands (handsOf card)) m
+  where
+    go : (t h p v : Bool) → ((not t || h) && p) ≡ false → (not (p && v) || (t && not h)) ≡ true
+    go t h false v e = refl
+    go true false true true e = refl
+    go true false true false e = refl
+    go true true true v e = clash (sym e)
+    go false h true v e = clash (sym e)
 
-pub fits-not : (tabled : Bool) (d card : List ℕ) → (getD card 9 0 ≡ 1 → ⊥) → fits tabled d card ≡ false
-unfolding fits hasDeal isWhole
-fits-not tabled d card h = rw (ne-eqb _ _ h)
-
-pub fits-tableless : (tabled : Bool) (d card : List ℕ) → (tabled && eqb (getD card 38 0) 0) ≡ true → fits tabled d card ≡ false
-unfolding fits hasTable
-fits-tableless tabled d card h =
-    let k = both tabled (eqb (getD card 38 0) 0) h in
-    rw (k .0, k .1) (and-false (hasDeal d card))
-
-and-true : (p : Bool) → (p && true) ≡ p
-and-true true = refl
-and-true false = refl
-
-sought : (tabled e : Bool) → (tabled && e) ≡ false → (not tabled || not e) ≡ true
-sought true true h = sym h
-sought true false h = refl
-sought false e h = refl
+-- Else only whether it is whole is open.
+may : (tabled : Bool) (card : List ℕ) → mayFit tabled card ≡ true → passedOver tabled card ≡ not (isWhole card)
+unfolding mayFit passedOver
+may tabled card m = go tabled (hasTable card) (isWhole card) (both (not tabled || hasTable card) _ m .0)
+  where
+    go : (t h v : Bool) → (not t || h) ≡ true → (not v || (t && not h)) ≡ not v
+    go true false v e = clash e
+    go true true true e = refl
+    go true true false e = refl
+    go false h true e = refl
+    go false h false e = refl
 
 -- A card whose deal has the words of a whole one is whole.
-pub fits-same : (tabled : Bool) (d card : List ℕ) → wholeHands (handsOfWords d) ≡ true → getD card 9 0 ≡ 1 → (tabled && eqb (getD card 38 0) 0) ≡ false
-    → fits tabled d card ≡ same d (cardDeal card)
-unfolding fits hasDeal isWhole hasTable
-fits-same tabled d card w h t =
-    by-cases (same d (cardDeal card))
-    (λ e.
+same-whole : (tabled : Bool) (d card : List ℕ) → mayFit tabled card ≡ true → wholeHands (handsOfWords d) ≡ true → same d (cardDeal card) ≡ true → isWhole card ≡ true
+unfolding mayFit isWhole
+same-whole tabled d card m w e =
+    let p : eqb (getD card 9 0) 1 ≡ true = both (not tabled || hasTable card) _ m .1 in
     let i : wholeHands (handsOfWords (cardDeal card)) ≡ true = rw (same-is d (cardDeal card) e) at w in
-    rw (sought tabled _ t, e, eq-eqb _ _ h, i))
-    (λ e. rw (sought tabled _ t, e, and-false, and-true))
+    rw (p, i)
 
--- ---- the search
+-- What a board gives the search, by the tests that decide it.
+module _ (tabled : Bool) (d card : List ℕ) where
+  pub tried-over : mayFit tabled card ≡ false → (false ≡ fits tabled d card) × (0 ≡ compared tabled d card)
+  unfolding compared
+  tried-over m = rw (fits-is tabled d card, may-not tabled card m) (refl, refl)
 
-pub first-all : (test : List ℕ → Bool) (n : ℕ) (box : List ℕ) → firstFrom test (0 + 1) (cardsIn (n - 0) (drop (64 * 0) box)) ≡ firstFrom test 1 (cardsIn n box)
-first-all test n box =
-    let e : n - 0 ≡ n = omega arith in
-    rw e
+  module _ (m : mayFit tabled card ≡ true) (ld : length d ≡ 8) (lc : length (cardDeal card) ≡ 8) where
+    pub tried-found : wholeHands (handsOfWords d) ≡ true → equalFront d (cardDeal card) ≡ 8 → (true ≡ fits tabled d card) × (8 ≡ compared tabled d card)
+    unfolding compared
+    tried-found h e =
+        let f = front-all d (cardDeal card) (omega arith) (omega arith) in
+        rw (fits-is tabled d card, may tabled card m, same-whole tabled d card m h (f .0), f .0, f .1, ld) (refl, refl)
 
-first-step : (test : List ℕ → Bool) (n k p : ℕ) (box : List ℕ) → k < n
-    → firstFrom test p (cardsIn (n - k) (drop (64 * k) box)) ≡ cond (test (cardHere k box)) p (firstFrom test (p + 1) (cardsIn (n - (k + 1)) (drop (64 * (k + 1)) box)))
-first-step test n k p box h = rw (card-step n k box h)
+    pub tried-left : {v : ℕ} → (equalFront d (cardDeal card) ≡ 8 → ⊥) → v ≡ cond (isWhole card) (equalFront d (cardDeal card) + 1) 0
+        → (false ≡ fits tabled d card) × (v ≡ compared tabled d card)
+    unfolding compared
+    tried-left n e =
+        let f = front-less d (cardDeal card) (omega arith) (λ z. n (omega arith)) in
+        by-cases (isWhole card)
+        (λ w. rw (fits-is tabled d card, e, may tabled card m, w, f .0, f .1) (refl, refl))
+        (λ w. rw (fits-is tabled d card, e, may tabled card m, w) (refl, refl))
 
-pub first-found : (test : List ℕ → Bool) (n k p : ℕ) (box : List ℕ) → k < n → test (cardHere k box) ≡ true → firstFrom test p (cardsIn (n - k) (drop (64 * k) box)) ≡ p
-first-found test n k p box h e = first-step test n k p box h ∙ rw e
+-- ---- the search, board after board
 
-pub first-past : (test : List ℕ → Bool) (n k p : ℕ) (box : List ℕ) → k < n → test (cardHere k box) ≡ false
-    → firstFrom test p (cardsIn (n - k) (drop (64 * k) box)) ≡ firstFrom test (p + 1) (cardsIn (n - (k + 1)) (drop (64 * (k + 1)) box))
-first-past test n k p box h e = first-step test n k p box h ∙ rw e
+-- In one step: found, or on to the next board with the words compared on this one.
+pub search-step : (tabled : Bool) (d : List ℕ) (k w : ℕ) (x : List ℕ) (xs : List (List ℕ))
+    → searchFrom tabled d k w (x ∷ xs)
+    ≡ cond (fits tabled d x) (record { board = k; words = w + compared tabled d x }) (searchFrom tabled d (k + 1) (w + compared tabled d x) xs)
+unfolding compared
+search-step tabled d k w x xs =
+    let z : w + 0 ≡ w = omega arith in
+    by-cases (passedOver tabled x)
+    (λ p. rw (fits-is tabled d x, p, z))
+    (λ p. rw (fits-is tabled d x, p))
 
-pub first-stop : (test : List ℕ → Bool) (n k p : ℕ) (box : List ℕ) → n ≤ k → firstFrom test p (cardsIn (n - k) (drop (64 * k) box)) ≡ 0
-first-stop test n k p box h =
-    let e : n - k ≡ 0 = omega arith in
-    rw e
+compared-few : (tabled : Bool) (d card : List ℕ) → compared tabled d card ≤ 8
+unfolding compared
+compared-few tabled d card = by-cases (passedOver tabled card) (λ p. rw p (omega arith)) (λ p. rw p (deal-few d card))
+
+same-from : (tabled : Bool) (d : List ℕ) (k w : ℕ) (cards : List (List ℕ)) → searchFrom tabled d k w cards .board ≡ firstFrom (fits tabled d) k cards
+same-from tabled d k w [] = refl
+same-from tabled d k w (x ∷ xs) =
+    ap (λ (f : Found). f .board) (search-step tabled d k w x xs)
+    ∙ by-cases (fits tabled d x)
+    (λ f. rw f)
+    (λ f. rw f (same-from tabled d (k + 1) (w + compared tabled d x) xs))
+
+pub found-same : FoundSame
+unfolding searched firstWith
+found-same tabled d cards = same-from tabled d 1 0 cards
+
+few-from : (tabled : Bool) (d : List ℕ) (k w : ℕ) (cards : List (List ℕ)) → searchFrom tabled d k w cards .words ≤ w + 8 * length cards
+few-from tabled d k w [] = omega arith
+few-from tabled d k w (x ∷ xs) =
+    let f = compared-few tabled d x in
+    let i = few-from tabled d (k + 1) (w + compared tabled d x) xs in
+    rw (search-step tabled d k w x xs)
+    (by-cases (fits tabled d x) (λ s. rw s (omega arith)) (λ s. rw s (omega arith)))
+
+pub few-words : WordsFew
+unfolding searched
+few-words tabled d cards = omega (arith, few-from tabled d 1 0 cards)
+
+-- ---- the loop, at index k of n cards
+
+module _ (tabled : Bool) (d : List ℕ) (n : ℕ) (box : List ℕ) where
+  -- What is left to search from index k on, w words having been compared.
+  abbrev pub searchLeft : ℕ → ℕ → Found
+  searchLeft k w = searchFrom tabled d (k + 1) w (cardsIn (n - k) (drop (64 * k) box))
+
+  pub search-first : searchLeft 0 0 ≡ searched tabled d (cardsIn n box)
+  unfolding searched
+  search-first =
+      let e : n - 0 ≡ n = omega arith in
+      rw e
+
+  search-next : (k w : ℕ) → k < n
+      → searchLeft k w ≡ cond (fits tabled d (cardHere k box)) (record { board = k + 1; words = w + compared tabled d (cardHere k box) }) (searchLeft (k + 1) (w + compared tabled d (cardHere k box)))
+  search-next k w h = rw (card-step n k box h) (search-step tabled d (k + 1) w (cardHere k box) (cardsIn (n - (k + 1)) (drop (64 * (k + 1)) box)))
+
+  module _ {f : Bool} {v : ℕ} (k w : ℕ) (h : k < n) (ef : f ≡ fits tabled d (cardHere k box)) (ev : v ≡ compared tabled d (cardHere k box)) where
+    pub search-found : f ≡ true → record { board = k + 1; words = w + v } ≡ searchLeft k w
+    search-found t = rw (ev) (sym (search-next k w h ∙ rw (← ef, t)))
+
+    pub search-past : f ≡ false → searchLeft (k + 1) (w + v) ≡ searchLeft k w
+    search-past t = rw (ev) (sym (search-next k w h ∙ rw (← ef, t)))
+
+  pub search-stop : (k w : ℕ) → n ≤ k → record { board = 0; words = w } ≡ searchLeft k w
+  search-stop k w h =
+      let e : n - k ≡ 0 = omega arith in
+      rw e

@@ -1,6 +1,7 @@
--- What planning promises beyond its contracts, as statements; the file that proves each is named beside it, in crates/demands (SamePlan: in planning), where no edit
--- of planning pays for it. A card is one that the definitions read from its edition's text.
-use Prim.Native.Nat.{ℕ, suc, _+_, _-_, _*_, _/_, _≤_, _<_}
+-- What planning promises beyond its contracts, as statements; the file that proves each is named beside it, in crates/demands (SamePlan,
+-- FoundSame and WordsFew: in planning), where no edit of planning pays for it. A card is one that the definitions read from its edition's
+-- text.
+use Prim.Native.Nat.{ℕ, zero, suc, _+_, _-_, _*_, _/_, _≤_, _<_}
 use mathlib.Core.Path.{_≡_}
 use mathlib.Core.Logic.{_↔_}
 use mathlib.Core.Bool.{Bool, true, false}
@@ -20,8 +21,9 @@ use Rattle.planning.specs.declared.plan.Planning.the-variants.{Planned}
 use Rattle.planning.specs.declared.slips.Slip.{Slip}
 use Rattle.planning.specs.Cards.{handsOf, isWhole, hasTable, fits}
 use Rattle.planning.specs.States.{BoardPlan, firstWith, stateNumber, fromOf, stateAt}
+use Rattle.planning.specs.Searches.{compared, searched, oldSought, nearSought, twinSought, searchNumbers}
 use Rattle.planning.specs.Slips.{slipOf, slipsOf, slipNumbers, totalsOf, cardAt, behindAt, partOf, behindNumbers}
-use Rattle.planning.specs.Plans.{Boxes, oldReading, newReading, plansOf, IsPlanned, PartTold, BoardsTold}
+use Rattle.planning.specs.Plans.{Boxes, oldReading, newReading, plansOf, IsPlanned, PartTold, BoardsTold, SearchesTold}
 
 -- ---- boards and their deals
 
@@ -224,6 +226,51 @@ FirstMeans =
     → ((firstWith tabled d cards ≡ 0) ↔ None (λ x. fits tabled d x ≡ true) cards)
     × ((k : ℕ) → (firstWith tabled d cards ≡ suc k) ↔ First (λ x. fits tabled d x ≡ true) cards (suc k))
 
+-- ---- searches
+
+-- The cards up to the board found, from 1; all of them where none is found.
+abbrev pub upTo : ℕ → List (List ℕ) → List (List ℕ)
+upTo zero cards = cards
+upTo (suc k) cards = take (suc k) cards
+
+-- The words compared on each of the cards, together.
+abbrev pub comparedOn : Bool → List ℕ → List (List ℕ) → ℕ
+comparedOn tabled d [] = 0
+comparedOn tabled d (x ∷ xs) = compared tabled d x + comparedOn tabled d xs
+
+-- THEOREM (planning/proofs/SearchLaws.antt). The search that passes over boards and leaves them at the first word that differs finds the first
+-- board that fits.
+abbrev pub FoundSame : Type 0
+FoundSame = (tabled : Bool) (d : List ℕ) (cards : List (List ℕ)) → searched tabled d cards .board ≡ firstWith tabled d cards
+
+-- THEOREM (demands/proofs/SearchesMean.antt). The words that it compares are those of every board up to the one found, or of all where none is
+-- found: none on a board that is passed over, else the equal ones from the front and the first that differs.
+abbrev pub WordsCompared : Type 0
+WordsCompared =
+    (tabled : Bool) (d : List ℕ) (cards : List (List ℕ)) → searched tabled d cards .words ≡ comparedOn tabled d (upTo (firstWith tabled d cards) cards)
+
+-- THEOREM (planning/proofs/SearchLaws.antt). At most 8 words a board.
+abbrev pub WordsFew : Type 0
+WordsFew = (tabled : Bool) (d : List ℕ) (cards : List (List ℕ)) → searched tabled d cards .words ≤ 8 * length cards
+
+-- THEOREM (demands/proofs/SearchesMean.antt). All 8 words of a board that fits are compared. (Of any other board of an edition at most 6:
+-- LeftBySix in demands/specs/Searches.antt.)
+abbrev pub FoundEight : Type 0
+FoundEight = (tabled : Bool) (d card : List ℕ) → length d ≡ 8 → fits tabled d card ≡ true → compared tabled d card ≡ 8
+
+-- Which searches are made for a board in the state s: that for old if it is whole and has no table, that for near if besides no old board has
+-- its deal and a table, that for twin if besides no new one has.
+pub record SearchesMade (olds news : List (List ℕ)) (card : List ℕ) (s : BoardState) : Type 0 where
+  pub old : (oldSought s ≡ true) ↔ Bare card
+  pub near : (nearSought s ≡ true) ↔ (Bare card × None (Tabled (handsOf card)) olds)
+  pub twin : (twinSought s ≡ true) ↔ (Bare card × None (Tabled (handsOf card)) olds × None (Tabled (handsOf card)) news)
+
+-- THEOREM (demands/proofs/SearchesMean.antt). So it is at every position of the new edition.
+abbrev pub SearchesMadeAt : Type 0
+SearchesMadeAt =
+    (c : Conventions) (old new : List ℕ) (p : ℕ) → 1 ≤ p → p ≤ length (cardsOf c new)
+    → SearchesMade (cardsOf c old) (cardsOf c new) (cardAt (cardsOf c new) p) (stateAt (plansOf c old new) p)
+
 -- ---- the record behind a board
 
 -- The record of the board at a position from 1: boards are in the order of the text's records.
@@ -284,17 +331,28 @@ TotalsTold =
 abbrev pub fiveAt : List (List ℕ) → List (List ℕ) → List BoardPlan → ℕ → List ℕ
 fiveAt olds news js p = stateNumber (stateAt js p) ∷ fromOf (stateAt js p) ∷ behindNumbers (behindAt olds news js p)
 
+-- Its state, its source board, and the words compared in its searches.
+abbrev pub searchesAt : List (List ℕ) → List (List ℕ) → List BoardPlan → ℕ → List ℕ
+searchesAt olds news js p = searchNumbers olds news (record { position = p; card = cardAt news p; state = stateAt js p })
+
 -- Five numbers a board, in board order, for each board that has five of the lent numbers; behind those of the last such board all are zero:
 -- behind all boards where each has its five, else in a tail too short for five.
-pub record Numbered (olds news : List (List ℕ)) (js : List BoardPlan) (lent : ℕ) (numbers : List ℕ) : Type 0 where
+pub record Numbered (five : ℕ → List ℕ) (boards lent : ℕ) (numbers : List ℕ) : Type 0 where
   pub as-many : length numbers ≡ lent
-  pub each : (k : ℕ) → k < length news → 5 * k + 5 ≤ lent → slipHere k numbers ≡ fiveAt olds news js (suc k)
-  pub rest-zero : length news ≤ lent / 5 → drop (5 * length news) numbers ≡ replicate (length numbers - 5 * length news) 0
-  pub tail-zero : lent / 5 ≤ length news → drop (5 * (lent / 5)) numbers ≡ replicate (length numbers - 5 * (lent / 5)) 0
+  pub each : (k : ℕ) → k < boards → 5 * k + 5 ≤ lent → slipHere k numbers ≡ five (suc k)
+  pub rest-zero : boards ≤ lent / 5 → drop (5 * boards) numbers ≡ replicate (length numbers - 5 * boards) 0
+  pub tail-zero : lent / 5 ≤ boards → drop (5 * (lent / 5)) numbers ≡ replicate (length numbers - 5 * (lent / 5)) 0
 
 -- THEOREM (demands/proofs/Numbered.antt). Both editions taken: the numbers of the boards are handed back, as many as fit.
 abbrev pub NumbersTold : Type 0
 NumbersTold =
     (c : Conventions) (old new : List ℕ) (boxes : Boxes) (numbers : List ℕ) (boxes′ : Boxes) (numbers′ : List ℕ) (m n : ℕ)
     → BoardsTold c old new boxes numbers boxes′ numbers′ (Both m n)
-    → Numbered (cardsOf c old) (cardsOf c new) (plansOf c old new) (length numbers) numbers′
+    → Numbered (fiveAt (cardsOf c old) (cardsOf c new) (plansOf c old new)) (length (cardsOf c new)) (length numbers) numbers′
+
+-- THEOREM (demands/proofs/Numbered.antt). So are those of their searches.
+abbrev pub SearchNumbersTold : Type 0
+SearchNumbersTold =
+    (c : Conventions) (old new : List ℕ) (boxes : Boxes) (numbers : List ℕ) (boxes′ : Boxes) (numbers′ : List ℕ) (m n words : ℕ)
+    → SearchesTold c old new boxes numbers boxes′ numbers′ (Both m n) words
+    → Numbered (searchesAt (cardsOf c old) (cardsOf c new) (plansOf c old new)) (length (cardsOf c new)) (length numbers) numbers′

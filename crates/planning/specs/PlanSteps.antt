@@ -1,15 +1,15 @@
--- What the inner functions of planning answer: a board of lent cards, totals board by board, and the end of planning.
+-- What the inner functions of planning answer: a board of lent cards, a board of a search, totals board by board, and the end of planning.
 use Prim.Native.Nat.{ℕ, _+_, _≤_, _/_, zero, suc}
 use mathlib.Core.Path.{_≡_}
-use mathlib.Core.Bool.{Bool, cond}
+use mathlib.Core.Bool.{Bool, cond, _&&_, _||_, not}
 use mathlib.Core.List.{List, [], _∷_}
 use lib.Dec.{eqb}
-use lib.ListN.{length, take, drop}
+use lib.ListN.{length, getD, take, drop}
 use Rattle.reader.specs.Store.{zeros}
 use Rattle.planning.specs.declared.state.BoardState.{BoardState}
 use Rattle.planning.specs.declared.plan.Totals.{Totals}
 use Rattle.planning.specs.declared.plan.Planning.{Planning}
-use Rattle.planning.specs.Cards.{cardHere}
+use Rattle.planning.specs.Cards.{hasTable, cardHere}
 use Rattle.planning.specs.States.{BoardPlan, stateOf, stateNumber}
 use Rattle.planning.specs.Plans.{Boxes, slipsAnswer, isPlanned}
 
@@ -21,6 +21,16 @@ cardsIn (suc n) box = take 64 box ∷ cardsIn n (drop 64 box)
 -- The board at index k of the lent cards of the new edition.
 abbrev pub planHere : List (List ℕ) → List (List ℕ) → ℕ → List ℕ → BoardPlan
 planHere olds news k box = record { position = k + 1; card = cardHere k box; state = stateOf olds news (cardsIn k box) (cardHere k box) }
+
+-- How many words of two lists are equal, from the front.
+abbrev pub equalFront : List ℕ → List ℕ → ℕ
+equalFront [] ys = 0
+equalFront (x ∷ xs) [] = 0
+equalFront (x ∷ xs) (y ∷ ys) = cond (eqb x y) (equalFront xs ys + 1) 0
+
+-- The card has a table, where one is sought, and its word 9 is 1, whether the deal is whole or not.
+unfoldable pub mayFit : Bool → List ℕ → Bool
+mayFit tabled card = (not tabled || hasTable card) && eqb (getD card 9 0) 1
 
 -- A count of the boards whose state has the number k, with one board more.
 abbrev pub tally : ℕ → BoardState → ℕ → ℕ

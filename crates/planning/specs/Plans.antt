@@ -27,6 +27,7 @@ use Rattle.planning.specs.declared.plan.Planning.{Planning}
 use Rattle.planning.specs.declared.plan.Planning.the-variants.{Planned}
 use Rattle.planning.specs.declared.plan.Planning.the-variants as planning
 use Rattle.planning.specs.States.{BoardPlan, boardPlans, stateAt}
+use Rattle.planning.specs.Searches.{searchesFrom, allWords}
 use Rattle.planning.specs.Slips.{slipsOf, totalsOf, behindAt, partOf, numbersFrom}
 
 -- ---- refusals: 1 to 3 of the old edition, then of the new, then 4 slips short (the boards to solve)
@@ -142,10 +143,22 @@ abbrev pub behindBy : Editions → Conventions → List ℕ → List ℕ → ℕ
 behindBy (Both m n) c old new p = behindAt (cardsOf c old) (cardsOf c new) (plansOf c old new) p
 behindBy (editions.Refused f) c old new p = Nothing
 
--- ls lent numbers afterwards: five a board, as many whole ones as fit, and zeros behind them; zeros after a refusal.
+-- ls lent numbers afterwards: fives, as many whole ones as fit, and zeros behind them; zeros after a refusal.
+abbrev pub fivesAfter : Editions → List (List ℕ) → ℕ → List ℕ
+fivesAfter (Both m n) fives ls = putAll 5 (replicate ls 0) 0 fives
+fivesAfter (editions.Refused f) fives ls = replicate ls 0
+
+-- Five a board: its state and the record behind it, or its searches.
 abbrev pub boardsAfter : Editions → Conventions → List ℕ → List ℕ → ℕ → List ℕ
-boardsAfter (Both m n) c old new ls = putAll 5 (replicate ls 0) 0 (numbersFrom (cardsOf c old) (cardsOf c new) (plansOf c old new))
-boardsAfter (editions.Refused f) c old new ls = replicate ls 0
+boardsAfter r c old new ls = fivesAfter r (numbersFrom (cardsOf c old) (cardsOf c new) (plansOf c old new)) ls
+
+abbrev pub searchesAfter : Editions → Conventions → List ℕ → List ℕ → ℕ → List ℕ
+searchesAfter r c old new ls = fivesAfter r (searchesFrom (cardsOf c old) (cardsOf c new) (plansOf c old new)) ls
+
+-- The words compared for all boards: 0 after a refusal.
+abbrev pub wordsBy : Editions → Conventions → List ℕ → List ℕ → ℕ
+wordsBy (Both m n) c old new = allWords (cardsOf c old) (cardsOf c new) (plansOf c old new)
+wordsBy (editions.Refused f) c old new = 0
 
 -- The contract of state_at: whether both editions were taken, and the state.
 pub record StateTold (c : Conventions) (old new : List ℕ) (boxes boxes′ : Boxes) (p : ℕ) (r : Editions) (s : BoardState) : Type 0 where
@@ -166,3 +179,9 @@ pub record PartTold (c : Conventions) (old new : List ℕ) (boxes boxes′ : Box
 pub record BoardsTold (c : Conventions) (old new : List ℕ) (boxes : Boxes) (numbers : List ℕ) (boxes′ : Boxes) (numbers′ : List ℕ) (r : Editions) : Type 0 where
   pub editions-read : BothRead c old new boxes boxes′ r
   pub numbers-after : numbers′ ≡ boardsAfter r c old new (length numbers)
+
+-- The contract of plan_searches: five numbers a board, and the words compared for all boards, whether their numbers fit or not.
+pub record SearchesTold (c : Conventions) (old new : List ℕ) (boxes : Boxes) (numbers : List ℕ) (boxes′ : Boxes) (numbers′ : List ℕ) (r : Editions) (words : ℕ) : Type 0 where
+  pub editions-read : BothRead c old new boxes boxes′ r
+  pub numbers-after : numbers′ ≡ searchesAfter r c old new (length numbers)
+  pub all-words : words ≡ wordsBy r c old new

@@ -5,7 +5,8 @@ pub mod cards; // the words of a card that planning reads
 pub mod editions; // both editions read
 pub mod numbers; // blocks of five numbers stored into lent slices
 pub mod plan; // totals and slips
-pub mod search; // the first board with a deal
+pub mod search; // the first board with a deal, and the words compared
+pub mod searches; // every board's searches, from one reading
 pub mod slips; // the plan with slips as structs
 pub mod state; // the state of a board
 pub mod state_at; // the state of a board, by position

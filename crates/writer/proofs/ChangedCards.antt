@@ -17,7 +17,7 @@ use Rattle.reader.proofs.EditionLaws.{card-blocks}
 use Rattle.planning.specs.Cards.{isWhole, hasTable, cardHere}
 use Rattle.planning.specs.PlanSteps.{cardsIn}
 use Rattle.planning.proofs.BoxLaws.{cards-split, cards-count, cards-front}
-use Rattle.planning.proofs.SearchLaws.{here-length, word-here}
+use Rattle.planning.proofs.CardWords.{here-length, word-here}
 use Rattle.writer.specs.GivenCards.{withCells, withKind, marked, givenCleared, changedAt, changedAll}
 use Rattle.writer.proofs.GiveCells.{given-length, flat-more}
 

@@ -13,7 +13,7 @@ use Rattle.reader.specs.EditionSteps.{FullCards, none, one}
 use Rattle.planning.specs.Cards.{cardDeal, isWhole, hasTable, cardHere}
 use Rattle.planning.specs.PlanSteps.{cardsIn}
 use Rattle.planning.specs.Slips.{cardFrom}
-use Rattle.planning.proofs.SearchLaws.{here-length}
+use Rattle.planning.proofs.CardWords.{here-length}
 use Rattle.writer.specs.Held.{cardWord, cardPart}
 use Rattle.writer.specs.Given.{answerAt, cellsOf}
 use Rattle.writer.specs.GivenCards.{withCells, cellsAt}

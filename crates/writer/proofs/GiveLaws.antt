@@ -20,7 +20,7 @@ use Rattle.planning.specs.States.{BoardPlan, boardPlans, stateOf}
 use Rattle.planning.specs.Slips.{countOf, totalsOf, cardFrom, cardAt}
 use Rattle.planning.proofs.BoxLaws.{cards-count, card-nth, cards-take, cards-drop}
 use Rattle.planning.proofs.BoardLaws.{plans-count}
-use Rattle.planning.proofs.SearchLaws.{here-length}
+use Rattle.planning.proofs.CardWords.{here-length}
 use Rattle.planning.proofs.StateLaws.{reach, state-reach}
 use Rattle.planning.proofs.PlanLaws.{count-few}
 use Rattle.planning.proofs.FoundLaws.{take-card}

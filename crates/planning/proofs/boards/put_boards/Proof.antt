@@ -2,19 +2,20 @@ use Prim.Native.Nat.{_-_}
 use native.Mathlib.Omega.{arith}
 use denote.Ref.{now}
 use Rattle.planning.specs.PlanSteps.{cardsIn}
+use Rattle.planning.specs.Slips.{boardNumbers}
 use Rattle.planning.proofs.PlanLaws.{Rows, rows-first, rows-next, rows-end}
 use borrow.Author.Needs.{needs}
 use Rattle.planning.proofs.boards.put_boards.Statement.{statement}
 use Rattle.planning.proofs.boards.put_boards.Tie as tie
 
 abbrev Inv-loop : tie.InvT-loop
-Inv-loop old-cards olds new-cards news numbers₀ k₀ numbers k = Rows (cardsIn olds old-cards) news new-cards numbers₀ k numbers
+Inv-loop old-cards olds new-cards news numbers₀ k₀ numbers k = Rows (boardNumbers (cardsIn olds old-cards) (cardsIn news new-cards)) (cardsIn olds old-cards) news new-cards numbers₀ k numbers
 
 abbrev μ-loop : tie.MeasureT-loop
 μ-loop old-cards olds new-cards news numbers₀ k₀ numbers k = news - k
 
 loop-holds : tie.Need-loop-holds Inv-loop μ-loop
-loop-holds c = rows-first (cardsIn (c .before .before .before .args .olds) (now (c .before .before .before .args .old-cards))) (c .before .before .before .args .news) (now (c .before .before .before .args .new-cards)) (now (c .before .before .before .args .numbers))
+loop-holds c = rows-first _ (cardsIn (c .before .before .before .args .olds) (now (c .before .before .before .args .old-cards))) (c .before .before .before .args .news) (now (c .before .before .before .args .new-cards)) (now (c .before .before .before .args .numbers))
 
 board-numbers-requires : tie.Need-board-numbers-requires Inv-loop μ-loop
 board-numbers-requires c κs = (c .before .before .before .before .before .before .pre .0, c .before .before .before .before .before .before .pre .1, c .before .loop-test .taken)

@@ -1,7 +1,7 @@
 use mathlib.Core.Path.{sym}
 use native.Mathlib.Omega.{arith}
 use denote.Ref.{now}
-use Rattle.planning.proofs.SearchLaws.{deal-words}
+use Rattle.planning.proofs.CardWords.{deal-words}
 use borrow.Author.Needs.{needs}
 use Rattle.planning.proofs.cards.deal_at.Statement.{statement}
 use Rattle.planning.proofs.cards.deal_at.Tie as tie

@@ -1,7 +1,7 @@
 use native.Mathlib.Omega.{arith}
 use denote.Ref.{now}
 use Rattle.planning.specs.Cards.{hasTable}
-use Rattle.planning.proofs.SearchLaws.{word-here}
+use Rattle.planning.proofs.CardWords.{word-here}
 use borrow.Author.Needs.{needs}
 use Rattle.planning.proofs.cards.has_table.Statement.{statement}
 use Rattle.planning.proofs.cards.has_table.Tie as tie

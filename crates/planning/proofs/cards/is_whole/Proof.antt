@@ -2,7 +2,7 @@ use native.Mathlib.Omega.{arith}
 use borrow.Author.Tests.{eq-eqb, ne-eqb}
 use denote.Ref.{now}
 use Rattle.planning.specs.Cards.{isWhole}
-use Rattle.planning.proofs.SearchLaws.{word-here}
+use Rattle.planning.proofs.CardWords.{word-here}
 use borrow.Author.Needs.{needs}
 use Rattle.planning.proofs.cards.is_whole.Statement.{statement}
 use Rattle.planning.proofs.cards.is_whole.Tie as tie

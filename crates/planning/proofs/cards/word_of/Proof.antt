@@ -1,7 +1,7 @@
 use mathlib.Core.Path.{sym}
 use native.Mathlib.Omega.{arith}
 use denote.Ref.{now}
-use Rattle.planning.proofs.SearchLaws.{word-here}
+use Rattle.planning.proofs.CardWords.{word-here}
 use borrow.Author.Needs.{needs}
 use Rattle.planning.proofs.cards.word_of.Statement.{statement}
 use Rattle.planning.proofs.cards.word_of.Tie as tie
