@@ -8,8 +8,8 @@
  *   - writing, an edition read and written again with every comment beside its
  *     tag, or at its board's end: golavimes_write;
  *   - planning, what is left to be solved in a new edition when an old one is
- *     at hand: golavimes_plan, golavimes_boards, golavimes_state,
- *     golavimes_record_behind;
+ *     at hand: golavimes_plan, golavimes_boards, golavimes_searches,
+ *     golavimes_state, golavimes_record_behind;
  *   - finishing, the new edition written with a table for every whole deal:
  *     golavimes_finish;
  *   - LIN, a collection saved in that format converted to a page of PBN:
@@ -34,16 +34,16 @@
  *     is read or written there, so any aligned pointer that is not null will do.
  *   - The length of a text, a value, a page or the answers to slips is a number
  *     of bytes; that of cards or entries is a number of uint32_t words, not of
- *     bytes and not of cards or entries; that of slips or boards is a number of
- *     uint64_t numbers, not of bytes and not of slips or boards. That many are
- *     there. A table has exactly 20 bytes, an answer array 3 to 10 numbers as
- *     declared.
- *   - An answer array, slips and boards are aligned as uint64_t is; cards and
- *     entries as uint32_t is, also where their length is 0. Bytes, the answers to
- *     slips too, need no alignment.
+ *     bytes and not of cards or entries; that of slips, boards or searches is a
+ *     number of uint64_t numbers, not of bytes and not of slips or boards. That
+ *     many are there. A table has exactly 20 bytes, an answer array 3 to 10
+ *     numbers as declared.
+ *   - An answer array, slips, boards and searches are aligned as uint64_t is;
+ *     cards and entries as uint32_t is, also where their length is 0. Bytes, the
+ *     answers to slips too, need no alignment.
  *   - What is lent to be written (page, table, cards, entries, slips, boards,
- *     answer) overlaps nothing else that is lent to the same call, so the boxes
- *     of the old and of the new edition are apart. The two texts and the answers
+ *     searches, answer) overlaps nothing else that is lent to the same call, so
+ *     the boxes of the old and of the new edition are apart. The two texts and the answers
  *     to slips are only read and may be the same memory. No other thread reads or
  *     writes what is lent to be written, or writes what is lent to be read, until
  *     the call returns.
@@ -109,13 +109,14 @@ enum {
     GOLAVIMES_TEXT_LIMIT = 16777215
 };
 
-/* The uint32_t words of a card and of an entry, the uint64_t numbers of a slip
- * and of a board in golavimes_boards. */
+/* The uint32_t words of a card and of an entry, the uint64_t numbers of a slip,
+ * of a board in golavimes_boards and of one in golavimes_searches. */
 enum {
     GOLAVIMES_CARD_WORDS = 64,
     GOLAVIMES_ENTRY_WORDS = 4,
     GOLAVIMES_SLIP_NUMBERS = 5,
-    GOLAVIMES_BOARD_NUMBERS = 5
+    GOLAVIMES_BOARD_NUMBERS = 5,
+    GOLAVIMES_SEARCH_NUMBERS = 5
 };
 
 /* The words of a card, from 0. Seats N, E, S, W are 0 to 3, none is 4. Suits C,
@@ -372,8 +373,8 @@ uint64_t golavimes_write(const uint8_t *text, size_t text_length, uint32_t *card
  *   4        golavimes_plan alone: fewer slips are lent than boards have the
  *            state solve; answer[1] is 0 and answer[2] is solve
  * After a refusal every word of the four boxes, every slip and every number of
- * boards is 0, also those of the edition that the refusal is not about. After
- * success what is not used is 0.
+ * boards or searches is 0, also those of the edition that the refusal is not
+ * about. After success what is not used is 0.
  *
  * How much to lend. The bounds of golavimes_read hold for each edition's boxes,
  * and slips are never more than the new edition's boards. A host that does not
@@ -381,14 +382,16 @@ uint64_t golavimes_write(const uint8_t *text, size_t text_length, uint32_t *card
  * 4 lends the carried number to what the refusal is about, 64 words a card, 4 an
  * entry, 5 numbers a slip. What was lent so is never too little again, so the
  * sixth call at the latest is taken (the fifth where no slips are lent), unless
- * a text is refused with 1. golavimes_boards needs 5 numbers a board: with
- * boards_length 0 it tells the boards in answer[3].
+ * a text is refused with 1. golavimes_boards and golavimes_searches need 5
+ * numbers a board: with length 0 they tell the boards in answer[3].
  *
  * How long it takes. Each text is read once a call. Each board without a table
  * is then sought among the boards of both editions, so the time of
- * golavimes_plan and golavimes_boards grows with the square of the boards: 3000
- * boards without tables, all deals different, take hundredths of a second, 10000
- * took 1 s, 30000 took 10 s and 100000 took 122 s.
+ * golavimes_plan, golavimes_boards and golavimes_searches grows with the square
+ * of the boards: 3000 boards without tables, all deals different, take
+ * hundredths of a second, 10000 took 1 s, 30000 took 10 s and 100000 took 122 s
+ * to plan. golavimes_searches makes each search twice and counts cards, and takes
+ * two to three times as long.
  */
 
 /* The editions, in answer[1] and for the record behind a board. */
@@ -448,6 +451,37 @@ uint64_t golavimes_boards(const uint8_t *old_text, size_t old_text_length,
                           uint32_t *new_cards, size_t new_cards_length,
                           uint32_t *new_entries, size_t new_entries_length,
                           uint64_t *boards, size_t boards_length, uint64_t answer[4]);
+
+/*
+ * What the searches for each board's deal compare, for traces of a plan.
+ *
+ * The deal of a board without a table is sought up to three times: for old among
+ * all boards of the old edition and for near among all boards of the new one,
+ * each time with a table; then for twin among the new boards before it. Each
+ * search is made where those before it found no board. It goes from the first board on,
+ * passes over a board without a deal or without a table that it seeks, compares
+ * words 10 to 17 of any other in order and leaves it at the first that differs;
+ * where all eight are equal the board is found and the search ends. A board that
+ * is passed over counts 0 words, one that is found 8, any other its equal ones
+ * from the front and the one that differs.
+ *
+ * answer[3] is the boards of the new edition, answer[4] the words compared for
+ * all of them. searches_length is a number of uint64_t, so that 5 * b lend b
+ * boards. Board k, from 0, is the 5 numbers from searches[5 * k] on: its state
+ * and its `from`, as golavimes_boards gives them, and the words compared in the
+ * searches for old, for near and for twin, 0 for one that is not made.
+ *
+ * Too few numbers are no refusal: as many boards are written as fit whole, the
+ * first ones, and zeros after them; answer[4] counts all boards all the same.
+ */
+uint64_t golavimes_searches(const uint8_t *old_text, size_t old_text_length,
+                            const uint8_t *new_text, size_t new_text_length,
+                            uint32_t *old_cards, size_t old_cards_length,
+                            uint32_t *old_entries, size_t old_entries_length,
+                            uint32_t *new_cards, size_t new_cards_length,
+                            uint32_t *new_entries, size_t new_entries_length,
+                            uint64_t *searches, size_t searches_length,
+                            uint64_t answer[5]);
 
 /*
  * One board of the new edition by its position, from 1. answer[3] is its state,

@@ -25,9 +25,9 @@ use Rattle.writer.specs.Pages.{writtenText}
 use Rattle.writer.specs.Writings.{writtenBy, writingOf, isWritten}
 use Rattle.writer.specs.Given.{finishedText}
 use Rattle.writer.specs.Finishings.{finishingOf, isFinished}
-use Rattle.golavimes.specs.Answers.{readingNumbers, writingNumbers, editionsHead, WritingOut, FinishOut}
+use Rattle.golavimes.specs.Answers.{readingNumbers, writingNumbers, editionsHead, headThen, WritingOut, FinishOut}
 use Rattle.demands.specs.Demand1.{solveIn}
-use Rattle.demands.specs.Boards.{BothBack, by-plan, by-state, by-record, by-boards, by-finish, HandedBack, by-read, by-write, as-old, as-new}
+use Rattle.demands.specs.Boards.{BothBack, by-plan, by-state, by-record, by-boards, by-searches, by-finish, HandedBack, by-read, by-write, as-old, as-new}
 use Rattle.demands.proofs.Listed.{told}
 use Rattle.demands.proofs.Listing.{read-number, promised}
 use Rattle.demands.proofs.FinishRefusing.{is-done}
@@ -107,6 +107,13 @@ head-zero (Both m n) z = refl
 head-zero (editions.Refused (Old f)) z = absurd (read-number f (sym z))
 head-zero (editions.Refused (New f)) z = absurd (read-number f (sym z))
 
+-- An answer that begins with the head of what reading both came to, and with 0.
+headed-held : (c : Conventions) (old new : List ℕ) (boxes boxes′ : Boxes) (answer′ values : List ℕ) → answer′ ≡ headThen (editionsHead (editionsOf c old new boxes)) values
+    → BoxesAfter c (areBoth (editionsOf c old new boxes)) old new boxes boxes′ → 0 ≡ getD answer′ 0 0 → HeldBoth c old new boxes′
+headed-held c old new boxes boxes′ answer′ values told after z =
+    let t = head-zero (editionsOf c old new boxes) (z ∙ ap (λ (l : List ℕ). getD l 0 0) told) in
+    boxes-held c old new boxes boxes′ (areBoth (editionsOf c old new boxes)) t t after
+
 finish-held : (c : Conventions) (old new : List ℕ) (boxes : Boxes) (answers page : List ℕ) (boxes′ : Boxes) (page′ answer′ : List ℕ)
     → FinishOut c old new boxes answers page boxes′ page′ answer′ 0 → HeldBoth c old new boxes′
 unfolding finishingOf
@@ -122,15 +129,14 @@ both-handed c old new boxes″ (by-plan {boxes = boxes} {slips = slips} {boxes�
     let p = promised c old new boxes slips boxes′ slips′ answer′ o in
     let t = told c old new boxes slips boxes′ slips′ (p .totals) (p .planned) .taken in
     boxes-held c old new boxes boxes′ true t refl (p .planned .boxes-after)
-both-handed c old new boxes″ (by-state {boxes = boxes} {boxes′ = boxes′} o) =
-    let t = head-zero (editionsOf c old new boxes) (o .returned ∙ ap (λ (l : List ℕ). getD l 0 0) (o .told)) in
-    boxes-held c old new boxes boxes′ (areBoth (editionsOf c old new boxes)) t t (o .boxes-after)
-both-handed c old new boxes″ (by-record {boxes = boxes} {boxes′ = boxes′} o) =
-    let t = head-zero (editionsOf c old new boxes) (o .returned ∙ ap (λ (l : List ℕ). getD l 0 0) (o .told)) in
-    boxes-held c old new boxes boxes′ (areBoth (editionsOf c old new boxes)) t t (o .boxes-after)
-both-handed c old new boxes″ (by-boards {boxes = boxes} {boxes′ = boxes′} o) =
-    let t = head-zero (editionsOf c old new boxes) (o .returned ∙ ap (λ (l : List ℕ). getD l 0 0) (o .told)) in
-    boxes-held c old new boxes boxes′ (areBoth (editionsOf c old new boxes)) t t (o .boxes-after)
+both-handed c old new boxes″ (by-state {boxes = boxes} {boxes′ = boxes′} {answer′ = answer′} o) =
+    headed-held c old new boxes boxes′ answer′ _ (o .told) (o .boxes-after) (o .returned)
+both-handed c old new boxes″ (by-record {boxes = boxes} {boxes′ = boxes′} {answer′ = answer′} o) =
+    headed-held c old new boxes boxes′ answer′ _ (o .told) (o .boxes-after) (o .returned)
+both-handed c old new boxes″ (by-boards {boxes = boxes} {boxes′ = boxes′} {answer′ = answer′} o) =
+    headed-held c old new boxes boxes′ answer′ _ (o .told) (o .boxes-after) (o .returned)
+both-handed c old new boxes″ (by-searches {boxes = boxes} {boxes′ = boxes′} {answer′ = answer′} o) =
+    headed-held c old new boxes boxes′ answer′ _ (o .told) (o .boxes-after) (o .returned)
 both-handed c old new boxes″ (by-finish {boxes} {answers} {page} {boxes′} {page′} {answer′} o) =
     finish-held c old new boxes answers page boxes′ page′ answer′ o
 

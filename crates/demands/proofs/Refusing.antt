@@ -14,6 +14,7 @@ use Rattle.reader.specs.declared.edition.Reading.{Reading}
 use Rattle.reader.specs.declared.edition.Reading.the-variants.{Taken}
 use Rattle.reader.specs.declared.edition.Reading.the-variants as reading
 use Rattle.reader.specs.Editions.{readNumber, readCarries, isTaken, readingOf, cardsOf, entriesOf}
+use Rattle.planning.specs.declared.state.BoardState.{BoardState}
 use Rattle.planning.specs.declared.editions.EditionsRefusal.{EditionsRefusal}
 use Rattle.planning.specs.declared.editions.EditionsRefusal.the-variants.{Old, New}
 use Rattle.planning.specs.declared.editions.Editions.{Editions}
@@ -22,11 +23,12 @@ use Rattle.planning.specs.declared.editions.Editions.the-variants as editions
 use Rattle.planning.specs.declared.plan.Planning.{Planning}
 use Rattle.planning.specs.declared.plan.Planning.the-variants.{Planned}
 use Rattle.planning.specs.declared.plan.Planning.the-variants as planning
-use Rattle.planning.specs.States.{BoardPlan}
-use Rattle.planning.specs.Slips.{totalsOf}
-use Rattle.planning.specs.Plans.{Boxes, editionsNumber, editionsCarries, editionRefused, editionsOf, areBoth, planningOf, isPlanned, plansOf, stateBy, behindBy, boardsAfter, BoxesAfter}
-use Rattle.golavimes.specs.Answers.{readingNumbers, editionsHead, headThen, planNumbers, stateNumbers, recordNumbers, boardsNumbers}
-use Rattle.demands.specs.Demand1.{Refusal, refusal, Begins, GivenFrom, FirstThatHolds, Overlong, BoxFull, ListFull, ofEdition, ofEditions, solveIn, SlipsShort, BoxesZero, NoValues, ReadRefuses, PlanRefuses, StateRefuses, BehindRefuses, BoardsRefuse}
+use Rattle.planning.specs.States.{stateNumber, fromOf}
+use Rattle.planning.specs.Searches.{searchesFrom}
+use Rattle.planning.specs.Slips.{totalsOf, numbersFrom}
+use Rattle.planning.specs.Plans.{Boxes, editionsNumber, editionsCarries, editionRefused, editionsOf, areBoth, planningOf, isPlanned, plansOf, stateBy, behindBy, fivesAfter, wordsBy, BoxesAfter}
+use Rattle.golavimes.specs.Answers.{readingNumbers, editionsHead, headThen, planNumbers, partNumbers, newBoards}
+use Rattle.demands.specs.Demand1.{Refusal, refusal, Begins, GivenFrom, FirstThatHolds, Overlong, BoxFull, ListFull, ofEdition, ofEditions, solveIn, SlipsShort, BoxesZero, NoValues, ReadRefuses, PlanRefuses, PositionRefusals, StateRefuses, BehindRefuses, NumbersRefusals, BoardsRefuse, SearchesRefuse}
 
 -- ---- the first whose condition holds
 
@@ -228,58 +230,57 @@ plan-refuses c old new boxes slips boxes′ slips′ answer′ r o =
 
 -- ---- a position, and all boards
 
--- Both editions, where the answer does not begin with 0.
-state-not : (e : Editions) (js : List BoardPlan) (p : ℕ) → (editionsHead e .refusal ≡ 0 → ⊥) → (areBoth e ≡ false) × NoValues 2 (stateNumbers e (stateBy e js p))
-state-not (Both m n) js p h = absurd (h refl)
-state-not (editions.Refused f) js p h = (refl, refl)
+-- What holds of every refusal holds of what reading both came to, where the answer does not begin with 0.
+refused-has : (P : Editions → Type 0) → ((f : EditionsRefusal) → P (editions.Refused f)) → (e : Editions) → (editionsHead e .refusal ≡ 0 → ⊥) → P e
+refused-has P h (Both m n) z = absurd (z refl)
+refused-has P h (editions.Refused f) z = h f
+
+-- An answer of the head and so many values, which are zero after a refusal.
+module _ (values : ℕ) (of : Editions → List ℕ) (none : (f : EditionsRefusal) → of (editions.Refused f) ≡ replicate values 0) (c : Conventions) (old new : List ℕ)
+    (boxes boxes′ : Boxes) (answer′ : List ℕ) (r : ℕ) (told : answer′ ≡ headThen (editionsHead (editionsOf c old new boxes)) (of (editionsOf c old new boxes)))
+    (after : BoxesAfter c (areBoth (editionsOf c old new boxes)) old new boxes boxes′) (returned : r ≡ getD answer′ 0 0) where
+  not-zero : (r ≡ 0 → ⊥) → editionsHead (editionsOf c old new boxes) .refusal ≡ 0 → ⊥
+  not-zero h z = h (returned ∙ ap (λ (l : List ℕ). getD l 0 0) told ∙ z)
+
+  position-refuses : PositionRefusals values c old new boxes boxes′ answer′ r
+  position-refuses =
+      let q = editionsOf c old new boxes in
+      record {
+        refused = first-that-holds (ofEditions c old new boxes) answer′ refl (headed-met c old new boxes answer′ (of q) told);
+        returned = returned;
+        boxes-zero = λ h. boxes-zero c (areBoth q) old new boxes boxes′ (refused-has (λ e. areBoth e ≡ false) (λ f. refl) q (not-zero h)) after;
+        no-values = λ h. rw told (refused-has (λ e. of e ≡ replicate values 0) none q (not-zero h));
+      }
+
+  -- With fives of numbers besides.
+  numbers-refuse : (fives : List (List ℕ)) (numbers numbers′ : List ℕ) → numbers′ ≡ fivesAfter (editionsOf c old new boxes) fives (length numbers)
+      → NumbersRefusals values c old new boxes numbers boxes′ numbers′ answer′ r
+  numbers-refuse fives numbers numbers′ e =
+      let n = length numbers in
+      let p = position-refuses in
+      record {
+        refused = p .refused;
+        returned = p .returned;
+        boxes-zero = p .boxes-zero;
+        numbers-zero = λ h. e ∙ refused-has (λ a. fivesAfter a fives n ≡ replicate n 0) (λ f. refl) (editionsOf c old new boxes) (not-zero h);
+        no-values = p .no-values;
+      }
 
 pub state-refuses : StateRefuses
 state-refuses c old new boxes boxes′ p answer′ r o =
-    let q = editionsOf c old new boxes in
-    let js = plansOf c old new in
-    let refused : (r ≡ 0 → ⊥) → (areBoth q ≡ false) × NoValues 2 (stateNumbers q (stateBy q js p)) =
-    λ h. state-not q js p (λ z. h (o .returned ∙ ap (λ (l : List ℕ). getD l 0 0) (o .told) ∙ z)) in
-    record {
-      refused = first-that-holds (ofEditions c old new boxes) answer′ refl (headed-met c old new boxes answer′ _ (o .told));
-      returned = o .returned;
-      boxes-zero = λ h. boxes-zero c (areBoth q) old new boxes boxes′ (refused h .0) (o .boxes-after);
-      no-values = λ h. rw (o .told) (refused h .1);
-    }
-
-behind-not : (e : Editions) (c : Conventions) (old new : List ℕ) (p : ℕ) → (editionsHead e .refusal ≡ 0 → ⊥) → (areBoth e ≡ false) × NoValues 3 (recordNumbers e (behindBy e c old new p))
-behind-not (Both m n) c old new p h = absurd (h refl)
-behind-not (editions.Refused f) c old new p h = (refl, refl)
+    let s : Editions → BoardState = λ e. stateBy e (plansOf c old new) p in
+    position-refuses 2 (λ e. stateNumber (s e) ∷ fromOf (s e) ∷ []) (λ f. refl) c old new boxes boxes′ answer′ r (o .told) (o .boxes-after) (o .returned)
 
 pub behind-refuses : BehindRefuses
 behind-refuses c old new boxes boxes′ p answer′ r o =
-    let q = editionsOf c old new boxes in
-    let refused : (r ≡ 0 → ⊥) → (areBoth q ≡ false) × NoValues 3 (recordNumbers q (behindBy q c old new p)) =
-    λ h. behind-not q c old new p (λ z. h (o .returned ∙ ap (λ (l : List ℕ). getD l 0 0) (o .told) ∙ z)) in
-    record {
-      refused = first-that-holds (ofEditions c old new boxes) answer′ refl (headed-met c old new boxes answer′ _ (o .told));
-      returned = o .returned;
-      boxes-zero = λ h. boxes-zero c (areBoth q) old new boxes boxes′ (refused h .0) (o .boxes-after);
-      no-values = λ h. rw (o .told) (refused h .1);
-    }
-
-record AllZero (e : Editions) (c : Conventions) (old new : List ℕ) (n : ℕ) : Type 0 where
-  not-both : areBoth e ≡ false
-  no-numbers : boardsAfter e c old new n ≡ replicate n 0
-  no-value : NoValues 1 (boardsNumbers e)
-
-boards-not : (e : Editions) (c : Conventions) (old new : List ℕ) (n : ℕ) → (editionsHead e .refusal ≡ 0 → ⊥) → AllZero e c old new n
-boards-not (Both m k) c old new n h = absurd (h refl)
-boards-not (editions.Refused f) c old new n h = record { not-both = refl; no-numbers = refl; no-value = refl }
+    position-refuses 3 (λ e. partNumbers (behindBy e c old new p)) (λ f. refl) c old new boxes boxes′ answer′ r (o .told) (o .boxes-after) (o .returned)
 
 pub boards-refuse : BoardsRefuse
 boards-refuse c old new boxes numbers boxes′ numbers′ answer′ r o =
-    let q = editionsOf c old new boxes in
-    let refused : (r ≡ 0 → ⊥) → AllZero q c old new (length numbers) =
-    λ h. boards-not q c old new (length numbers) (λ z. h (o .returned ∙ ap (λ (l : List ℕ). getD l 0 0) (o .told) ∙ z)) in
-    record {
-      refused = first-that-holds (ofEditions c old new boxes) answer′ refl (headed-met c old new boxes answer′ _ (o .told));
-      returned = o .returned;
-      boxes-zero = λ h. boxes-zero c (areBoth q) old new boxes boxes′ (refused h .not-both) (o .boxes-after);
-      numbers-zero = λ h. o .numbers-after ∙ refused h .no-numbers;
-      no-values = λ h. rw (o .told) (refused h .no-value);
-    }
+    numbers-refuse 1 (λ e. newBoards e ∷ []) (λ f. refl) c old new boxes boxes′ answer′ r (o .told) (o .boxes-after) (o .returned)
+    (numbersFrom (cardsOf c old) (cardsOf c new) (plansOf c old new)) numbers numbers′ (o .numbers-after)
+
+pub searches-refuse : SearchesRefuse
+searches-refuse c old new boxes numbers boxes′ numbers′ answer′ r o =
+    numbers-refuse 2 (λ e. newBoards e ∷ wordsBy e c old new ∷ []) (λ f. refl) c old new boxes boxes′ answer′ r (o .told) (o .boxes-after) (o .returned)
+    (searchesFrom (cardsOf c old) (cardsOf c new) (plansOf c old new)) numbers numbers′ (o .numbers-after)

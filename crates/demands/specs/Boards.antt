@@ -8,12 +8,12 @@ use lib.ListN.{getD, take, drop}
 use Rattle.tables.specs.declared.letters.Conventions.{Conventions}
 use Rattle.planning.specs.Cards.{cardHere}
 use Rattle.planning.specs.Plans.{Boxes}
-use Rattle.golavimes.specs.Answers.{EditionOut, WritingOut, PlanOut, StateOut, BehindOut, BoardsOut, FinishOut}
+use Rattle.golavimes.specs.Answers.{EditionOut, WritingOut, PlanOut, StateOut, BehindOut, BoardsOut, SearchesOut, FinishOut}
 
 -- ---- an edition that was read without refusal
 
--- The words lent for two editions, once golavimes_plan, golavimes_state, golavimes_record_behind, golavimes_boards or golavimes_finish has
--- read both and returned 0.
+-- The words lent for two editions, once golavimes_plan, golavimes_state, golavimes_record_behind, golavimes_boards, golavimes_searches or
+-- golavimes_finish has read both and returned 0.
 pub data BothBack (c : Conventions) (old new : List ℕ) : Boxes → Type 0 where
   by-plan : {boxes : Boxes} {slips : List ℕ} {boxes′ : Boxes} {slips′ answer′ : List ℕ}
       → PlanOut c old new boxes slips boxes′ slips′ answer′ 0 → BothBack c old new boxes′
@@ -21,6 +21,8 @@ pub data BothBack (c : Conventions) (old new : List ℕ) : Boxes → Type 0 wher
   by-record : {boxes boxes′ : Boxes} {p : ℕ} {answer′ : List ℕ} → BehindOut c old new boxes boxes′ p answer′ 0 → BothBack c old new boxes′
   by-boards : {boxes : Boxes} {numbers : List ℕ} {boxes′ : Boxes} {numbers′ answer′ : List ℕ}
       → BoardsOut c old new boxes numbers boxes′ numbers′ answer′ 0 → BothBack c old new boxes′
+  by-searches : {boxes : Boxes} {numbers : List ℕ} {boxes′ : Boxes} {numbers′ answer′ : List ℕ}
+      → SearchesOut c old new boxes numbers boxes′ numbers′ answer′ 0 → BothBack c old new boxes′
   by-finish : {boxes : Boxes} {answers page : List ℕ} {boxes′ : Boxes} {page′ answer′ : List ℕ}
       → FinishOut c old new boxes answers page boxes′ page′ answer′ 0 → BothBack c old new boxes′
 

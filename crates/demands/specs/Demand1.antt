@@ -31,7 +31,7 @@ use Rattle.writer.specs.Pages.{writtenText}
 use Rattle.writer.specs.Given.{finishedText}
 use Rattle.lin.specs.Dealing.{Dealing, allCards}
 use Rattle.lin.specs.LinBoards.{LinBoard, linBoards, linText}
-use Rattle.golavimes.specs.Answers.{WroteOut, ReadOut, EditionOut, WritingOut, PlanOut, StateOut, BehindOut, BoardsOut, FinishOut, LinOut}
+use Rattle.golavimes.specs.Answers.{WroteOut, ReadOut, EditionOut, WritingOut, PlanOut, StateOut, BehindOut, BoardsOut, SearchesOut, FinishOut, LinOut}
 
 -- ---- refusals, the first whose condition holds
 
@@ -354,19 +354,25 @@ BehindRefuses =
     → BehindOut c old new boxes boxes′ p answer′ r
     → PositionRefusals 3 c old new boxes boxes′ answer′ r
 
--- THEOREM. golavimes_boards: the same, however few numbers are lent, and these are zero too.
-pub record BoardsRefusals (c : Conventions) (old new : List ℕ) (boxes : Boxes) (numbers : List ℕ) (boxes′ : Boxes) (numbers′ answer′ : List ℕ) (r : ℕ) : Type 0 where
+-- THEOREM. golavimes_boards and golavimes_searches: the same, however few numbers are lent, and these are zero too.
+pub record NumbersRefusals (values : ℕ) (c : Conventions) (old new : List ℕ) (boxes : Boxes) (numbers : List ℕ) (boxes′ : Boxes) (numbers′ answer′ : List ℕ) (r : ℕ) : Type 0 where
   pub refused : FirstThatHolds (ofEditions c old new boxes) answer′
   pub returned : r ≡ getD answer′ 0 0
   pub boxes-zero : (r ≡ 0 → ⊥) → BoxesZero boxes boxes′
   pub numbers-zero : (r ≡ 0 → ⊥) → numbers′ ≡ zeros numbers
-  pub no-values : (r ≡ 0 → ⊥) → NoValues 1 answer′
+  pub no-values : (r ≡ 0 → ⊥) → NoValues values answer′
 
 abbrev pub BoardsRefuse : Type 0
 BoardsRefuse =
     (c : Conventions) (old new : List ℕ) (boxes : Boxes) (numbers : List ℕ) (boxes′ : Boxes) (numbers′ answer′ : List ℕ) (r : ℕ)
     → BoardsOut c old new boxes numbers boxes′ numbers′ answer′ r
-    → BoardsRefusals c old new boxes numbers boxes′ numbers′ answer′ r
+    → NumbersRefusals 1 c old new boxes numbers boxes′ numbers′ answer′ r
+
+abbrev pub SearchesRefuse : Type 0
+SearchesRefuse =
+    (c : Conventions) (old new : List ℕ) (boxes : Boxes) (numbers : List ℕ) (boxes′ : Boxes) (numbers′ answer′ : List ℕ) (r : ℕ)
+    → SearchesOut c old new boxes numbers boxes′ numbers′ answer′ r
+    → NumbersRefusals 2 c old new boxes numbers boxes′ numbers′ answer′ r
 
 -- THEOREM. golavimes_finish: 1, 2, 3 of the old edition, then of the new, then 5, carrying the boards to solve, 6, carrying the index of the
 -- first byte above 13, and 7, carrying the bytes needed.

@@ -16,12 +16,12 @@ use Rattle.planning.specs.declared.behind.Behind.{Behind}
 use Rattle.planning.specs.declared.editions.Editions.{Editions}
 use Rattle.planning.specs.declared.plan.Planning.{Planning}
 use Rattle.planning.specs.Slips.{slipsOf}
-use Rattle.planning.specs.Plans.{Boxes, editionsOf, areBoth, isPlanned, plansOf, stateBy, behindBy, boardsAfter, BoxesAfter, BothRead, IsPlanned, StateTold, BehindTold, BoardsTold}
-use Rattle.golavimes.specs.Answers.{writtenNumbers, decodedNumbers, readingNumbers, writingNumbers, convertedNumbers, finishingNumbers, planNumbers, stateNumbers, recordNumbers, boardsNumbers, WroteOut, ReadOut, EditionOut, WritingOut, LinOut, PlanOut, StateOut, BehindOut, BoardsOut, FinishOut}
+use Rattle.planning.specs.Plans.{Boxes, editionsOf, areBoth, isPlanned, plansOf, stateBy, behindBy, boardsAfter, searchesAfter, wordsBy, BoxesAfter, BothRead, IsPlanned, StateTold, BehindTold, BoardsTold, SearchesTold}
+use Rattle.golavimes.specs.Answers.{writtenNumbers, decodedNumbers, readingNumbers, writingNumbers, convertedNumbers, finishingNumbers, planNumbers, stateNumbers, recordNumbers, boardsNumbers, searchesNumbers, WroteOut, ReadOut, EditionOut, WritingOut, LinOut, PlanOut, StateOut, BehindOut, BoardsOut, SearchesOut, FinishOut}
 use Rattle.writer.specs.declared.write.Writing.{Writing}
-use Rattle.writer.specs.Writings.{writingOf, IsWritten}
+use Rattle.writer.specs.Writings.{IsWritten}
 use Rattle.lin.specs.declared.convert.Converted.{Converted}
-use Rattle.lin.specs.Conversions.{convertedOf, IsConverted}
+use Rattle.lin.specs.Conversions.{IsConverted}
 use Rattle.writer.specs.declared.finish.Finishing.{Finishing}
 use Rattle.writer.specs.Finishings.{IsFinished}
 
@@ -88,6 +88,17 @@ boards-out {c} {old} {new} {boxes} {numbers} a e =
       told = e ∙ ap boardsNumbers (a .editions-read .answer);
       boxes-after = boxes-told (a .editions-read);
       numbers-after = a .numbers-after ∙ ap (λ (x : Editions). boardsAfter x c old new (length numbers)) (a .editions-read .answer);
+      returned = refl;
+    }
+
+pub searches-out : {c : Conventions} {old new : List ℕ} {boxes : Boxes} {numbers : List ℕ} {boxes′ : Boxes} {numbers′ answer : List ℕ} {r : Editions} {words : ℕ}
+    → SearchesTold c old new boxes numbers boxes′ numbers′ r words → answer ≡ searchesNumbers r words
+    → SearchesOut c old new boxes numbers boxes′ numbers′ answer (getD answer 0 0)
+searches-out {c} {old} {new} {boxes} {numbers} {r = r} a e =
+    record {
+      told = e ∙ (ap (searchesNumbers r) (a .all-words) ∙ ap (λ (x : Editions). searchesNumbers x (wordsBy x c old new)) (a .editions-read .answer));
+      boxes-after = boxes-told (a .editions-read);
+      numbers-after = a .numbers-after ∙ ap (λ (x : Editions). searchesAfter x c old new (length numbers)) (a .editions-read .answer);
       returned = refl;
     }
 

@@ -32,7 +32,7 @@ use Rattle.planning.specs.declared.plan.Planning.the-variants.{Planned}
 use Rattle.planning.specs.declared.plan.Planning.the-variants as planning
 use Rattle.planning.specs.States.{stateNumber, fromOf}
 use Rattle.planning.specs.Slips.{slipsOf}
-use Rattle.planning.specs.Plans.{planNumber, planEdition, planCarries, Boxes, editionsOf, areBoth, planningOf, isPlanned, plansOf, BoxesAfter, stateBy, behindBy, boardsAfter}
+use Rattle.planning.specs.Plans.{planNumber, planEdition, planCarries, Boxes, editionsOf, areBoth, planningOf, isPlanned, plansOf, BoxesAfter, stateBy, behindBy, boardsAfter, searchesAfter, wordsBy}
 use Rattle.writer.specs.declared.write.Writing.{Writing}
 use Rattle.writer.specs.declared.write.Writing.the-variants as writing
 use Rattle.writer.specs.Writings.{writeNumber, writeCarries, writingOf, IsWritten}
@@ -112,6 +112,10 @@ newBoards (editions.Refused f) = 0
 abbrev pub boardsNumbers : Editions → List ℕ
 boardsNumbers r = headThen (editionsHead r) (newBoards r ∷ [])
 
+-- The answer of all searches: the boards, and the words compared for them.
+abbrev pub searchesNumbers : Editions → ℕ → List ℕ
+searchesNumbers r words = headThen (editionsHead r) (newBoards r ∷ words ∷ [])
+
 -- bs is written on a lent page, whatever the page and the answer held.
 pub record WroteOut (bs page page′ answer′ : List ℕ) (r : ℕ) : Type 0 where
   pub told : answer′ ≡ writtenNumbers (answerOf bs (length page))
@@ -161,6 +165,13 @@ pub record BoardsOut (c : Conventions) (old new : List ℕ) (boxes : Boxes) (num
   pub told : answer′ ≡ boardsNumbers (editionsOf c old new boxes)
   pub boxes-after : BoxesAfter c (areBoth (editionsOf c old new boxes)) old new boxes boxes′
   pub numbers-after : numbers′ ≡ boardsAfter (editionsOf c old new boxes) c old new (length numbers)
+  pub returned : r ≡ getD answer′ 0 0
+
+-- Every board's state and the words that its searches compare.
+pub record SearchesOut (c : Conventions) (old new : List ℕ) (boxes : Boxes) (numbers : List ℕ) (boxes′ : Boxes) (numbers′ answer′ : List ℕ) (r : ℕ) : Type 0 where
+  pub told : answer′ ≡ searchesNumbers (editionsOf c old new boxes) (wordsBy (editionsOf c old new boxes) c old new)
+  pub boxes-after : BoxesAfter c (areBoth (editionsOf c old new boxes)) old new boxes boxes′
+  pub numbers-after : numbers′ ≡ searchesAfter (editionsOf c old new boxes) c old new (length numbers)
   pub returned : r ≡ getD answer′ 0 0
 
 -- The new edition is finished on a lent page, whatever was lent and whatever it held.

@@ -2,7 +2,7 @@
 ghost use mathlib.Core.Path.{_≡_};
 ghost use Prim.Native.Nat.{_-_};
 ghost use lib.ListN.{getD};
-ghost use Rattle.golavimes.specs.Answers.{writtenNumbers, decodedNumbers, readingNumbers, writingNumbers, convertedNumbers, finishingNumbers, refusedHead, editionsHead, planNumbers, stateNumbers, recordNumbers, boardsNumbers, WroteOut, ReadOut, EditionOut, WritingOut, LinOut, PlanOut, StateOut, BehindOut, BoardsOut, FinishOut};
+ghost use Rattle.golavimes.specs.Answers.{writtenNumbers, decodedNumbers, readingNumbers, writingNumbers, convertedNumbers, finishingNumbers, refusedHead, editionsHead, planNumbers, stateNumbers, recordNumbers, boardsNumbers, searchesNumbers, WroteOut, ReadOut, EditionOut, WritingOut, LinOut, PlanOut, StateOut, BehindOut, BoardsOut, SearchesOut, FinishOut};
 ghost use Rattle.tables.specs.Letters.{builtIn};
 ghost use Rattle.tables.specs.Tables.{digitsText, headerText, rowsText, tableOfDigits, tableOfRows};
 use lin::convert::Converted;
@@ -431,6 +431,47 @@ pub extern "C" fn golavimes_boards(
         boards,
     );
     let numbers = boards_numbers(t);
+    *answer = numbers;
+    numbers[0]
+}
+
+fn searches_numbers(r: Editions, words: u64) -> [u64; 5]
+    ensures { λ n. ⌜ n ≡ searchesNumbers r words ⌝ }
+{
+    let b = boards_numbers(r);
+    [b[0], b[1], b[2], b[3], words]
+}
+
+// Five numbers for each board of the new edition: state, source board, and the hand words compared in the searches for old, near and twin.
+#[no_mangle]
+pub extern "C" fn golavimes_searches(
+    old: &[u8],
+    new: &[u8],
+    old_cards: &mut [u32],
+    old_entries: &mut [u32],
+    new_cards: &mut [u32],
+    new_entries: &mut [u32],
+    searches: &mut [u64],
+    answer: &mut [u64; 5],
+) -> u64
+    ensures { λ r. ⌜ SearchesOut builtIn (now (old .entry)) (now (new .entry))
+        (record { old-cards = now («old_cards» .entry); old-entries = now («old_entries» .entry); new-cards = now («new_cards» .entry); new-entries = now («new_entries» .entry) })
+        (now (searches .entry))
+        (record { old-cards = now («old_cards» .exit); old-entries = now («old_entries» .exit); new-cards = now («new_cards» .exit); new-entries = now («new_entries» .exit) })
+        (now (searches .exit)) (now (answer .exit)) r ⌝ }
+{
+    let t = planning::searches::plan_searches(
+        old,
+        new,
+        old_cards,
+        old_entries,
+        new_cards,
+        new_entries,
+        searches,
+    );
+    let editions = t.editions;
+    let words = t.words;
+    let numbers = searches_numbers(editions, words);
     *answer = numbers;
     numbers[0]
 }

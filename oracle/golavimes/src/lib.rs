@@ -108,6 +108,7 @@ mod c {
         golavimes_state(position: u64, answer: *mut u64);
         golavimes_record_behind(position: u64, answer: *mut u64);
         golavimes_boards(boards: *mut u64, boards_len: usize, answer: *mut u64);
+        golavimes_searches(searches: *mut u64, searches_len: usize, answer: *mut u64);
         golavimes_finish(
             answers: *const u8,
             answers_len: usize,
@@ -345,6 +346,26 @@ pub fn boards(editions: Editions, boxes: Boxes, boards: &mut [u64], answer: &mut
         editions,
         boxes,
         boards,
+        length,
+        answer.as_mut_ptr()
+    )
+}
+
+/// Five numbers a board, as many as fit: state, `from`, and the hand words compared in
+/// the searches for old, near and twin. The answer goes on with the number of boards
+/// and the words of all of them.
+pub fn searches(
+    editions: Editions,
+    boxes: Boxes,
+    searches: &mut [u64],
+    answer: &mut [u64; 5],
+) -> u64 {
+    let (searches, length) = (searches.as_mut_ptr(), searches.len());
+    call_over_editions!(
+        golavimes_searches,
+        editions,
+        boxes,
+        searches,
         length,
         answer.as_mut_ptr()
     )
