@@ -11,7 +11,7 @@ mod product;
 use crate::comparison::{self, Comparison, Met, Refusal, Report};
 use crate::plan::generate;
 use crate::plan::model::{has_table, Plan, State, NEAR, OLD};
-use crate::plan::{pair, StateCounts, OF_EDITIONS};
+use crate::plan::{each_two, pair, StateCounts, OF_EDITIONS};
 use crate::read::product::Lent as LentBoxes;
 use crate::read::{Checked, LONGEST};
 use crate::rng::Rng;
@@ -283,15 +283,8 @@ impl Run {
             page_step: PAGE_STEP,
             answers: right,
         };
-        for one in 0..5 {
-            for other in 0..one {
-                for (room, other_room) in ROOMS.into_iter().flat_map(|a| ROOMS.map(|b| (a, b))) {
-                    let mut call = exact;
-                    call.rooms[one] = room;
-                    call.rooms[other] = other_room;
-                    self.call(pair, call)?;
-                }
-            }
+        for rooms in each_two(5) {
+            self.call(pair, Call { rooms, ..exact })?;
         }
         for (length, above) in LENGTHS.iter().flat_map(|a| ABOVES.map(|b| (a.0, b.0))) {
             let mut call = exact;

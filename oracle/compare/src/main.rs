@@ -14,6 +14,7 @@ mod record;
 mod rng;
 mod room;
 mod sample;
+mod searches;
 mod shrink;
 mod tables;
 mod write;
@@ -27,6 +28,7 @@ const USAGE: &str = "\
 usage: compare tables [--seed N]
        compare read [--seed N]
        compare plan [--seed N]
+       compare searches [--seed N]
        compare write [--seed N]
        compare finish [--seed N]
        compare promise [--seed N]
@@ -52,6 +54,7 @@ fn main() -> ExitCode {
         ["tables"] => exit(tables::run(seed)),
         ["read"] => exit(read::run(seed)),
         ["plan"] => exit(plan::run(seed)),
+        ["searches"] => exit(searches::run(seed)),
         ["write"] => exit(write::run(seed)),
         ["finish"] => exit(finish::run(seed)),
         ["promise"] => exit(promise::run(seed)),

@@ -6,6 +6,7 @@ pub mod generate;
 pub mod judge;
 pub mod model;
 pub mod product;
+pub mod searches;
 mod stretch;
 
 use crate::comparison::{self, Comparison, Met, Refusal, Report};
@@ -24,6 +25,7 @@ pub enum Call {
     State(u64),
     RecordBehind(u64),
     Boards,
+    Searches,
 }
 
 impl Call {
@@ -31,7 +33,7 @@ impl Call {
     fn answers(self) -> usize {
         match self {
             Call::Plan => 10,
-            Call::State(_) => 5,
+            Call::State(_) | Call::Searches => 5,
             Call::RecordBehind(_) => 6,
             Call::Boards => 4,
         }
@@ -42,24 +44,40 @@ impl Call {
     fn numbered(self, plan: &Plan) -> Option<usize> {
         match self {
             Call::Plan => Some(plan.slips.len()),
-            Call::Boards => Some(plan.boards()),
+            Call::Boards | Call::Searches => Some(plan.boards()),
             Call::State(_) | Call::RecordBehind(_) => None,
         }
     }
 }
 
-/// How many words are lent for each edition, and how many numbers for slips or
-/// boards.
+/// How many words are lent for each edition, and how many numbers for slips,
+/// boards or searches.
 #[derive(Debug)]
 pub struct Lent {
-    boxes: [LentBoxes; 2],
-    numbers: usize,
+    pub boxes: [LentBoxes; 2],
+    pub numbers: usize,
 }
 
 /// For the old edition's cards and entries, the new one's, and the numbers.
-type Rooms = [Room; 5];
+pub type Rooms = [Room; 5];
 
-fn lent_by(plan: &Plan, call: Call, rooms: &Rooms) -> Lent {
+/// Each room for each two of the first so many, the others just large enough.
+pub fn each_two(boxes: usize) -> Vec<Rooms> {
+    let mut all = Vec::new();
+    for one in 0..boxes {
+        for other in 0..one {
+            for (room, other_room) in ROOMS.into_iter().flat_map(|a| ROOMS.map(|b| (a, b))) {
+                let mut rooms = [Room::Exact; 5];
+                rooms[one] = room;
+                rooms[other] = other_room;
+                all.push(rooms);
+            }
+        }
+    }
+    all
+}
+
+pub fn lent_by(plan: &Plan, call: Call, rooms: &Rooms) -> Lent {
     let [boxes @ .., numbers] = *rooms;
     Lent {
         boxes: plan.lent(boxes),
@@ -81,7 +99,7 @@ enum Check {
 }
 
 /// One call, against the model: its answer and every lent word.
-fn compare_call(product: &mut Product, plan: &Plan, call: Call, lent: &Lent) -> Checked {
+pub fn compare_call(product: &mut Product, plan: &Plan, call: Call, lent: &Lent) -> Checked {
     product.call(call, plan.editions(), lent)?;
     let wanted = plan.wanted(call, lent);
     if product.answer() != wanted.answer {
@@ -132,13 +150,44 @@ const SIZES_EVERY: u64 = 397;
 /// Every so many pairs each position is asked for, of the others one.
 const POSITIONS_EVERY: u64 = 5;
 
+/// What is counted of pairs that are planned.
+#[derive(Default)]
+pub struct Pairs {
+    pub met: Met,
+    boards: u64,
+    states: StateCounts,
+    pub sized: u64,
+}
+
+impl Pairs {
+    /// Counts a pair, and who judged it. Returns its number in its group, from 1.
+    pub fn count(&mut self, group: &'static str, plan: &Plan, by_rust: bool) -> u64 {
+        self.met.judged(by_rust);
+        self.boards += plan.boards() as u64;
+        self.states.count_all(&plan.states);
+        self.met.input(group, &[plan.old, plan.new])
+    }
+
+    /// Whether the rooms around each boundary are tried with the pair of this number.
+    pub fn is_sized(&mut self, number: u64, plan: &Plan) -> bool {
+        let short = plan.old.len() + plan.new.len() < 4000;
+        let sized = short && number.is_multiple_of(SIZES_EVERY);
+        self.sized += u64::from(sized);
+        sized
+    }
+
+    pub fn print(&self, report: &mut Report) {
+        report.inputs(&self.met, "pairs", "reader.rs");
+        let (bytes, boards) = (self.met.bytes, self.boards);
+        report.say(format_args!("{bytes} bytes, {boards} boards"));
+        self.states.print(report);
+    }
+}
+
 /// What was met.
 #[derive(Default)]
 struct Counts {
-    met: Met,
-    boards: u64,
-    states: StateCounts,
-    sized: u64,
+    pairs: Pairs,
     alike: u64,
     tabled: u64,
     listing: u64,
@@ -197,24 +246,15 @@ impl Run {
         let lent = lent_by(plan, call, &rooms);
         compare_call(&mut self.product, plan, call, &lent)
             .map_err(|error| (Check::Call(call, rooms), error))?;
-        self.counts.met.call(self.product.answer());
+        self.counts.pairs.met.call(self.product.answer());
         Ok(())
     }
 
-    /// Each room for each two of the lent boxes, the others just large enough.
+    /// Each room for each two of the lent boxes.
     fn sizes(&mut self, plan: &Plan, call: Call) -> Result<(), (Check, String)> {
         let boxes = if call.numbered(plan).is_some() { 5 } else { 4 };
-        for one in 0..boxes {
-            for other in 0..one {
-                for room in ROOMS {
-                    for other_room in ROOMS {
-                        let mut rooms = [Room::Exact; 5];
-                        rooms[one] = room;
-                        rooms[other] = other_room;
-                        self.call(plan, call, rooms)?;
-                    }
-                }
-            }
+        for rooms in each_two(boxes) {
+            self.call(plan, call, rooms)?;
         }
         Ok(())
     }
@@ -230,16 +270,14 @@ impl Comparison for Run {
     fn compare(&mut self, group: &'static str, texts: &[&[u8]]) -> Result<(), (Check, String)> {
         let [old, new] = pair(texts);
         let plan = Plan::new(old, new);
+        let by_rust = compare_rust(&plan, judge::compare);
+        let by_rust = by_rust.map_err(|error| (Check::Rust, error))?;
         let counts = &mut self.counts;
-        let number = counts.met.input(group, texts);
-        let by_rust = compare_rust(&plan).map_err(|error| (Check::Rust, error))?;
-        counts.met.judged(by_rust);
+        let number = counts.pairs.count(group, &plan, by_rust);
         let shown = stretch::compare(&plan).map_err(|error| (Check::Stretch, error))?;
         counts.alike += u64::from(shown.alike);
         counts.tabled += u64::from(shown.tabled);
         counts.listing += u64::from(shown.listed > 0);
-        counts.boards += plan.boards() as u64;
-        counts.states.count_all(&plan.states);
 
         let enough = std::array::from_fn(|_| ENOUGH[self.rng.below(ENOUGH.len())]);
         self.call(&plan, Call::Plan, enough)?;
@@ -264,8 +302,7 @@ impl Comparison for Run {
         self.call(&plan, Call::Plan, any)?;
         let other = calls[1 + self.rng.below(3)];
         self.call(&plan, other, any)?;
-        if number.is_multiple_of(SIZES_EVERY) && old.len() + new.len() < 4000 {
-            self.counts.sized += 1;
+        if self.counts.pairs.is_sized(number, &plan) {
             for call in calls {
                 self.sizes(&plan, call)?;
             }
@@ -277,13 +314,13 @@ impl Comparison for Run {
         let [old, new] = pair(texts);
         let plan = Plan::new(old, new);
         match check {
-            Check::Rust => compare_rust(&plan).map(|_| ()),
+            Check::Rust => compare_rust(&plan, judge::compare).map(|_| ()),
             Check::Stretch => stretch::compare(&plan).map(|_| ()),
             Check::Call(call, rooms) => {
                 // A call with a position is made with each.
                 let positions = positions(plan.boards(), &mut Rng::new(0));
                 let calls: Vec<Call> = match call {
-                    Call::Plan | Call::Boards => vec![call],
+                    Call::Plan | Call::Boards | Call::Searches => vec![call],
                     Call::State(_) => positions.into_iter().map(Call::State).collect(),
                     Call::RecordBehind(_) => {
                         positions.into_iter().map(Call::RecordBehind).collect()
@@ -307,70 +344,31 @@ impl Comparison for Run {
         }
     }
 
-    /// Editions as long as can be, and longer, on either side.
     fn longest(&mut self, seed: u64) -> Checked {
-        let (longest, few) = generate::longest(seed);
-        let mut overlong = longest.clone();
-        overlong.push(b'x');
-        let exact = [Room::Exact; 5];
-        let [mut no_old_cards, mut no_new_entries] = [exact; 2];
-        no_old_cards[0] = Room::None;
-        no_new_entries[3] = Room::None;
-        let all_rooms = [exact, no_old_cards, no_new_entries];
         let every = [
             Call::Plan,
             Call::State(1),
             Call::RecordBehind(1),
             Call::Boards,
         ];
-
-        let plan = Plan::new(&longest, &few);
-        assert!(compare_rust(&plan)?, "editions of ASCII");
-        let is_late = |state: &&State| matches!(state, State::Old(from) if *from > 5000);
-        let late = plan.states.iter().filter(is_late).count();
-        assert!(late > 1, "the few boards are not the last of the longest");
-
-        let mut cases: Vec<(Plan, &[Rooms], &[Call])> = vec![
-            (plan, &all_rooms[..1], &every),
-            (Plan::new(&few, &longest), &all_rooms[..1], &every[..1]),
-        ];
-        for (old, new) in [
-            (&overlong, &few),
-            (&few, &overlong),
-            (&overlong, &overlong),
-            (&overlong, &longest),
-        ] {
-            cases.push((Plan::new(old, new), &all_rooms, &every));
-        }
-        for (plan, rooms, calls) in cases {
-            for rooms in rooms {
-                for call in calls {
-                    self.call(&plan, *call, *rooms).map_err(|(check, error)| {
-                        let lengths = (plan.old.len(), plan.new.len());
-                        format!("{check:?}, texts of {lengths:?} bytes: {error}")
-                    })?;
-                }
-            }
-        }
-        Ok(())
+        longest(seed, &every, &mut |plan, call, rooms| {
+            self.call(plan, call, rooms)
+                .map_err(|(check, error)| format!("{check:?}: {error}"))
+        })
     }
 
     fn met(&self) -> &Met {
-        &self.counts.met
+        &self.counts.pairs.met
     }
 
     fn print(&self, report: &mut Report) {
         let counts = &self.counts;
-        report.inputs(&counts.met, "pairs", "reader.rs");
-        report.say(format_args!(
-            "{} bytes, {} boards",
-            counts.met.bytes, counts.boards
-        ));
-        counts.states.print(report);
-        report.calls(&counts.met, &OF_EDITIONS);
-        report.refused(&counts.met, (4, 0, "slips short"));
+        let pairs = &counts.pairs;
+        pairs.print(report);
+        report.calls(&pairs.met, &OF_EDITIONS);
+        report.refused(&pairs.met, (4, 0, "slips short"));
         let sized = "pairs with each two boxes around each boundary";
-        report.line(counts.sized, sized);
+        report.line(pairs.sized, sized);
         let alike = "pairs alike but for a stretch, with boards outside it";
         report.line(counts.alike, alike);
         report.line(counts.tabled, "of these with a table for each old deal");
@@ -378,16 +376,60 @@ impl Comparison for Run {
     }
 }
 
+/// Makes a call with editions as long as can be, and longer, on either side: each of
+/// the calls, but the first alone where the new edition is as long as can be.
+pub fn longest(
+    seed: u64,
+    calls: &[Call],
+    make: &mut dyn FnMut(&Plan, Call, Rooms) -> Checked,
+) -> Checked {
+    let (longest, few) = generate::longest(seed);
+    let mut overlong = longest.clone();
+    overlong.push(b'x');
+    let exact = [Room::Exact; 5];
+    let [mut no_old_cards, mut no_new_entries] = [exact; 2];
+    no_old_cards[0] = Room::None;
+    no_new_entries[3] = Room::None;
+    let all_rooms = [exact, no_old_cards, no_new_entries];
+
+    let plan = Plan::new(&longest, &few);
+    assert!(compare_rust(&plan, judge::compare)?, "editions of ASCII");
+    let is_late = |state: &&State| matches!(state, State::Old(from) if *from > 5000);
+    let late = plan.states.iter().filter(is_late).count();
+    assert!(late > 1, "the few boards are not the last of the longest");
+
+    let mut cases: Vec<(Plan, &[Rooms], &[Call])> = vec![
+        (plan, &all_rooms[..1], calls),
+        (Plan::new(&few, &longest), &all_rooms[..1], &calls[..1]),
+    ];
+    for (old, new) in [
+        (&overlong, &few),
+        (&few, &overlong),
+        (&overlong, &overlong),
+        (&overlong, &longest),
+    ] {
+        cases.push((Plan::new(old, new), &all_rooms, calls));
+    }
+    for (plan, rooms, calls) in cases {
+        for (rooms, call) in rooms.iter().flat_map(|a| calls.iter().map(move |b| (a, b))) {
+            let lengths = (plan.old.len(), plan.new.len());
+            make(&plan, *call, *rooms)
+                .map_err(|error| format!("texts of {lengths:?} bytes: {error}"))?;
+        }
+    }
+    Ok(())
+}
+
 /// The two texts of a pair.
 pub fn pair<'a>(texts: &[&'a [u8]]) -> [&'a [u8]; 2] {
     texts.try_into().expect("a pair has two texts")
 }
 
-/// The model against the boards of the Rust, where both texts are in the domain.
-/// Returns whether they are.
-fn compare_rust(plan: &Plan) -> Result<bool, String> {
+/// The model against the boards of the Rust, by one of the judge's comparisons, where
+/// both texts are in the domain. Returns whether they are.
+pub fn compare_rust(plan: &Plan, by: fn(&Plan, &str, &str) -> Checked) -> Result<bool, String> {
     match (text_in_domain(plan.old), text_in_domain(plan.new)) {
-        (Some(old), Some(new)) => judge::compare(plan, old, new).map(|()| true),
+        (Some(old), Some(new)) => by(plan, old, new).map(|()| true),
         _ => Ok(false),
     }
 }

@@ -10,14 +10,14 @@ use crate::read::LONGEST;
 use crate::rng::Rng;
 
 /// Gives pairs as long as they are wanted.
-struct Out<'a> {
+pub struct Out<'a> {
     give: &'a mut Give<'a>,
     group: &'static str,
     open: bool,
 }
 
 impl Out<'_> {
-    fn pair(&mut self, old: impl AsRef<[u8]>, new: impl AsRef<[u8]>) {
+    pub fn pair(&mut self, old: impl AsRef<[u8]>, new: impl AsRef<[u8]>) {
         if self.open {
             self.open = (self.give)(self.group, &[old.as_ref(), new.as_ref()]);
         }
@@ -25,9 +25,9 @@ impl Out<'_> {
 }
 
 /// A group's name and what gives its pairs.
-type Group = (&'static str, fn(&mut Rng, &mut Out));
+pub type Group = (&'static str, fn(&mut Rng, &mut Out));
 
-const GROUPS: [Group; 9] = [
+pub const GROUPS: [Group; 9] = [
     ("named pairs", named),
     ("all short: boards", short),
     ("few deals", few_deals),
@@ -39,15 +39,20 @@ const GROUPS: [Group; 9] = [
     ("many slips", many_slips),
 ];
 
-/// Gives every pair. Each group has its own random numbers, so that a change in
-/// one leaves the others alone.
+/// Gives every pair.
 pub fn all<'a>(seed: u64, give: &'a mut Give<'a>) {
+    give_groups(&GROUPS, seed, give);
+}
+
+/// Gives the pairs of some groups. Each group has its own random numbers, so that a
+/// change in one leaves the others alone.
+pub fn give_groups<'a>(groups: &[Group], seed: u64, give: &'a mut Give<'a>) {
     let mut out = Out {
         give,
         group: "",
         open: true,
     };
-    for (i, (group, pairs)) in GROUPS.into_iter().enumerate() {
+    for (i, (group, pairs)) in groups.iter().enumerate() {
         if !out.open {
             return;
         }
@@ -61,7 +66,7 @@ pub fn all<'a>(seed: u64, give: &'a mut Give<'a>) {
 const RANKS: &[u8; 13] = b"AKQJT98765432";
 
 /// The cards of N, E, S, W; suits S H D C from 0, the ace first.
-type Hands = [Vec<usize>; 4];
+pub type Hands = [Vec<usize>; 4];
 
 pub fn random_deal(rng: &mut Rng) -> Hands {
     let mut pack: Vec<usize> = (0..52).collect();
@@ -156,20 +161,20 @@ fn pool(rng: &mut Rng) -> Vec<Hands> {
     pool
 }
 
-fn one_of<'a>(rng: &mut Rng, pool: &'a [Hands]) -> &'a Hands {
+pub fn one_of<'a>(rng: &mut Rng, pool: &'a [Hands]) -> &'a Hands {
     &pool[rng.below(pool.len())]
 }
 
 // ---- Boards ----
 
-fn digits(rng: &mut Rng) -> String {
+pub fn digits(rng: &mut Rng) -> String {
     let digits: String = (0..20)
         .map(|_| b"0123456789abcdABCD"[rng.below(18)] as char)
         .collect();
     format!("[DoubleDummyTricks \"{digits}\"]\n")
 }
 
-fn deal_tag(value: &str) -> String {
+pub fn deal_tag(value: &str) -> String {
     format!("[Deal \"{value}\"]\n")
 }
 
@@ -238,7 +243,7 @@ const DECORATION: [&str; 20] = [
 ];
 
 /// A board with anything; of eight about `tables` have one.
-fn board(rng: &mut Rng, pool: &[Hands], tables: usize) -> String {
+pub fn board(rng: &mut Rng, pool: &[Hands], tables: usize) -> String {
     let mut parts = [deal_tags(rng, pool), String::new()];
     if rng.below(8) < tables {
         parts[1] = table_tags(rng);
@@ -293,7 +298,7 @@ fn deal_a(first: &str) -> String {
     deal_tag(&DEAL.replacen("N:", first, 1))
 }
 
-const ZEROS: &str = "[DoubleDummyTricks \"00000000000000000000\"]\n";
+pub const ZEROS: &str = "[DoubleDummyTricks \"00000000000000000000\"]\n";
 
 /// The boards of the short editions, each closed: two deals without and with a
 /// table; one kept unparsed, with the hands of an earlier Deal tag, without and
@@ -371,17 +376,22 @@ fn named(rng: &mut Rng, out: &mut Out) {
 
 // ---- All short pairs ----
 
-/// Every sequence of up to two boards with every sequence of up to three.
-fn short(_: &mut Rng, out: &mut Out) {
-    let boards = short_boards();
+/// Every sequence of boards, by their number, up to the most.
+pub fn sequences(boards: &[String], most: usize) -> Vec<Vec<String>> {
     let mut sequences = vec![vec![String::new()]];
-    for length in 0..3 {
+    for length in 0..most {
         let longer = sequences[length]
             .iter()
             .flat_map(|text| boards.iter().map(move |board| format!("{text}{board}")));
         let longer = longer.collect();
         sequences.push(longer);
     }
+    sequences
+}
+
+/// Every sequence of up to two boards with every sequence of up to three.
+fn short(_: &mut Rng, out: &mut Out) {
+    let sequences = sequences(&short_boards(), 3);
     for old in sequences[..3].concat() {
         for new in sequences.concat() {
             out.pair(&old, &new);
@@ -401,7 +411,7 @@ fn few_deals(rng: &mut Rng, out: &mut Out) {
 }
 
 /// A closed board with a whole deal.
-fn closed_board(rng: &mut Rng, hands: &Hands, table: bool) -> String {
+pub fn closed_board(rng: &mut Rng, hands: &Hands, table: bool) -> String {
     let mut text = rng.pick(&DECORATION).to_string();
     text += &deal_tag(&deal_text(rng, hands));
     if table {

@@ -5,9 +5,9 @@
 //! in maps and not by scanning; the slips do not come from the states but from
 //! what must hold of them, that a deal is listed exactly when a new board has it
 //! and no board of either edition with that deal has a table, and that it is
-//! listed once.
+//! listed once. The words of a search come from the bits in which two hands differ.
 
-use super::model::{Plan, Slip, State};
+use super::model::{Plan, Slip, State, FIVE};
 use crate::read::judge::Words;
 use crate::read::{compare_read, read_rust, Checked};
 use bridge_types::{Board, Deal};
@@ -23,11 +23,17 @@ fn whole_deal(board: &Board) -> Option<Deal> {
     (parsed && full).then_some(board.deal)
 }
 
+/// The deal of each board, where it is whole and the board is wanted.
+fn deals(boards: &[Board], wanted: fn(&Board) -> bool) -> Vec<Option<Deal>> {
+    let deal = |board| whole_deal(board).filter(|_| wanted(board));
+    boards.iter().map(deal).collect()
+}
+
 /// The position of the first board with each deal, of those that are wanted.
 fn firsts(boards: &[Board], wanted: fn(&Board) -> bool) -> HashMap<Deal, usize> {
     let mut firsts = HashMap::new();
-    for (index, board) in boards.iter().enumerate() {
-        if let Some(deal) = whole_deal(board).filter(|_| wanted(board)) {
+    for (index, deal) in deals(boards, wanted).into_iter().enumerate() {
+        if let Some(deal) = deal {
             firsts.entry(deal).or_insert(index + 1);
         }
     }
@@ -80,6 +86,63 @@ fn slips(old: &[Board], new: &[Board]) -> Vec<Slip> {
         }
     }
     slips
+}
+
+/// The hand words in which two deals are compared: of each hand the low one and the
+/// high one, of 32 bits, up to the first that differs.
+fn words_compared(sought: &Deal, other: &Deal) -> u64 {
+    let differing = |seat: usize| sought.hands[seat].bits ^ other.hands[seat].bits;
+    match (0..4).find(|seat| differing(*seat) != 0) {
+        None => 8,
+        Some(seat) if differing(seat) as u32 != 0 => 2 * seat as u64 + 1,
+        Some(seat) => 2 * seat as u64 + 2,
+    }
+}
+
+/// The words compared in a search through the boards that have a deal to compare.
+fn words_of_all(sought: &Deal, boards: &[Option<Deal>]) -> u64 {
+    let compared = boards.iter().flatten();
+    compared.map(|deal| words_compared(sought, deal)).sum()
+}
+
+/// The five numbers of each board's searches. A search ends at `from`, which comes
+/// from the maps.
+fn searches(old: &[Board], new: &[Board]) -> Vec<[u64; FIVE]> {
+    let (in_old, in_new) = (deals(old, has_table), deals(new, has_table));
+    let any = deals(new, |_| true);
+    let states = states(old, new);
+    let numbers = |(index, state): (usize, &State)| {
+        let [olds, news, earlier] = match state {
+            State::Blank | State::Own => [0, 0, 0],
+            State::Old(from) => [*from, 0, 0],
+            State::Near(from) => [old.len(), *from, 0],
+            State::Twin(from) => [old.len(), new.len(), *from],
+            State::Solve => [old.len(), new.len(), index],
+        };
+        let words = |boards| any[index].map_or(0, |deal| words_of_all(&deal, boards));
+        [
+            state.number() as u64,
+            state.from() as u64,
+            words(&in_old[..olds]),
+            words(&in_new[..news]),
+            words(&any[..earlier]),
+        ]
+    };
+    states.iter().enumerate().map(numbers).collect()
+}
+
+/// Holds the model's searches to the Rust's boards.
+pub fn compare_searches(plan: &Plan, old_text: &str, new_text: &str) -> Checked {
+    let rust = searches(&read_rust(old_text)?, &read_rust(new_text)?);
+    let model: Vec<_> = (0..plan.boards())
+        .map(|index| plan.search_numbers(index))
+        .collect();
+    if rust != model {
+        return Err(format!(
+            "searches\n  reader.rs: {rust:?}\n  the model: {model:?}"
+        ));
+    }
+    Ok(())
 }
 
 /// Holds the model's plan to the Rust's boards: the cards, the states, the slips,

@@ -1,18 +1,22 @@
 //! Planning as docs/FORMAT.md says, in plain Rust of its own, over the cards of
 //! `read/model.rs`: states, `from`, totals, slips and the records behind, the
-//! answers of the four functions and every number that they store.
+//! answers of the five functions and every number that they store. The searches are
+//! in `searches.rs`.
 //!
-//! In the domain its states and slips are held to what the Rust's boards give
-//! (`judge.rs`).
+//! In the domain its states, slips and searches are held to what the Rust's boards
+//! give (`judge.rs`).
 
+use super::searches::Searches;
 use super::{Call, Lent};
 use crate::read::model::{self, Reading, CARD, ENTRY};
 use crate::read::product::{Lent as LentBoxes, FILL};
 use crate::read::{answer_for, compare_box, Checked, LONGEST};
 use crate::room::Room;
 use golavimes::Editions;
+use std::cell::OnceCell;
 
-/// The numbers of a slip, and those that `golavimes_boards` gives a board.
+/// The numbers of a slip, and those that `golavimes_boards` and `golavimes_searches`
+/// give a board.
 pub const FIVE: usize = 5;
 
 #[derive(Clone, Copy, PartialEq, Eq, Debug)]
@@ -76,9 +80,11 @@ pub struct Plan<'a> {
     /// Of the new edition's boards.
     pub states: Vec<State>,
     pub slips: Vec<Slip>,
+    /// Counted when they are first asked for.
+    searches: OnceCell<Searches>,
 }
 
-/// What a call must leave: its answer, and the numbers lent for slips or boards.
+/// What a call must leave: its answer, and the numbers lent for slips, boards or searches.
 /// The boxes hold the readings, or nothing but zeros after a refusal.
 pub struct Wanted {
     pub answer: Vec<u64>,
@@ -99,7 +105,7 @@ pub fn hands(card: &[u32]) -> [u64; 4] {
     [10, 12, 14, 16].map(|low| u64::from(card[low]) + (u64::from(card[low + 1]) << 32))
 }
 
-fn same_deal(a: &[u32], b: &[u32]) -> bool {
+pub fn same_deal(a: &[u32], b: &[u32]) -> bool {
     is_whole(a) && is_whole(b) && a[10..18] == b[10..18]
 }
 
@@ -160,7 +166,19 @@ impl<'a> Plan<'a> {
             news,
             states,
             slips,
+            searches: OnceCell::new(),
         }
+    }
+
+    pub fn searches(&self) -> &Searches {
+        let count = || Searches::new(&cards(&self.olds), &cards(&self.news));
+        self.searches.get_or_init(count)
+    }
+
+    /// The five numbers of the searches of the board at an index.
+    pub fn search_numbers(&self, index: usize) -> [u64; FIVE] {
+        let (state, [old, near, twin]) = (self.states[index], self.searches().words[index]);
+        [state.number() as u64, state.from() as u64, old, near, twin]
     }
 
     pub fn boards(&self) -> usize {
@@ -290,6 +308,11 @@ impl<'a> Plan<'a> {
                         numbers.extend([state.number() as u64, state.from() as u64]);
                         numbers.extend([part.edition, part.start as u64, part.end as u64]);
                     }
+                }
+                Call::Searches => {
+                    answer.extend([self.boards() as u64, self.searches().total()]);
+                    let stored = self.boards().min(lent.numbers / FIVE);
+                    numbers.extend((0..stored).flat_map(|index| self.search_numbers(index)));
                 }
             }
         }

@@ -77,6 +77,9 @@ impl Product {
             Call::Boards => {
                 golavimes::boards(editions, boxes, numbers, answer.try_into().expect(size))
             }
+            Call::Searches => {
+                golavimes::searches(editions, boxes, numbers, answer.try_into().expect(size))
+            }
         };
         self.pair.untouched(pair)?;
         guard::untouched(&[(
