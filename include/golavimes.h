@@ -43,10 +43,10 @@
  *     answers to slips too, need no alignment.
  *   - What is lent to be written (page, table, cards, entries, slips, boards,
  *     searches, answer) overlaps nothing else that is lent to the same call, so
- *     the boxes of the old and of the new edition are apart. The two texts and the answers
- *     to slips are only read and may be the same memory. No other thread reads or
- *     writes what is lent to be written, or writes what is lent to be read, until
- *     the call returns.
+ *     the boxes of the old and of the new edition are apart. The two texts and
+ *     the answers to slips are only read and may be the same memory. No other
+ *     thread reads or writes what is lent to be written, or writes what is lent
+ *     to be read, until the call returns.
  *
  * How Rattle's types are passed: a slice, `&[u8]` or `&mut [u32]`, is a pointer
  * and then its length, in elements, in two parameters; an array, `&[u8; 20]` or
@@ -391,7 +391,7 @@ uint64_t golavimes_write(const uint8_t *text, size_t text_length, uint32_t *card
  * of the boards: 3000 boards without tables, all deals different, take
  * hundredths of a second, 10000 took 1 s, 30000 took 10 s and 100000 took 122 s
  * to plan. golavimes_searches makes each search twice and counts cards, and takes
- * two to three times as long.
+ * up to some three times as long.
  */
 
 /* The editions, in answer[1] and for the record behind a board. */
@@ -458,12 +458,12 @@ uint64_t golavimes_boards(const uint8_t *old_text, size_t old_text_length,
  * The deal of a board without a table is sought up to three times: for old among
  * all boards of the old edition and for near among all boards of the new one,
  * each time with a table; then for twin among the new boards before it. Each
- * search is made where those before it found no board. It goes from the first board on,
- * passes over a board without a deal or without a table that it seeks, compares
- * words 10 to 17 of any other in order and leaves it at the first that differs;
- * where all eight are equal the board is found and the search ends. A board that
- * is passed over counts 0 words, one that is found 8, any other its equal ones
- * from the front and the one that differs.
+ * search is made where those before it found no board. It goes from the first
+ * board on, passes over a board without a deal or without a table that it seeks,
+ * compares words 10 to 17 of any other in order and leaves it at the first that
+ * differs; where all eight are equal the board is found and the search ends. A
+ * board that is passed over counts 0 words, one that is found 8, any other its
+ * equal ones from the front and the one that differs, 1 to 6.
  *
  * answer[3] is the boards of the new edition, answer[4] the words compared for
  * all of them. searches_length is a number of uint64_t, so that 5 * b lend b
