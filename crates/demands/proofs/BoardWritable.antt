@@ -38,7 +38,7 @@ use Rattle.reader.proofs.PlainRemarks.{PlainDirectives, PlainBlocks}
 use Rattle.reader.proofs.PlainCalls.{CallWritable, PlainCalls}
 use Rattle.writer.specs.Sections.{spaced, endLines, callText, rounds, endsContinued, auctionLines, afterColon, isNumber, noteIn, later, noteAt, noteValue, notesFrom, noteValues, inSlot, trickCards, cardsLines, tricksLines, playLines}
 use Rattle.writer.specs.Tags.{WrittenTag, tagOf, orEmpty, ifThere, seatText, vulnerability, resultText, firstSeat, dealValue, isNamed, named, firstValue, isExtra, extrasFrom, untilDeal, sinceDeal, beforeDeal, fromDeal, earlyExtras, lateExtras, dealerTags, headTags, tableTags, dealTags, noteTag, auctionTags, playTags, writtenTags}
-use Rattle.writer.specs.Remarks.{Anchored, anchoredFrom, directivesOf, blocksOf, those, isLeading, isUnder, tagUnwritten, wrote, dataLine, directiveLine, blockLine, directiveLines, blockLines, directivesAfter, blocksAfter, tagsLines, leadingLines, bodyLines}
+use Rattle.writer.specs.Remarks.{Anchored, anchoredFrom, directivesOf, blocksOf, those, isLeading, isUnder, tagUnwritten, goesAfter, wrote, dataLine, directiveLine, blockLine, directiveLines, blockLines, directivesAfter, blocksAfter, tagsLines, leadingLines, bodyLines}
 use Rattle.writer.specs.Pages.{ownPlay}
 use Rattle.demands.specs.PageBack.{all, isTrimmed, goodTag, goodIfThere, goodCall, callsOf, Writable, startsData, goodData, goodLine}
 use Rattle.demands.proofs.TrimmedDirectives.{all-append, PlainTrimmed}
@@ -573,14 +573,14 @@ module _ (c : Conventions) (ok : Accepted c) where
 
 -- ---- lines
 
-abbrev goodBytes : (List ℕ → Bool) → Anchored → Bool
+abbrev pub goodBytes : (List ℕ → Bool) → Anchored → Bool
 goodBytes p k = p (k .bytes)
 
-anchored-good : (p : List ℕ → Bool) (ts : List TagPair) (i : ℕ) (ks : List Remark) → all (λ k. p (k .bytes)) ks ≡ true → all (goodBytes p) (anchoredFrom ts i ks) ≡ true
+pub anchored-good : (p : List ℕ → Bool) (ts : List TagPair) (i : ℕ) (ks : List Remark) → all (λ k. p (k .bytes)) ks ≡ true → all (goodBytes p) (anchoredFrom ts i ks) ≡ true
 anchored-good p ts i [] e = refl
 anchored-good p ts i (k ∷ ks) e = let h = both (p (k .bytes)) (all (λ j. p (j .bytes)) ks) e in rw (h .0, anchored-good p ts (i + 1) ks (h .1))
 
-those-good : (p : Anchored → Bool) (t : Anchored → Bool) (ks : List Anchored) → all p ks ≡ true → all p (those t ks) ≡ true
+pub those-good : (p : Anchored → Bool) (t : Anchored → Bool) (ks : List Anchored) → all p ks ≡ true → all p (those t ks) ≡ true
 those-good p t [] e = refl
 those-good p t (k ∷ ks) e =
     let h = both (p k) (all p ks) e in
@@ -613,7 +613,7 @@ module _ (ds ks : List Anchored) (dg : all (goodBytes goodTrimmed) ds ≡ true) 
       let i = both (goodName (w .name) && goodValue (w .value)) (all goodData (w .lines)) (h .0) in
       rw (i .0)
       (all-append goodLine (map dataLine (w .lines)) _ (all-map goodLine dataLine (w .lines) (i .1))
-      (all-append goodLine (directivesAfter ds w) _ (directives-lined (isUnder (w .name)))
+      (all-append goodLine (directivesAfter ds (earlier ++ w ∷ ws) (length earlier)) _ (directives-lined (goesAfter (earlier ++ w ∷ ws) (length earlier)))
       (all-append goodLine (blocksAfter ks earlier w) _
       (chosen goodLine (wrote (w .name) earlier) [] (blockLines (those (isUnder (w .name)) ks)) refl (blocks-lined (isUnder (w .name))))
       (tags-lined (earlier ++ w ∷ []) ws (h .1)))))

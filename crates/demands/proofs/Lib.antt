@@ -1,5 +1,6 @@
 pub mod BoardWritable
 pub mod Cases
+pub mod DirectivesOnce
 pub mod FinishedBack
 pub mod FinishRefusing
 pub mod FinishedSlips

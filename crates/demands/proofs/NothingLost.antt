@@ -1,9 +1,9 @@
 -- Nothing of the editor's is lost: the proof of specs/NothingLost.antt.
-use Prim.Native.Nat.{ℕ, zero, suc, _≤_, _<_}
+use Prim.Native.Nat.{ℕ, _≤_, _<_}
 use mathlib.Core.Path.{_≡_, refl, ap, subst, _∙_}
 use mathlib.Core.Bool.{true, false}
 use mathlib.Core.List.{List, [], _∷_, _++_, append-assoc}
-use mathlib.Core.Option.{Option, some}
+use mathlib.Core.Option.{some}
 use native.Mathlib.Nat.{zero-add}
 use native.Mathlib.Omega.{arith}
 use lib.ListN.{length, getElem?}
@@ -13,24 +13,19 @@ use Rattle.tables.specs.declared.letters.Conventions.{Conventions}
 use Rattle.reader.specs.declared.board.TableCard.{TableCard}
 use Rattle.reader.specs.Words.{same}
 use Rattle.reader.specs.Plain.{Remark, PlainBoard, plainOf}
-use Rattle.reader.proofs.EntryLaws.{All, none as no-more, one}
+use Rattle.reader.proofs.EntryLaws.{All, one}
 use Rattle.reader.proofs.PlainAnchors.{Anchors, PlainAnchors}
 use Rattle.writer.specs.Tags.{WrittenTag, writtenTags}
-use Rattle.writer.specs.Remarks.{anchorOf, anchoredFrom, directivesOf, blocksOf, isLeading, isUnder, tagUnwritten, WrittenLine, tagLine, dataLine, directiveLine, blockLine, linesText, leadingLines, bodyLines, boardLines}
+use Rattle.writer.specs.Remarks.{anchoredFrom, directivesOf, blocksOf, isLeading, isUnder, tagUnwritten, goesAfter, WrittenLine, tagLine, dataLine, directiveLine, blockLine, linesText, leadingLines, bodyLines, boardLines}
 use Rattle.writer.specs.Pages.{bodyText, builtInHeader, pageHeader, firstPart, nextPart}
 use Rattle.writer.specs.Given.{withTable}
 use Rattle.writer.proofs.GroupTexts.{lines-join}
 use Rattle.writer.proofs.NamesOnce.{timesWritten, NamesOnce}
-use Rattle.demands.specs.NothingLost.{directive, block, lineOf, timesAnchored, untilTag, rankIn, NothingLost, NothingIsLost, ownLines, LinesOnPage}
-use Rattle.demands.proofs.LinesWritten.{until-remark, allLines, all-tags, Each, each-at}
-use Rattle.demands.proofs.RemarksCounted.{block-times, directive-alone, OnceUnder, each-once-all}
+use Rattle.demands.specs.NothingLost.{Kind, directive, block, remarksOf, lineOf, isRemarkLine, times, untilTag, rankIn, NothingLost, NothingIsLost, ownLines, LinesOnPage}
+use Rattle.demands.proofs.LinesWritten.{until-remark, allLines, all-named, Each, each-at}
+use Rattle.demands.proofs.RemarksCounted.{directive-times, block-times}
 use Rattle.demands.proofs.RemarksOrdered.{those-rise, Behind, Ordered, from-behind, from-ordered, Ranked, each-ordered-all}
-use Rattle.demands.proofs.RemarksPlaced.{anchor-last, Good, from-good, each-all, all-known, those-ranked, leading-kept, under-kept}
-
-all-remark : {P : Remark → Type 0} {rs : List Remark} → All P rs → (i : ℕ) (k : Remark) → getElem? rs i ≡ some k → P k
-all-remark no-more i k e = let z : _≡_ {A = ℕ} 0 1 = cc in absurd (omega arith)
-all-remark {P = P} (one {x = r} p a) zero k e = let same-remark : r ≡ k = cc in subst P same-remark p
-all-remark (one p a) (suc i) k e = all-remark a i k e
+use Rattle.demands.proofs.RemarksPlaced.{Good, from-good, each-all, all-known, those-ranked, leading-kept, under-kept, placed-kept}
 
 all-at : {P : WrittenLine → Type 0} (xs : List WrittenLine) (y : WrittenLine) (zs : List WrittenLine) → All P (xs ++ y ∷ zs) → P y
 all-at [] y zs (one p a) = p
@@ -55,7 +50,7 @@ nothing-lost b ws reached once-each =
     let rk = rankIn b L in
     let ranked : Ranked rk ws ds ks =
     record {
-      directives-under = λ n t. those-ranked b L ds ks ws refl directive (isUnder n) false (under-kept b L ds ks ws refl n t) hd;
+      directives-under = λ i h. those-ranked b L ds ks ws refl directive (goesAfter ws i) false (placed-kept b L ds ks ws refl i h) hd;
       blocks-are-under = λ n t. those-ranked b L ds ks ws refl block (isUnder n) false (under-kept b L ds ks ws refl n t) hk;
       directives-rise = λ t. those-rise t (b .tags) 0 (b .directives);
       blocks-rise = λ t. those-rise t (b .tags) 0 (b .blocks);
@@ -69,14 +64,8 @@ nothing-lost b ws reached once-each =
     (those-ranked b L ds ks ws refl directive (tagUnwritten ws) true (λ k u. u) hd) in
     record {
       placed = λ kind front back i x e. from-good b L kind i x front back (each-at front (lineOf kind i x) back (subst (Each (Good b L) []) e good));
-      block-once = λ i k h. block-times (b .tags) (b .blocks) ds ws i k h;
-      directive-each = λ front back n v i k h a e.
-          each-at front (tagLine n v) back (subst (Each (OnceUnder i (anchorOf (b .tags) (k .before))) []) e (each-once-all (b .tags) (b .directives) ks ws i k h))
-          (anchor-last (b .tags) (k .before) (all-remark (reached .directives-reached) i k h .reached) ∙ a);
-      directive-once = λ i k h z.
-          directive-alone (b .tags) (b .directives) ks ws i k h
-          (ap (λ (a : Option (List ℕ)). timesAnchored a L) (anchor-last (b .tags) (k .before) (all-remark (reached .directives-reached) i k h .reached)) ∙ z);
-      only-notes = λ n h. rw (all-tags n ds ks ws) (once-each n h);
+      once = counted;
+      only-notes = λ n h. rw (all-named n ds ks ws) (once-each n h);
       in-order = λ p q front between back i j x y e u.
           from-behind rk q (rk p i) i j y
           (all-at between (lineOf q j y) (untilTag back)
@@ -84,6 +73,11 @@ nothing-lost b ws reached once-each =
           (from-ordered rk p i x front (between ++ lineOf q j y ∷ back)
           (each-at front (lineOf p i x) (between ++ lineOf q j y ∷ back) (subst (Each (Ordered rk) []) e ordered)))));
     }
+  where
+    counted : (kind : Kind) (i : ℕ) (k : Remark) → getElem? (remarksOf kind b) i ≡ some k
+        → times (isRemarkLine kind i) (allLines (anchoredFrom (b .tags) 0 (b .directives)) (anchoredFrom (b .tags) 0 (b .blocks)) ws) ≡ 1
+    counted directive i k h = directive-times (b .tags) (b .directives) (anchoredFrom (b .tags) 0 (b .blocks)) ws i k h
+    counted block i k h = block-times (b .tags) (b .blocks) (anchoredFrom (b .tags) 0 (b .directives)) ws i k h
 
 with-any-table : (c : Conventions) (r : List ℕ) (t : TableCard) (play : List (List ℕ))
     → NothingLost (withTable t (plainOf c r)) (boardLines c (withTable t (plainOf c r)) play)

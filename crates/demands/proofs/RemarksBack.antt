@@ -8,7 +8,7 @@ use native.Mathlib.Nat.{add-zero}
 use native.Mathlib.Numerals.{add-one}
 use native.Mathlib.Omega.{arith}
 use lib.Dec.{eqb}
-use lib.ListN.{length, take, drop, length-append}
+use lib.ListN.{length, take, drop, getElem?, length-append}
 use lib.Seq.{append-snoc, take-append-le}
 use borrow.Author.Tests.{eqb-true, not-false}
 use Rattle.tables.specs.declared.letters.Conventions.{Conventions}
@@ -22,10 +22,10 @@ use Rattle.reader.specs.Records.{recordsOf}
 use Rattle.reader.specs.Plain.{TagPair, Remark, PlainBoard, blockValue, plainOf, plainBoards}
 use Rattle.reader.proofs.WordLaws.{and-false}
 use Rattle.writer.specs.Tags.{WrittenTag, writtenTags}
-use Rattle.writer.specs.Remarks.{Anchored, nameAt, anchorOf, anchoredFrom, directivesOf, blocksOf, those, isLeading, tagUnwritten, isUnder, wrote, WrittenLine, tagLine, dataLine, directiveLine, blockLine, directiveLines, blockLines, directivesAfter, blocksAfter, tagsLines, leadingLines, bodyLines, lineText, linesText}
+use Rattle.writer.specs.Remarks.{Anchored, anchorOf, anchoredFrom, directivesOf, blocksOf, those, isLeading, tagUnwritten, isUnder, wrote, goesAfter, WrittenLine, tagLine, dataLine, directiveLine, blockLine, directiveLines, blockLines, directivesAfter, blocksAfter, tagsLines, leadingLines, bodyLines, lineText, linesText}
 use Rattle.writer.specs.Pages.{ownPlay, bodyText, firstPart, pageText, writtenText}
 use Rattle.writer.specs.Given.{finishedBoards, finishedText}
-use Rattle.demands.specs.PageBack.{all, goodLine, isSigned, Shut, last, more, upToBrace, ReadsAs, tag, section, directive, comment, block, AllWritable, all-none, all-one, ownText, recordsAfter, tagsAsWritten, AnchoredBytes, anchoredBytes, Texts, asDirectives, asBlocks, blockText, commentText, under, allUnder, underTags, lastNameFrom, readBack, remarksBack, builtInBack, pageBack, RemarksRead, EditionRemarks, FinishedRemarks}
+use Rattle.demands.specs.PageBack.{all, goodLine, isSigned, Shut, last, more, upToBrace, ReadsAs, tag, section, directive, comment, block, AllWritable, all-none, all-one, ownText, recordsAfter, tagPair, tagsAsWritten, AnchoredBytes, anchoredBytes, Texts, asDirectives, asBlocks, blockText, commentText, under, allUnder, underTags, lastTagFrom, readBack, remarksBack, builtInBack, pageBack, RemarksRead, EditionRemarks, FinishedRemarks}
 use Rattle.reader.proofs.LineTags.{lineTags, lineDirectives, directivesOfLines, DirectivesOfLines, blockOn, innerBlock, lineBlocks, blockAfter, blocksOfLines, BlocksOfLines}
 use Rattle.demands.proofs.LineBack.{wrong, LineBack}
 use Rattle.demands.proofs.PageWalk.{GoodLines, line-then, headerLines, header-lines, header-good}
@@ -165,20 +165,20 @@ blocks-read = record { of-none = λ n. refl; of-blank = λ n r. rw (add-zero n, 
 
 -- ---- anchors
 
--- The name of the last tag line.
-abbrev nameAfter : Option (List ℕ) → WrittenLine → Option (List ℕ)
-nameAfter a (tagLine m v) = some m
-nameAfter a (dataLine d) = a
-nameAfter a (directiveLine i d) = a
-nameAfter a (blockLine i v) = a
+-- The tag of the last tag line.
+abbrev tagAfter : Option TagPair → WrittenLine → Option TagPair
+tagAfter a (tagLine m v) = some (record { name = m; value = v })
+tagAfter a (dataLine d) = a
+tagAfter a (directiveLine i d) = a
+tagAfter a (blockLine i v) = a
 
-abbrev nameBehind : Option (List ℕ) → List WrittenLine → Option (List ℕ)
-nameBehind a [] = a
-nameBehind a (l ∷ ls) = nameBehind (nameAfter a l) ls
+abbrev tagBehind : Option TagPair → List WrittenLine → Option TagPair
+tagBehind a [] = a
+tagBehind a (l ∷ ls) = tagBehind (tagAfter a l) ls
 
-name-append : (a : Option (List ℕ)) (xs ys : List WrittenLine) → nameBehind a (xs ++ ys) ≡ nameBehind (nameBehind a xs) ys
-name-append a [] ys = refl
-name-append a (x ∷ xs) ys = name-append (nameAfter a x) xs ys
+tag-append : (a : Option TagPair) (xs ys : List WrittenLine) → tagBehind a (xs ++ ys) ≡ tagBehind (tagBehind a xs) ys
+tag-append a [] ys = refl
+tag-append a (x ∷ xs) ys = tag-append (tagAfter a x) xs ys
 
 -- A remark's bytes and its anchor among the tags ts.
 abbrev placeIn : List TagPair → Remark → AnchoredBytes
@@ -188,28 +188,28 @@ anchored-places : (ts : List TagPair) (i : ℕ) (ks : List Remark) → map ancho
 anchored-places ts i [] = refl
 anchored-places ts i (k ∷ ks) = rw (anchored-places ts (i + 1) ks)
 
-remarked-places : (ts : List TagPair) (n : ℕ) (a : Option (List ℕ)) (xs : List (List ℕ)) → anchorOf ts n ≡ a → map (placeIn ts) (remarked n xs) ≡ under a xs
+remarked-places : (ts : List TagPair) (n : ℕ) (a : Option TagPair) (xs : List (List ℕ)) → anchorOf ts n ≡ a → map (placeIn ts) (remarked n xs) ≡ under a xs
 remarked-places ts n a [] e = refl
 remarked-places ts n a (x ∷ xs) e = rw (e, remarked-places ts n a xs e)
 
-name-behind : (pre : List TagPair) (p : TagPair) (q : List TagPair) → nameAt (pre ++ p ∷ q) (length pre) ≡ some (p .name)
-name-behind [] p q = refl
-name-behind (x ∷ xs) p q = name-behind xs p q
+tag-behind : (pre : List TagPair) (p : TagPair) (q : List TagPair) → getElem? (pre ++ p ∷ q) (length pre) ≡ some p
+tag-behind [] p q = refl
+tag-behind (x ∷ xs) p q = tag-behind xs p q
 
-abbrev placesAt : Texts → Option (List ℕ) → List WrittenLine → List AnchoredBytes
+abbrev placesAt : Texts → Option TagPair → List WrittenLine → List AnchoredBytes
 placesAt t a [] = []
-placesAt t a (l ∷ ls) = under a (textsOn t l) ++ placesAt t (nameAfter a l) ls
+placesAt t a (l ∷ ls) = under a (textsOn t l) ++ placesAt t (tagAfter a l) ls
 
 module _ (t : Texts) where
-  anchors-at : (ts pre post : List TagPair) (m : ℕ) (a : Option (List ℕ)) (ls : List WrittenLine) → ts ≡ pre ++ (pairsIn ls ++ post) → m ≡ length pre → anchorOf ts m ≡ a
+  anchors-at : (ts pre post : List TagPair) (m : ℕ) (a : Option TagPair) (ls : List WrittenLine) → ts ≡ pre ++ (pairsIn ls ++ post) → m ≡ length pre → anchorOf ts m ≡ a
       → map (placeIn ts) (remarksAt t m ls) ≡ placesAt t a ls
   anchors-at ts pre post m a [] e em ea = refl
   anchors-at ts pre post m a (tagLine n v ∷ ls) e em ea =
       let p : TagPair = record { name = n; value = v } in
       let e′ : ts ≡ (pre ++ p ∷ []) ++ (pairsIn ls ++ post) = e ∙ sym (append-snoc pre p (pairsIn ls ++ post)) in
       let em′ : m + 1 ≡ length (pre ++ p ∷ []) = simp length-append (omega arith) in
-      let ea′ : anchorOf ts (m + 1) ≡ some n = rw (add-one, e, em) (name-behind pre p (pairsIn ls ++ post)) in
-      anchors-at ts (pre ++ p ∷ []) post (m + 1) (some n) ls e′ em′ ea′
+      let ea′ : anchorOf ts (m + 1) ≡ some p = rw (add-one, e, em) (tag-behind pre p (pairsIn ls ++ post)) in
+      anchors-at ts (pre ++ p ∷ []) post (m + 1) (some p) ls e′ em′ ea′
   anchors-at ts pre post m a (dataLine d ∷ ls) e em ea = anchors-at ts pre post m a ls e em ea
   anchors-at ts pre post m a (directiveLine i d ∷ ls) e em ea =
       map-append (placeIn ts) (remarked m (t .of-directive d)) (remarksAt t m ls) ∙ rw (remarked-places ts m a (t .of-directive d) ea, anchors-at ts pre post m a ls e em ea)
@@ -218,63 +218,65 @@ module _ (t : Texts) where
 
   -- ---- the lines of a board
 
-  places-append : (a : Option (List ℕ)) (xs ys : List WrittenLine) → placesAt t a (xs ++ ys) ≡ placesAt t a xs ++ placesAt t (nameBehind a xs) ys
+  places-append : (a : Option TagPair) (xs ys : List WrittenLine) → placesAt t a (xs ++ ys) ≡ placesAt t a xs ++ placesAt t (tagBehind a xs) ys
   places-append a [] ys = refl
   places-append a (x ∷ xs) ys =
-      rw (places-append (nameAfter a x) xs ys) (sym (append-assoc (under a (textsOn t x)) (placesAt t (nameAfter a x) xs) (placesAt t (nameBehind (nameAfter a x) xs) ys)))
+      rw (places-append (tagAfter a x) xs ys) (sym (append-assoc (under a (textsOn t x)) (placesAt t (tagAfter a x) xs) (placesAt t (tagBehind (tagAfter a x) xs) ys)))
 
   -- Lines of one group, under the anchor a: what they give, and no tag among them.
-  record Group (a : Option (List ℕ)) (ls : List WrittenLine) (ps : List AnchoredBytes) : Type 0 where
+  record Group (a : Option TagPair) (ls : List WrittenLine) (ps : List AnchoredBytes) : Type 0 where
     gives : placesAt t a ls ≡ ps
-    same-name : nameBehind a ls ≡ a
+    same-tag : tagBehind a ls ≡ a
 
-  group-then : {a : Option (List ℕ)} {xs : List WrittenLine} {ps : List AnchoredBytes} (ys : List WrittenLine) → Group a xs ps → placesAt t a (xs ++ ys) ≡ ps ++ placesAt t a ys
-  group-then {a} {xs} {ps} ys g = rw (places-append a xs ys, g .gives, g .same-name)
+  group-then : {a : Option TagPair} {xs : List WrittenLine} {ps : List AnchoredBytes} (ys : List WrittenLine) → Group a xs ps → placesAt t a (xs ++ ys) ≡ ps ++ placesAt t a ys
+  group-then {a} {xs} {ps} ys g = rw (places-append a xs ys, g .gives, g .same-tag)
 
-  group-name : {a : Option (List ℕ)} {xs : List WrittenLine} {ps : List AnchoredBytes} (ys : List WrittenLine) → Group a xs ps → nameBehind a (xs ++ ys) ≡ nameBehind a ys
-  group-name {a} {xs} {ps} ys g = rw (name-append a xs ys, g .same-name)
+  group-tag : {a : Option TagPair} {xs : List WrittenLine} {ps : List AnchoredBytes} (ys : List WrittenLine) → Group a xs ps → tagBehind a (xs ++ ys) ≡ tagBehind a ys
+  group-tag {a} {xs} {ps} ys g = rw (tag-append a xs ys, g .same-tag)
 
-  data-group : (a : Option (List ℕ)) (ds : List (List ℕ)) → Group a (map dataLine ds) []
-  data-group a [] = record { gives = refl; same-name = refl }
-  data-group a (d ∷ ds) = let h = data-group a ds in record { gives = h .gives; same-name = h .same-name }
+  data-group : (a : Option TagPair) (ds : List (List ℕ)) → Group a (map dataLine ds) []
+  data-group a [] = record { gives = refl; same-tag = refl }
+  data-group a (d ∷ ds) = let h = data-group a ds in record { gives = h .gives; same-tag = h .same-tag }
 
-  directives-group : (a : Option (List ℕ)) (ks : List Anchored) → Group a (directiveLines ks) (allUnder (t .of-directive) a ks)
-  directives-group a [] = record { gives = refl; same-name = refl }
-  directives-group a (k ∷ ks) = let h = directives-group a ks in record { gives = rw (h .gives); same-name = h .same-name }
+  directives-group : (a : Option TagPair) (ks : List Anchored) → Group a (directiveLines ks) (allUnder (t .of-directive) a ks)
+  directives-group a [] = record { gives = refl; same-tag = refl }
+  directives-group a (k ∷ ks) = let h = directives-group a ks in record { gives = rw (h .gives); same-tag = h .same-tag }
 
-  blocks-group : (a : Option (List ℕ)) (ks : List Anchored) → Group a (blockLines ks) (allUnder (t .of-block) a ks)
-  blocks-group a [] = record { gives = refl; same-name = refl }
-  blocks-group a (k ∷ ks) = let h = blocks-group a ks in record { gives = rw (h .gives); same-name = h .same-name }
+  blocks-group : (a : Option TagPair) (ks : List Anchored) → Group a (blockLines ks) (allUnder (t .of-block) a ks)
+  blocks-group a [] = record { gives = refl; same-tag = refl }
+  blocks-group a (k ∷ ks) = let h = blocks-group a ks in record { gives = rw (h .gives); same-tag = h .same-tag }
 
-  after-group : (a : Option (List ℕ)) (ks : List Anchored) (earlier : List WrittenTag) (w : WrittenTag)
+  after-group : (a : Option TagPair) (ks : List Anchored) (earlier : List WrittenTag) (w : WrittenTag)
       → Group a (blocksAfter ks earlier w) (cond (wrote (w .name) earlier) [] (allUnder (t .of-block) a (those (isUnder (w .name)) ks)))
   unfolding blocksAfter
   after-group a ks earlier w = by (wrote (w .name) earlier)
     where
       by : (s : Bool) → Group a (cond s [] (blockLines (those (isUnder (w .name)) ks))) (cond s [] (allUnder (t .of-block) a (those (isUnder (w .name)) ks)))
-      by true = record { gives = refl; same-name = refl }
+      by true = record { gives = refl; same-tag = refl }
       by false = blocks-group a (those (isUnder (w .name)) ks)
 
   module _ (ds ks : List Anchored) where
-    tags-name : (a : Option (List ℕ)) (earlier ws : List WrittenTag) → nameBehind a (tagsLines ds ks earlier ws) ≡ lastNameFrom a ws
+    last-tag : (a : Option TagPair) (earlier ws : List WrittenTag) → tagBehind a (tagsLines ds ks earlier ws) ≡ lastTagFrom a ws
     unfolding directivesAfter
-    tags-name a earlier [] = refl
-    tags-name a earlier (w ∷ ws) =
-        let b = some (w .name) in
+    last-tag a earlier [] = refl
+    last-tag a earlier (w ∷ ws) =
+        let b = some (tagPair w) in
+        let here = directivesAfter ds (earlier ++ w ∷ ws) (length earlier) in
         let rest = tagsLines ds ks (earlier ++ w ∷ []) ws in
-        group-name (directivesAfter ds w ++ (blocksAfter ks earlier w ++ rest)) (data-group b (w .lines))
-        ∙ group-name (blocksAfter ks earlier w ++ rest) (directives-group b (those (isUnder (w .name)) ds))
-        ∙ group-name rest (after-group b ks earlier w)
-        ∙ tags-name b (earlier ++ w ∷ []) ws
+        group-tag (here ++ (blocksAfter ks earlier w ++ rest)) (data-group b (w .lines))
+        ∙ group-tag (blocksAfter ks earlier w ++ rest) (directives-group b (those (goesAfter (earlier ++ w ∷ ws) (length earlier)) ds))
+        ∙ group-tag rest (after-group b ks earlier w)
+        ∙ last-tag b (earlier ++ w ∷ []) ws
 
-    tags-places : (a : Option (List ℕ)) (earlier ws : List WrittenTag) → placesAt t a (tagsLines ds ks earlier ws) ≡ underTags t ds ks earlier ws
+    tags-places : (a : Option TagPair) (earlier ws : List WrittenTag) → placesAt t a (tagsLines ds ks earlier ws) ≡ underTags t ds ks earlier ws
     unfolding directivesAfter
     tags-places a earlier [] = refl
     tags-places a earlier (w ∷ ws) =
-        let b = some (w .name) in
+        let b = some (tagPair w) in
+        let here = directivesAfter ds (earlier ++ w ∷ ws) (length earlier) in
         let rest = tagsLines ds ks (earlier ++ w ∷ []) ws in
-        group-then (directivesAfter ds w ++ (blocksAfter ks earlier w ++ rest)) (data-group b (w .lines))
-        ∙ group-then (blocksAfter ks earlier w ++ rest) (directives-group b (those (isUnder (w .name)) ds))
+        group-then (here ++ (blocksAfter ks earlier w ++ rest)) (data-group b (w .lines))
+        ∙ group-then (blocksAfter ks earlier w ++ rest) (directives-group b (those (goesAfter (earlier ++ w ∷ ws) (length earlier)) ds))
         ∙ rw (group-then rest (after-group b ks earlier w), tags-places b (earlier ++ w ∷ []) ws)
 
   leading-places : (b : PlainBoard) → placesAt t none (leadingLines b) ≡ allUnder (t .of-directive) none (those isLeading (directivesOf b))
@@ -290,13 +292,13 @@ module _ (t : Texts) where
   body-places b ws =
       let ds = directivesOf b in
       let ks = blocksOf b in
-      let a = lastNameFrom none ws in
+      let a = lastTagFrom none ws in
       let lost = blockLines (those (tagUnwritten ws) ks) ++ directiveLines (those (tagUnwritten ws) ds) in
       ap (λ (x : List AnchoredBytes). allUnder (t .of-directive) none (those isLeading ds) ++ x)
       (group-then (tagsLines ds ks [] ws ++ lost) (blocks-group none (those isLeading ks))
       ∙ ap (λ (x : List AnchoredBytes). allUnder (t .of-block) none (those isLeading ks) ++ x)
       (places-append none (tagsLines ds ks [] ws) lost
-      ∙ rw (tags-places ds ks none [] ws, tags-name ds ks none [] ws, group-then (directiveLines (those (tagUnwritten ws) ds)) (blocks-group a (those (tagUnwritten ws) ks)), directives-group a (those (tagUnwritten ws) ds) .gives)))
+      ∙ rw (tags-places ds ks none [] ws, last-tag ds ks none [] ws, group-then (directiveLines (those (tagUnwritten ws) ds)) (blocks-group a (those (tagUnwritten ws) ks)), directives-group a (those (tagUnwritten ws) ds) .gives)))
 
   -- Lines hs without tags, then the lines of a board's body, whose tags are ts.
   lines-places : (ts : List TagPair) (hs ls : List WrittenLine) → pairsIn hs ≡ [] → ts ≡ pairsIn ls → map (placeIn ts) (remarksAt t 0 hs ++ remarksAt t 0 ls) ≡ placesAt t none hs ++ placesAt t none ls

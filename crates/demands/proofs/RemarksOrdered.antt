@@ -4,14 +4,16 @@ use mathlib.Core.Path.{_≡_, sym, subst}
 use mathlib.Core.Bool.{Bool, true, or-true}
 use mathlib.Core.List.{List, [], _∷_, _++_, map, append-nil, append-assoc}
 use native.Mathlib.Omega.{arith}
+use lib.ListN.{length, length-append}
 use Rattle.tables.proofs.Laws.{by-cases}
 use Rattle.reader.specs.Plain.{TagPair, Remark}
 use Rattle.reader.proofs.WordLaws.{same-self}
 use Rattle.reader.proofs.EntryLaws.{All, none as no-more, one, all-append, all-map}
 use Rattle.writer.specs.Tags.{WrittenTag}
-use Rattle.writer.specs.Remarks.{Anchored, anchoredFrom, those, isLeading, isUnder, wrote, tagUnwritten, WrittenLine, tagLine, dataLine, directiveLine, blockLine, tagsLines}
+use Rattle.writer.specs.Remarks.{Anchored, anchoredFrom, those, isLeading, isUnder, wrote, tagUnwritten, goesAfter, WrittenLine, tagLine, dataLine, directiveLine, blockLine, tagsLines}
+use Rattle.writer.proofs.GroupLines.{wrote-append}
 use Rattle.demands.specs.NothingLost.{Kind, directive, block, lineOf, untilTag, InOrder, by-rank, as-met}
-use Rattle.demands.proofs.LinesWritten.{remarkLines, blocksUnder, tag-lines, allLines, until-remarks, numbered, Each, ended, next, each-quiet, each-end, all-data, all-until}
+use Rattle.demands.proofs.LinesWritten.{remarkLines, directivesUnder, blocksUnder, tag-lines, allLines, until-remarks, numbered, Each, ended, next, each-quiet, each-end, all-data, all-until}
 
 -- Numbers rise.
 pub data Rising : List Anchored → Type 0 where
@@ -111,32 +113,24 @@ module _ (rk : Kind → ℕ → ℕ) where
 
   -- The ranks of remarks, and their numbers, in the lines of a board whose written tags are ws.
   pub record Ranked (ws : List WrittenTag) (ds ks : List Anchored) : Type 0 where
-    pub directives-under : (n : List ℕ) → wrote n ws ≡ true → All (λ k. rk directive (k .number) ≡ 0) (those (isUnder n) ds)
+    pub directives-under : (k : ℕ) → k < length ws → All (λ d. rk directive (d .number) ≡ 0) (those (goesAfter ws k) ds)
     pub blocks-are-under : (n : List ℕ) → wrote n ws ≡ true → All (λ k. rk block (k .number) ≡ 1) (those (isUnder n) ks)
     pub directives-rise : (t : Anchored → Bool) → Rising (those t ds)
     pub blocks-rise : (t : Anchored → Bool) → Rising (those t ks)
 
-  fewer : {ws : List WrittenTag} {ds ks : List Anchored} (w : WrittenTag) → Ranked (w ∷ ws) ds ks → Ranked ws ds ks
-  fewer w r =
-      record {
-        directives-under = λ n t. r .directives-under n (rw (t, or-true));
-        blocks-are-under = λ n t. r .blocks-are-under n (rw (t, or-true));
-        directives-rise = r .directives-rise;
-        blocks-rise = r .blocks-rise;
-      }
-
-  each-ordered-tags : (ds ks : List Anchored) (earlier ws : List WrittenTag) (f ys : List WrittenLine) → Ranked ws ds ks → All (Higher 1) (untilTag ys)
+  each-ordered-tags : (ds ks : List Anchored) (earlier ws : List WrittenTag) (f ys : List WrittenLine) → Ranked (earlier ++ ws) ds ks → All (Higher 1) (untilTag ys)
       → Each Ordered (f ++ tagsLines ds ks earlier ws) ys → Each Ordered f (tagsLines ds ks earlier ws ++ ys)
   each-ordered-tags ds ks earlier [] f ys r h e = subst (λ (g : List WrittenLine). Each Ordered g ys) (append-nil f) e
   each-ordered-tags ds ks earlier (w ∷ ws) f ys r h e =
       let n = w .name in
       let tag = tagLine n (w .value) in
       let D = map dataLine (w .lines) in
-      let R = remarkLines directive (those (isUnder n) ds) in
+      let R = remarkLines directive (directivesUnder ds earlier w ws) in
       let under-ks = blocksUnder ks earlier w in
       let B = remarkLines block under-ks in
       let T = tagsLines ds ks (earlier ++ w ∷ []) ws in
-      let here : wrote n (w ∷ ws) ≡ true = rw (same-self n) in
+      let here : wrote n (earlier ++ w ∷ ws) ≡ true = rw (wrote-append n earlier (w ∷ ws), same-self n, or-true) in
+      let inside : length earlier < length (earlier ++ w ∷ ws) = simp length-append (omega arith) in
       let ranks : All (λ k. rk block (k .number) ≡ 1) under-ks = by-cases (wrote n earlier) (λ x. rw x no-more) (λ x. rw x (r .blocks-are-under n here)) in
       let rises : Rising under-ks = by-cases (wrote n earlier) (λ x. rw x no-rise) (λ x. rw x (r .blocks-rise (isUnder n))) in
       let soon = soon-higher 1 ds ks (earlier ++ w ∷ []) ws ys h in
@@ -147,9 +141,9 @@ module _ (rk : Kind → ℕ → ℕ) where
       (simp append-assoc
       (next tt
       (each-quiet (f ++ tag ∷ []) (R ++ (B ++ (T ++ ys))) (all-data (w .lines) (λ d g back. tt))
-      (each-ordered directive 0 (f ++ tag ∷ [] ++ D) (B ++ (T ++ ys)) (r .directives-under n here) (r .directives-rise (isUnder n)) above-directives
+      (each-ordered directive 0 (f ++ tag ∷ [] ++ D) (B ++ (T ++ ys)) (r .directives-under (length earlier) inside) (r .directives-rise (goesAfter (earlier ++ w ∷ ws) (length earlier))) above-directives
       (each-ordered block 1 (f ++ tag ∷ [] ++ D ++ R) (T ++ ys) ranks rises soon
-      (each-ordered-tags ds ks (earlier ++ w ∷ []) ws (f ++ tag ∷ [] ++ D ++ R ++ B) ys (fewer w r) h
+      (each-ordered-tags ds ks (earlier ++ w ∷ []) ws (f ++ tag ∷ [] ++ D ++ R ++ B) ys (rw append-assoc r) h
       (simp append-assoc (subst (λ (X : List WrittenLine). Each Ordered (f ++ X) ys) (tag-lines ds ks earlier ws w) e))))))))
 
   pub each-ordered-all : (ds ks : List Anchored) (ws : List WrittenTag) → Ranked ws ds ks

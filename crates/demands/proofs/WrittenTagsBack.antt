@@ -3,6 +3,7 @@ use Prim.Native.Nat.{ℕ}
 use mathlib.Core.Path.{_≡_, refl, sym, ap, _∙_}
 use mathlib.Core.Bool.{Bool, true, false, cond}
 use mathlib.Core.List.{List, [], _∷_, _++_, append-assoc, append-nil, map}
+use lib.ListN.{length}
 use Rattle.tables.specs.declared.letters.Conventions.{Conventions}
 use Rattle.tables.specs.Text.{isWhite, trimmed}
 use Rattle.tables.specs.Letters.{Accepted}
@@ -13,7 +14,7 @@ use Rattle.reader.specs.Sections.{commentaryAfter}
 use Rattle.reader.specs.Records.{recordsOf}
 use Rattle.reader.specs.Plain.{TagPair, PlainBoard, plainOf, plainBoards}
 use Rattle.writer.specs.Tags.{WrittenTag, writtenTags}
-use Rattle.writer.specs.Remarks.{Anchored, directivesOf, blocksOf, those, isLeading, tagUnwritten, isUnder, wrote, WrittenLine, tagLine, dataLine, directiveLine, blockLine, directiveLines, blockLines, directivesAfter, blocksAfter, tagsLines, leadingLines, bodyLines, lineText, linesText}
+use Rattle.writer.specs.Remarks.{Anchored, directivesOf, blocksOf, those, isLeading, tagUnwritten, isUnder, wrote, goesAfter, WrittenLine, tagLine, dataLine, directiveLine, blockLine, directiveLines, blockLines, directivesAfter, blocksAfter, tagsLines, leadingLines, bodyLines, lineText, linesText}
 use Rattle.writer.specs.Pages.{ownPlay, bodyText, pageHeader, firstPart, pageText, writtenText}
 use Rattle.writer.specs.Given.{finishedBoards, finishedText}
 use Rattle.demands.specs.PageBack.{all, goodLine, Shut, last, more, ReadsAs, tag, section, directive, comment, block, Writable, AllWritable, all-none, all-one, ownText, recordsAfter, tagPair, tagsAsWritten, EditionTags, FinishedTags}
@@ -73,15 +74,16 @@ no-directive-pairs ks = no-pairs (λ (k : Anchored). directiveLine (k .number) (
 no-block-pairs : (ks : List Anchored) → pairsIn (blockLines ks) ≡ []
 no-block-pairs ks = no-pairs (λ (k : Anchored). blockLine (k .number) (k .bytes)) (λ k. refl) ks
 
-after-pairs : (ds ks : List Anchored) (earlier : List WrittenTag) (w : WrittenTag) (ls : List WrittenLine)
-    → pairsIn (map dataLine (w .lines) ++ (directivesAfter ds w ++ (blocksAfter ks earlier w ++ ls))) ≡ pairsIn ls
+after-pairs : (ds ks : List Anchored) (earlier : List WrittenTag) (w : WrittenTag) (ws : List WrittenTag) (ls : List WrittenLine)
+    → pairsIn (map dataLine (w .lines) ++ (directivesAfter ds ws (length earlier) ++ (blocksAfter ks earlier w ++ ls))) ≡ pairsIn ls
 unfolding directivesAfter blocksAfter
-after-pairs ds ks earlier w ls =
+after-pairs ds ks earlier w ws ls =
+    let here = directivesAfter ds ws (length earlier) in
     rw (
-      pairs-append (map dataLine (w .lines)) (directivesAfter ds w ++ (blocksAfter ks earlier w ++ ls)),
+      pairs-append (map dataLine (w .lines)) (here ++ (blocksAfter ks earlier w ++ ls)),
       no-pairs dataLine (λ d. refl) (w .lines),
-      pairs-append (directivesAfter ds w) (blocksAfter ks earlier w ++ ls),
-      no-directive-pairs (those (isUnder (w .name)) ds),
+      pairs-append here (blocksAfter ks earlier w ++ ls),
+      no-directive-pairs (those (goesAfter ws (length earlier)) ds),
       pairs-append (blocksAfter ks earlier w) ls,
       blocks (wrote (w .name) earlier),
     )
@@ -93,7 +95,8 @@ after-pairs ds ks earlier w ls =
 tags-pairs : (ds ks : List Anchored) (earlier ws : List WrittenTag) → pairsIn (tagsLines ds ks earlier ws) ≡ map tagPair ws
 tags-pairs ds ks earlier [] = refl
 tags-pairs ds ks earlier (w ∷ ws) =
-    ap (λ (x : List TagPair). tagPair w ∷ x) (after-pairs ds ks earlier w (tagsLines ds ks (earlier ++ w ∷ []) ws) ∙ tags-pairs ds ks (earlier ++ w ∷ []) ws)
+    ap (λ (x : List TagPair). tagPair w ∷ x)
+    (after-pairs ds ks earlier w (earlier ++ w ∷ ws) (tagsLines ds ks (earlier ++ w ∷ []) ws) ∙ tags-pairs ds ks (earlier ++ w ∷ []) ws)
 
 pub leading-pairs : (b : PlainBoard) → pairsIn (leadingLines b) ≡ []
 unfolding leadingLines

@@ -2,6 +2,7 @@ pub mod Boards
 pub mod Cases
 pub mod Demand1
 pub mod Demand3
+pub mod DirectivesOnce
 pub mod Finished
 pub mod Lin
 pub mod LinSteps

@@ -3,9 +3,9 @@
 --
 -- A line is a tag, a data line of its section, or a directive or block with its number among the board's, from 0. So what is counted
 -- is remarks, not equal bytes. proofs/NothingLost.antt proves it of every board that is read, written with its own table or with another.
-use Prim.Native.Nat.{ℕ, zero, suc, _+_, _≤_, _<_}
+use Prim.Native.Nat.{ℕ, _+_, _≤_, _<_}
 use mathlib.Core.Path.{_≡_}
-use mathlib.Core.Bool.{Bool, true, false, cond}
+use mathlib.Core.Bool.{Bool, true, false, cond, _&&_}
 use mathlib.Core.List.{List, [], _∷_, _++_}
 use mathlib.Core.Option.{Option, none, some}
 use lib.Dec.{eqb}
@@ -30,14 +30,14 @@ abbrev pub remarksOf : Kind → PlainBoard → List Remark
 remarksOf directive b = b .directives
 remarksOf block b = b .blocks
 
--- The anchor of a remark: the name of the last of the tags before it, or none.
-abbrev pub lastName : List TagPair → Option (List ℕ)
-lastName [] = none
-lastName (t ∷ []) = some (t .name)
-lastName (t ∷ u ∷ ts) = lastName (u ∷ ts)
+-- The anchor of a remark: the last of the tags before it, or none.
+abbrev pub lastOf : List TagPair → Option TagPair
+lastOf [] = none
+lastOf (t ∷ []) = some t
+lastOf (t ∷ u ∷ ts) = lastOf (u ∷ ts)
 
-abbrev pub anchorIn : PlainBoard → Remark → Option (List ℕ)
-anchorIn b k = lastName (take (k .before) (b .tags))
+abbrev pub anchorIn : PlainBoard → Remark → Option TagPair
+anchorIn b k = lastOf (take (k .before) (b .tags))
 
 -- ---- lines
 
@@ -63,6 +63,19 @@ isTag n (dataLine d) = false
 isTag n (directiveLine i x) = false
 isTag n (blockLine i x) = false
 
+-- The tag t: its name and its value.
+abbrev pub isTagOf : TagPair → WrittenLine → Bool
+isTagOf t (tagLine m v) = same (t .name) m && same (t .value) v
+isTagOf t (dataLine d) = false
+isTagOf t (directiveLine i x) = false
+isTagOf t (blockLine i x) = false
+
+abbrev pub isBlockLine : WrittenLine → Bool
+isBlockLine (tagLine m v) = false
+isBlockLine (dataLine d) = false
+isBlockLine (directiveLine i x) = false
+isBlockLine (blockLine i x) = true
+
 abbrev pub isData : WrittenLine → Bool
 isData (tagLine m v) = false
 isData (dataLine d) = true
@@ -80,20 +93,15 @@ abbrev pub times : (WrittenLine → Bool) → List WrittenLine → ℕ
 times p [] = 0
 times p (l ∷ ls) = cond (p l) 1 0 + times p ls
 
--- How many tags are written of the name of an anchor.
-abbrev pub timesAnchored : Option (List ℕ) → List WrittenLine → ℕ
-timesAnchored none ls = 0
-timesAnchored (some n) ls = times (isTag n) ls
+-- The tag of the last tag line, o where there is none.
+abbrev pub lastTagAfter : Option TagPair → List WrittenLine → Option TagPair
+lastTagAfter o [] = o
+lastTagAfter o (tagLine m v ∷ ls) = lastTagAfter (some (record { name = m; value = v })) ls
+lastTagAfter o (dataLine d ∷ ls) = lastTagAfter o ls
+lastTagAfter o (directiveLine i x ∷ ls) = lastTagAfter o ls
+lastTagAfter o (blockLine i x ∷ ls) = lastTagAfter o ls
 
--- The name of the last tag line, n where there is none.
-abbrev pub lastTagAfter : Option (List ℕ) → List WrittenLine → Option (List ℕ)
-lastTagAfter n [] = n
-lastTagAfter n (tagLine m v ∷ ls) = lastTagAfter (some m) ls
-lastTagAfter n (dataLine d ∷ ls) = lastTagAfter n ls
-lastTagAfter n (directiveLine i x ∷ ls) = lastTagAfter n ls
-lastTagAfter n (blockLine i x ∷ ls) = lastTagAfter n ls
-
-abbrev pub lastTag : List WrittenLine → Option (List ℕ)
+abbrev pub lastTag : List WrittenLine → Option TagPair
 lastTag ls = lastTagAfter none ls
 
 -- The lines up to the next tag line.
@@ -108,13 +116,19 @@ untilTag (blockLine i x ∷ ls) = blockLine i x ∷ untilTag ls
 
 -- The line of a remark in the lines ls of a board, between front and back, by its anchor.
 --   above: no tag before it on the board. It stands above every tag and every data line.
---   under: the last tag line above it has its anchor's name, and it stands behind that tag's data lines; a block under the first such tag.
---   behind: no tag of its anchor's name is written. It stands behind all tags and data lines.
-pub data Place (ls front back : List WrittenLine) (kind : Kind) : Option (List ℕ) → Type 0 where
+--   by-value: a directive. The last tag line above it has its anchor's name and value, is the first that has both, and its data lines stand
+--     above.
+--   by-name: the last tag line above it is the first of its anchor's name, and its data lines stand above. For a directive, no tag line has
+--     the anchor's name and value.
+--   behind: no tag of its anchor's name is written. It stands behind all tags and data lines, a directive behind all blocks too.
+pub data Place (ls front back : List WrittenLine) (kind : Kind) : Option TagPair → Type 0 where
   above : times isTagOrData front ≡ 0 → Place ls front back kind none
-  under : {n : List ℕ} → lastTag front ≡ some n → times isData (untilTag back) ≡ 0 → (kind ≡ block → times (isTag n) front ≡ 1)
-      → Place ls front back kind (some n)
-  behind : {n : List ℕ} → times (isTag n) ls ≡ 0 → times isTagOrData back ≡ 0 → Place ls front back kind (some n)
+  by-value : {t : TagPair} → kind ≡ directive → lastTag front ≡ some t → times (isTagOf t) front ≡ 1 → times isData (untilTag back) ≡ 0
+      → Place ls front back kind (some t)
+  by-name : {t u : TagPair} → (kind ≡ directive → times (isTagOf t) ls ≡ 0) → lastTag front ≡ some u → u .name ≡ t .name → times (isTag (t .name)) front ≡ 1
+      → times isData (untilTag back) ≡ 0 → Place ls front back kind (some t)
+  behind : {t : TagPair} → times (isTag (t .name)) ls ≡ 0 → times isTagOrData back ≡ 0 → (kind ≡ directive → times isBlockLine back ≡ 0)
+      → Place ls front back kind (some t)
 
 -- The line between front and back, of the number i and the bytes x, is that of a remark of the board, and stands where it should.
 pub record StandsRight (b : PlainBoard) (ls : List WrittenLine) (kind : Kind) (i : ℕ) (x : List ℕ) (front back : List WrittenLine) : Type 0 where
@@ -126,9 +140,9 @@ pub record StandsRight (b : PlainBoard) (ls : List WrittenLine) (kind : Kind) (i
 -- ---- the order at a place
 
 -- No tag of its anchor's name is written, so that it stands at the end.
-abbrev pub isUnwritten : List WrittenLine → Option (List ℕ) → Bool
+abbrev pub isUnwritten : List WrittenLine → Option TagPair → Bool
 isUnwritten ls none = false
-isUnwritten ls (some n) = eqb (times (isTag n) ls) 0
+isUnwritten ls (some t) = eqb (times (isTag (t .name)) ls) 0
 
 abbrev pub isAtEnd : PlainBoard → List WrittenLine → Option Remark → Bool
 isAtEnd b ls none = false
@@ -152,13 +166,8 @@ pub data InOrder (r i s j : ℕ) : Type 0 where
 pub record NothingLost (b : PlainBoard) (ls : List WrittenLine) : Type 0 where
   -- Every line of a remark is that of one of the board's, and stands beside its tag.
   pub placed : (kind : Kind) (front back : List WrittenLine) (i : ℕ) (x : List ℕ) → ls ≡ front ++ lineOf kind i x ∷ back → StandsRight b ls kind i x front back
-  -- Every block is written once.
-  pub block-once : (i : ℕ) (k : Remark) → getElem? (b .blocks) i ≡ some k → times (isRemarkLine block i) ls ≡ 1
-  -- Every directive is written once under each tag of its anchor's name, and once where there is no such tag.
-  pub directive-each : (front back : List WrittenLine) (n v : List ℕ) (i : ℕ) (k : Remark) → getElem? (b .directives) i ≡ some k
-      → anchorIn b k ≡ some n → ls ≡ front ++ tagLine n v ∷ back → times (isRemarkLine directive i) (untilTag back) ≡ 1
-  pub directive-once : (i : ℕ) (k : Remark) → getElem? (b .directives) i ≡ some k → timesAnchored (anchorIn b k) ls ≡ 0
-      → times (isRemarkLine directive i) ls ≡ 1
+  -- Every directive and every block is written once.
+  pub once : (kind : Kind) (i : ℕ) (k : Remark) → getElem? (remarksOf kind b) i ≡ some k → times (isRemarkLine kind i) ls ≡ 1
   -- Only Note is the name of several tags.
   pub only-notes : (n : List ℕ) → same (ascii "Note") n ≡ false → times (isTag n) ls ≤ 1
   -- Two remarks with no tag line between them stand in order.

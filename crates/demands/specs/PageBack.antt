@@ -21,7 +21,7 @@ use Rattle.reader.specs.Words.{same}
 use Rattle.reader.specs.Records.{recordsOf}
 use Rattle.reader.specs.Plain.{TagPair, PlainCall, PlainAuction, PlainBoard, plainOf, plainBoards, plainList, withoutReturns, goodDirective, goodBlock}
 use Rattle.writer.specs.Tags.{WrittenTag, writtenTags}
-use Rattle.writer.specs.Remarks.{Anchored, directivesOf, blocksOf, those, isLeading, isUnder, wrote, tagUnwritten, WrittenLine, tagLine, dataLine, directiveLine, blockLine, linesText, leadingLines}
+use Rattle.writer.specs.Remarks.{Anchored, directivesOf, blocksOf, those, isLeading, isUnder, wrote, tagUnwritten, goesAfter, WrittenLine, tagLine, dataLine, directiveLine, blockLine, linesText, leadingLines}
 use Rattle.writer.specs.Pages.{ownPlay, bodyText, firstPart, writtenText}
 use Rattle.writer.specs.Given.{finishedBoards, finishedText}
 
@@ -141,9 +141,9 @@ tagsAsWritten c b = map tagPair (writtenTags c b (ownPlay c (b .play)))
 
 -- ---- the directives and the blocks of a record
 
--- The bytes of a remark and its anchor, which is the name of the last tag before it.
+-- The bytes of a remark and its anchor, the last tag before it.
 abbrev pub AnchoredBytes : Type 0
-AnchoredBytes = List ℕ × Option (List ℕ)
+AnchoredBytes = List ℕ × Option TagPair
 
 abbrev pub anchoredBytes : Anchored → AnchoredBytes
 anchoredBytes k = (k .bytes, k .anchor)
@@ -169,36 +169,36 @@ abbrev pub asBlocks : Texts
 asBlocks = record { of-directive = λ d. cond (isSigned d) [] (blockText (commentText d)); of-block = blockText }
 
 -- Under the anchor a.
-abbrev pub under : Option (List ℕ) → List (List ℕ) → List AnchoredBytes
+abbrev pub under : Option TagPair → List (List ℕ) → List AnchoredBytes
 under a [] = []
 under a (x ∷ xs) = (x, a) ∷ under a xs
 
-abbrev pub allUnder : (List ℕ → List (List ℕ)) → Option (List ℕ) → List Anchored → List AnchoredBytes
+abbrev pub allUnder : (List ℕ → List (List ℕ)) → Option TagPair → List Anchored → List AnchoredBytes
 allUnder f a [] = []
 allUnder f a (k ∷ ks) = under a (f (k .bytes)) ++ allUnder f a ks
 
--- Under each written tag the directives of its name, and under the first of a name the blocks; earlier are the tags written before.
+-- Under each written tag the directives that go there, and under the first of a name the blocks; earlier are the tags written before.
 abbrev pub underTags : Texts → List Anchored → List Anchored → List WrittenTag → List WrittenTag → List AnchoredBytes
 underTags t ds ks earlier [] = []
 underTags t ds ks earlier (w ∷ ws) =
-    allUnder (t .of-directive) (some (w .name)) (those (isUnder (w .name)) ds)
-    ++ (cond (wrote (w .name) earlier) [] (allUnder (t .of-block) (some (w .name)) (those (isUnder (w .name)) ks))
+    allUnder (t .of-directive) (some (tagPair w)) (those (goesAfter (earlier ++ w ∷ ws) (length earlier)) ds)
+    ++ (cond (wrote (w .name) earlier) [] (allUnder (t .of-block) (some (tagPair w)) (those (isUnder (w .name)) ks))
     ++ underTags t ds ks (earlier ++ w ∷ []) ws)
 
--- The name of the last tag; a where there is none.
-abbrev pub lastNameFrom : Option (List ℕ) → List WrittenTag → Option (List ℕ)
-lastNameFrom a [] = a
-lastNameFrom a (w ∷ ws) = lastNameFrom (some (w .name)) ws
+-- The last tag; a where there is none.
+abbrev pub lastTagFrom : Option TagPair → List WrittenTag → Option TagPair
+lastTagFrom a [] = a
+lastTagFrom a (w ∷ ws) = lastTagFrom (some (tagPair w)) ws
 
 -- The directives ds and the blocks ks of a board once they are written with the tags ws and read back: before any tag where they stood
--- so; under the same name where a tag of that name is written; under the last written tag where none has it.
+-- so; under the tag after which they go, a block under the first of its tag's name; under the last written tag where none has that name.
 abbrev pub readBack : Texts → List Anchored → List Anchored → List WrittenTag → List AnchoredBytes
 readBack t ds ks ws =
     allUnder (t .of-directive) none (those isLeading ds)
     ++ (allUnder (t .of-block) none (those isLeading ks)
     ++ (underTags t ds ks [] ws
-    ++ (allUnder (t .of-block) (lastNameFrom none ws) (those (tagUnwritten ws) ks)
-    ++ allUnder (t .of-directive) (lastNameFrom none ws) (those (tagUnwritten ws) ds))))
+    ++ (allUnder (t .of-block) (lastTagFrom none ws) (those (tagUnwritten ws) ks)
+    ++ allUnder (t .of-directive) (lastTagFrom none ws) (those (tagUnwritten ws) ds))))
 
 abbrev pub remarksBack : Texts → Conventions → PlainBoard → List AnchoredBytes
 remarksBack t c b = readBack t (directivesOf b) (blocksOf b) (writtenTags c b (ownPlay c (b .play)))
@@ -233,7 +233,7 @@ FinishedTags =
 -- What the remarks of a text, read with the letters d, are: those of the boards bs as they are written with the letters c.
 pub record RemarksRead (c d : Conventions) (text : List ℕ) (bs : List PlainBoard) : Type 0 where
   -- Of each record the directives of its board that start with `;` or `%`: the same bytes; before any tag where they stood so, under the
-  -- same name where a tag of that name is written, else under the last written tag.
+  -- tag after which they go, else under the last written tag.
   pub directives : map (λ r. map anchoredBytes (directivesOf (plainOf d r))) (recordsOf text) ≡ pageBack asDirectives c bs
   -- The blocks of its board, and its directives in braces, likewise.
   pub blocks : map (λ r. map anchoredBytes (blocksOf (plainOf d r))) (recordsOf text) ≡ pageBack asBlocks c bs

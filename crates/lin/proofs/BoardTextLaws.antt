@@ -22,7 +22,7 @@ use Rattle.writer.specs.Tags as T
 use Rattle.writer.specs.Remarks.{wrote, directivesOf, blocksOf, dataLine, directivesAfter, blocksAfter, tagsLines, bodyLines, lineText, linesText}
 use Rattle.writer.specs.Items.{tokensText, dataText}
 use Rattle.writer.proofs.GroupTexts.{lines-join, data-lines}
-use Rattle.writer.proofs.NoteLaws.{none-between}
+use Rattle.writer.proofs.NotePlaces.{none-between}
 use Rattle.writer.proofs.SectionTexts.{tokens-rounds}
 use Rattle.lin.specs.declared.survey.Survey.{Survey}
 use Rattle.lin.specs.Pairs.{Pair}

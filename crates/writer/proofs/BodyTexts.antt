@@ -1,7 +1,6 @@
 -- A board's lines, put from its entries.
 use Prim.Native.Nat.{ℕ}
 use mathlib.Core.Path.{_≡_, refl, ap, _∙_}
-use mathlib.Core.Bool.{true}
 use mathlib.Core.List.{List, [], _++_, map}
 use mathlib.Core.Option.{Option, none, some}
 use lib.ListN.{drop}
@@ -12,7 +11,7 @@ use Rattle.writer.specs.Sections.{noteValues}
 use Rattle.writer.specs.Tags.{headTags, earlyExtras, dealTags, lateExtras, playTags, writtenTags}
 use Rattle.writer.specs.Remarks.{directivesOf, blocksOf, those, isLeading, tagUnwritten, directiveLines, blockLines, tagsLines, leadingLines, bodyLines, linesText}
 use Rattle.writer.specs.PresentSteps.{presentOf}
-use Rattle.writer.specs.Items.{soughtBy, isFirst, remarksText, fullText, groupText, notesText}
+use Rattle.writer.specs.Items.{soughtText, fullText, groupText, notesText}
 use Rattle.writer.proofs.GroupLines.{firstLines, auctionTag, auctionGroup, GroupLines}
 use Rattle.writer.proofs.RemarkTexts.{MarkedItems, leading-tells, lost-tells, directivesIn, blocksIn, DirectivesText, BlocksText}
 use Rattle.writer.proofs.GroupTexts.{lines-join, first-text, auction-text}
@@ -20,7 +19,7 @@ use Rattle.writer.proofs.GroupTexts.{lines-join, first-text, auction-te
 -- The auction with its notes.
 abbrev pub auctionPart : Conventions → List TagPair → Option PlainAuction → List Item → List ℕ
 auctionPart c ts none is = []
-auctionPart c ts (some a) is = fullText (auctionTag c a) is ++ notesText true (noteValues (drop (a .before) ts)) is
+auctionPart c ts (some a) is = fullText (auctionTag c a) is ++ notesText [] (noteValues (drop (a .before) ts)) is
 
 auction-part : (c : Conventions) (ts : List TagPair) (o : Option PlainAuction) (is : List Item) → MarkedItems 0 is
     → linesText (auctionGroup c (directivesIn is) (blocksIn is) ts o) ≡ auctionPart c ts o is
@@ -80,16 +79,16 @@ module _ (b : PlainBoard) (is : List Item) (o : BoardOf b is) (n : List ℕ) whe
   unfolding blocksOf
   blocks-in = rw (o .tags-are, o .blocks-are)
 
-  pub LeadingText : linesText (leadingLines b) ≡ remarksText (soughtBy Leading n) (isFirst Leading) 3 is
+  pub LeadingText : linesText (leadingLines b) ≡ soughtText Leading n 3 is
   unfolding leadingLines
   LeadingText = rw directives-in (DirectivesText is (o .are-marked) (leading-tells (tagsIn is) n))
 
   pub BodyText : (c : Conventions) (play : List (List ℕ))
       → linesText (bodyLines b (writtenTags c b play))
-      ≡ remarksText (soughtBy Leading n) (isFirst Leading) 4 is
+      ≡ soughtText Leading n 4 is
       ++ (tagsPart c b play is
-      ++ (remarksText (soughtBy (Unwritten (presentOf b)) n) (isFirst (Unwritten (presentOf b))) 4 is
-      ++ remarksText (soughtBy (Unwritten (presentOf b)) n) (isFirst (Unwritten (presentOf b))) 3 is))
+      ++ (soughtText (Unwritten (presentOf b)) n 4 is
+      ++ soughtText (Unwritten (presentOf b)) n 3 is))
   unfolding bodyLines
   BodyText c play =
       let ws = writtenTags c b play in

@@ -216,15 +216,15 @@ tables-sized over (one f fs) e = absurd (omega (arith, e))
 tables-sized (next m h) none e = absurd (omega (arith, e))
 tables-sized (next {r = r} {b = b} m h) (one {x = t} f fs) e = next (TablePut (length r) b t f m) (tables-sized h fs (omega (arith, e)))
 
--- THEOREM. A finished edition has at most 475 bytes for each byte of the new edition, and 20.
-pub FinishedMost : (c : Conventions) (old new answers : List ℕ) → length (finishedText c old new answers) ≤ 475 * length new + 20
+-- THEOREM. A finished edition has at most 177 bytes for each byte of the new edition, and 20.
+pub FinishedMost : (c : Conventions) (old new answers : List ℕ) → length (finishedText c old new answers) ≤ 177 * length new + 20
 unfolding finishedText finishedBoards tablesOf cardsOf
 FinishedMost c old new answers =
     let js = plansOf c old new in
     let few = tables-few (cardsOf c old) (cardsOf c new) js answers js in
     PageMost c new (tables-sized (EditionSized c new) few (TablesCount c old new answers ∙ cards-few c 0 0 (recordsOf new)))
 
--- THEOREM. It is below 2 ^ 33 bytes where the new edition is not overlong.
+-- THEOREM. It is below 2 ^ 32 bytes where the new edition is not overlong.
 pub FinishedFew : (c : Conventions) (old new answers : List ℕ) → length new ≤ 16777215
-    → length (finishedText c old new answers) < 8589934592
+    → length (finishedText c old new answers) < 4294967296
 FinishedFew c old new answers h = omega (arith, FinishedMost c old new answers)

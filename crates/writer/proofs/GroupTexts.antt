@@ -1,9 +1,9 @@
 -- Groups of written tags, put from the entries of a board, are the lines of those groups.
 use Prim.Native.Nat.{ℕ}
 use mathlib.Core.Path.{_≡_, refl}
-use mathlib.Core.Bool.{Bool, true, false}
+use mathlib.Core.Bool.{Bool, true, false, cond}
 use mathlib.Core.List.{List, [], _∷_, _++_, map, append-nil, append-assoc}
-use mathlib.Core.Option.{none, some}
+use mathlib.Core.Option.{some}
 use lib.ListN.{drop}
 use Rattle.tables.specs.declared.letters.Conventions.{Conventions}
 use Rattle.tables.specs.Text.{ascii}
@@ -11,11 +11,12 @@ use Rattle.reader.specs.Tag.{tagText}
 use Rattle.reader.specs.Plain.{Item, TagPair, PlainAuction, tagsIn}
 use Rattle.writer.specs.declared.remarks.Sought.the-variants.{Under}
 use Rattle.writer.specs.Sections.{noteValues}
-use Rattle.writer.specs.Tags.{WrittenTag, noteTag}
-use Rattle.writer.specs.Remarks.{WrittenLine, dataLine, those, isUnder, directiveLines, blockLines, directivesAfter, lineText, linesText}
-use Rattle.writer.specs.Items.{soughtBy, remarksText, afterText, tagLineText, dataText, fullText, groupText, notesText, hasRemarks}
-use Rattle.writer.proofs.GroupLines.{firstLines, moreNotes, notesLines, auctionTag, auctionGroup}
-use Rattle.writer.proofs.RemarkTexts.{MarkedItems, under-tells, directivesIn, blocksIn, DirectivesText, BlocksText, after-none}
+use Rattle.writer.specs.Tags.{WrittenTag}
+use Rattle.writer.specs.PresentSteps.{isAny}
+use Rattle.writer.specs.Remarks.{WrittenLine, dataLine, those, isUnder, directiveLines, blockLines, lineText, linesText}
+use Rattle.writer.specs.Items.{soughtBy, soughtText, afterText, tagLineText, dataText, fullText, groupText, noteTakes, notesText, hasRemarks}
+use Rattle.writer.proofs.GroupLines.{firstLines, takesAnchored, notesLines, auctionTag, auctionGroup}
+use Rattle.writer.proofs.RemarkTexts.{MarkedItems, under-tells, takes-tells, directivesIn, blocksIn, DirectivesText, BlocksText, remarks-none, after-none}
 
 -- ---- lines in a row
 
@@ -43,15 +44,15 @@ groups-join (w ∷ ws) vs is = rw (groups-join ws vs is, append-assoc (fullText 
 -- ---- groups
 
 module _ (is : List Item) (m : MarkedItems 0 is) where
-  directives-under : (n : List ℕ) → linesText (directiveLines (those (isUnder n) (directivesIn is))) ≡ remarksText (soughtBy Under n) false 3 is
+  directives-under : (n : List ℕ) → linesText (directiveLines (those (isUnder n) (directivesIn is))) ≡ soughtText Under n 3 is
   directives-under n = DirectivesText is m (under-tells (tagsIn is) n)
 
-  blocks-under : (n : List ℕ) → linesText (blockLines (those (isUnder n) (blocksIn is))) ≡ remarksText (soughtBy Under n) false 4 is
+  blocks-under : (n : List ℕ) → linesText (blockLines (those (isUnder n) (blocksIn is))) ≡ soughtText Under n 4 is
   blocks-under n = BlocksText is m (under-tells (tagsIn is) n)
 
-  -- Tags that are the first of their names.
+  -- Tags whose names no others have.
   pub first-text : (ws : List WrittenTag) → linesText (firstLines (directivesIn is) (blocksIn is) ws) ≡ groupText ws is
-  unfolding lineText directivesAfter fullText afterText
+  unfolding lineText fullText afterText
   first-text [] = refl
   first-text (w ∷ ws) =
       let ds = directiveLines (those (isUnder (w .name)) (directivesIn is)) in
@@ -69,39 +70,36 @@ module _ (is : List Item) (m : MarkedItems 0 is) where
       )
       (simp append-assoc)
 
-  more-text : (vs : List (List ℕ)) → linesText (moreNotes (directivesIn is) vs) ≡ notesText false vs is
-  unfolding lineText directivesAfter afterText
-  more-text [] = refl
-  more-text (v ∷ vs) =
-      let ds = directiveLines (those (isUnder (ascii "Note")) (directivesIn is)) in
+  blocks-first : (x : Bool) → linesText (cond x [] (blockLines (those (isUnder (ascii "Note")) (blocksIn is)))) ≡ cond x [] (soughtText Under (ascii "Note") 4 is)
+  blocks-first true = refl
+  blocks-first false = blocks-under (ascii "Note")
+
+  pub notes-text : (earlier vs : List (List ℕ)) → linesText (notesLines (directivesIn is) (blocksIn is) earlier vs) ≡ notesText earlier vs is
+  unfolding lineText
+  notes-text earlier [] = refl
+  notes-text earlier (v ∷ vs) =
+      let ds = directiveLines (those (takesAnchored earlier v vs) (directivesIn is)) in
+      let ks : List WrittenLine = cond (isAny earlier) [] (blockLines (those (isUnder (ascii "Note")) (blocksIn is))) in
+      let more = notesLines (directivesIn is) (blocksIn is) (earlier ++ v ∷ []) vs in
       rw (
-        lines-join ds (moreNotes (directivesIn is) vs),
-        directives-under (ascii "Note"),
-        more-text vs,
+        lines-join ds (ks ++ more),
+        lines-join ks more,
+        DirectivesText is m (takes-tells (tagsIn is) earlier v vs),
+        blocks-first (isAny earlier),
+        notes-text (earlier ++ v ∷ []) vs,
         tag-line (ascii "Note") v,
       )
-      (simp (append-assoc, append-nil))
-
-  pub notes-text : (vs : List (List ℕ)) → linesText (notesLines (directivesIn is) (blocksIn is) vs) ≡ notesText true vs is
-  unfolding fullText
-  notes-text [] = refl
-  notes-text (v ∷ vs) =
-      rw (
-        lines-join (firstLines (directivesIn is) (blocksIn is) (noteTag v ∷ [])) (moreNotes (directivesIn is) vs),
-        first-text (noteTag v ∷ []),
-        more-text vs,
-      )
-      (simp (append-assoc, append-nil))
+      (simp append-assoc)
 
   -- The auction's tag, then its notes.
   pub auction-text : (c : Conventions) (ts : List TagPair) (a : PlainAuction)
-      → linesText (auctionGroup c (directivesIn is) (blocksIn is) ts (some a)) ≡ fullText (auctionTag c a) is ++ notesText true (noteValues (drop (a .before) ts)) is
+      → linesText (auctionGroup c (directivesIn is) (blocksIn is) ts (some a)) ≡ fullText (auctionTag c a) is ++ notesText [] (noteValues (drop (a .before) ts)) is
   auction-text c ts a =
       let vs = noteValues (drop (a .before) ts) in
       rw (
-        lines-join (firstLines (directivesIn is) (blocksIn is) (auctionTag c a ∷ [])) (notesLines (directivesIn is) (blocksIn is) vs),
+        lines-join (firstLines (directivesIn is) (blocksIn is) (auctionTag c a ∷ [])) (notesLines (directivesIn is) (blocksIn is) [] vs),
         first-text (auctionTag c a ∷ []),
-        notes-text vs,
+        notes-text [] vs,
         append-nil (fullText (auctionTag c a) is),
       )
 
@@ -111,8 +109,13 @@ module _ (is : List Item) (m : MarkedItems 0 is) where
 pub group-none : (ws : List WrittenTag) (is : List Item) → hasRemarks is ≡ false → groupText ws is ≡ groupText ws []
 unfolding fullText
 group-none [] is e = refl
-group-none (w ∷ ws) is e = rw (after-none true (w .name) is e, group-none ws is e)
+group-none (w ∷ ws) is e = rw (after-none (w .name) is e, group-none ws is e)
 
-pub notes-none : (fresh : Bool) (vs : List (List ℕ)) (is : List Item) → hasRemarks is ≡ false → notesText fresh vs is ≡ notesText fresh vs []
-notes-none fresh [] is e = refl
-notes-none fresh (v ∷ vs) is e = rw (after-none fresh (ascii "Note") is e, notes-none false vs is e)
+pub notes-none : (earlier vs : List (List ℕ)) (is : List Item) → hasRemarks is ≡ false → notesText earlier vs is ≡ notesText earlier vs []
+notes-none earlier [] is e = refl
+notes-none earlier (v ∷ vs) is e =
+    rw (
+      remarks-none (noteTakes earlier v vs) false 3 is refl e,
+      remarks-none (λ t. soughtBy Under (ascii "Note") (t .name)) false 4 is refl e,
+      notes-none (earlier ++ v ∷ []) vs is e,
+    )

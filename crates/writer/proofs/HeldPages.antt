@@ -1,36 +1,34 @@
 -- What the functions put on a page, once an edition was read, is what the edition is written as.
 use Prim.Native.Nat.{ℕ, zero, suc, _+_, _-_, _≤_, _<_}
-use mathlib.Core.Path.{_≡_, refl, sym, ap, _∙_}
-use mathlib.Core.Bool.{Bool, true, false, cond, _&&_, not}
+use mathlib.Core.Path.{_≡_, refl, sym, _∙_}
+use mathlib.Core.Bool.{false, _&&_, not}
 use mathlib.Core.List.{List, [], _∷_, _++_, append-assoc, append-nil}
 use mathlib.Core.Option.{Option, none, some}
 use native.Mathlib.Omega.{arith}
 use lib.Dec.{eqb, ltb}
 use lib.ListN.{length, drop, length-append}
-use borrow.Author.Tests.{eqb-true, eqb-false, eq-eqb, ne-eqb}
+use borrow.Author.Tests.{eqb-false, ne-eqb}
 use Rattle.tables.specs.declared.letters.Conventions.{Conventions}
 use Rattle.tables.specs.Text.{ascii}
 use Rattle.tables.specs.Tables.{digitsText}
 use Rattle.tables.proofs.Laws.{by-cases}
-use Rattle.reader.specs.Plain.{Item, PlainBoard, PlainAuction, PlainPlay, tagsIn, callsIn, tricksIn}
+use Rattle.reader.specs.Plain.{Item, PlainAuction, PlainPlay, tagsIn, callsIn, tricksIn}
 use Rattle.reader.specs.Tag.{tagText}
 use Rattle.reader.specs.Editions.{cardsOf}
-use Rattle.writer.specs.declared.present.Present.{Present}
 use Rattle.writer.specs.declared.remarks.Sought.the-variants.{Leading, Unwritten}
-use Rattle.writer.specs.Sections.{noteValues, playLines}
-use Rattle.writer.specs.Tags.{WrittenTag, tagOf, orEmpty, ifThere, dealerTags, seatText, resultText, dealValue, firstValue, headTags, tableTags, dealTags, earlyExtras, lateExtras, playTags, writtenTags}
-use Rattle.writer.specs.Remarks.{WrittenLine, tagLine, dataLine, directiveLine, blockLine, linesText, lineText, leadingLines, bodyLines}
-use Rattle.writer.specs.Pages.{ownPlay, bodyText, pageHeader, builtInHeader, firstPart, nextPart, nextParts, pageText, writtenText}
+use Rattle.writer.specs.Sections.{noteValues}
+use Rattle.writer.specs.Tags.{WrittenTag, tagOf, ifThere, dealerTags, seatText, resultText, dealValue, firstValue, headTags, tableTags, dealTags, earlyExtras, lateExtras, playTags}
+use Rattle.writer.specs.Remarks.{WrittenLine, tagLine, dataLine, directiveLine, blockLine, linesText, lineText, leadingLines}
+use Rattle.writer.specs.Pages.{ownPlay, bodyText, pageHeader, firstPart, nextPart, nextParts, pageText, writtenText}
 use Rattle.writer.specs.PresentSteps.{isThere, isAny, hasNotes, presentOf}
 use Rattle.writer.specs.Held.{cardWord, cardPart, itemsAt, valueHeld, boardItems, itemsUpTo, sectionItems, auctionHeld, playHeld, valuesHeld, boardHeld, boardsHeld}
-use Rattle.writer.specs.Items.{soughtBy, isFirst, remarksText, afterText, tagLineText, taggedText, extrasText, dataText, fullText, groupText, notesText, auctionText, playText, tagsAt, scoringAt, dealPlace, isRemark, hasRemarks, resultIn}
-use Rattle.writer.specs.BoardTexts.{scannedItems, cardValue, optionalText, titleText, playersText, dealerText, headText, dealHeld, contractText, tableText, analysisText, sectionText, noteTags, biddingText, cardsText, presentHeld, scanOf, early, frontText, unwrittenText, backText, leadHeld, bodyHeld, headerHeld, nextHeld, partsHeld, pageHeld}
-use Rattle.writer.proofs.RemarkTexts.{MarkedItems, remarks-none, after-none}
-use Rattle.writer.proofs.GroupLines.{auctionTag}
+use Rattle.writer.specs.Items.{soughtBy, isFirst, soughtText, tagLineText, taggedText, extrasText, fullText, groupText, scoringAt, dealPlace, hasRemarks, resultIn}
+use Rattle.writer.specs.BoardTexts.{scannedItems, cardValue, optionalText, titleText, playersText, dealerText, headText, dealHeld, contractText, tableText, analysisText, noteTags, biddingText, cardsText, presentHeld, scanOf, early, frontText, unwrittenText, backText, leadHeld, bodyHeld, headerHeld, nextHeld, partsHeld, pageHeld}
+use Rattle.writer.proofs.RemarkTexts.{remarks-none, after-none}
 use Rattle.writer.proofs.GroupTexts.{groups-join, group-none, notes-none}
 use Rattle.writer.proofs.SectionTexts.{AuctionText, PlayText}
-use Rattle.writer.proofs.ExtraTexts.{arePaired, dealIndex, EarlyText, LateText, ValueText}
-use Rattle.writer.proofs.BodyTexts.{auctionPart, tagsPart, BoardOf, LeadingText, BodyText}
+use Rattle.writer.proofs.ExtraTexts.{EarlyText, LateText, ValueText}
+use Rattle.writer.proofs.BodyTexts.{auctionPart, tagsPart, LeadingText, BodyText}
 use Rattle.writer.proofs.HeldBoards.{Holds, HeldPage}
 use Rattle.writer.proofs.HeldItems.{EntriesHeld, EveryHeldBoard, held-of, NotesHeld}
 
@@ -165,7 +163,7 @@ module _ (c : Conventions) (text cards entries : List ℕ) (k : ℕ) where
 
   abbrev whole : List Item → List ℕ
   whole is =
-      remarksText (soughtBy Leading []) (isFirst Leading) 4 is
+      soughtText Leading [] 4 is
       ++ (tagsPart c (boardHeld text cards entries k) play is ++ unwrittenText (presentOf (boardHeld text cards entries k)) is)
 
   regroup : (r h e d a l b p x : List ℕ) → (r ++ h ++ e ++ d ++ a) ++ (l ++ b ++ p ++ x) ≡ r ++ ((h ++ (e ++ ((d ++ a) ++ (l ++ (b ++ p))))) ++ x)
@@ -191,7 +189,7 @@ module _ (c : Conventions) (text cards entries : List ℕ) (k : ℕ) where
   unfolding frontText backText
   board-whole f is =
       regroup
-      (remarksText (soughtBy Leading []) (isFirst Leading) 4 is)
+      (soughtText Leading [] 4 is)
       (headText c text cards entries k is)
       (extrasText text entries (cardWord cards k 0) is (cardWord cards k 0) (early text cards entries k))
       (contractText c text cards entries k is)
@@ -216,21 +214,21 @@ module _ (c : Conventions) (text cards entries : List ℕ) (k : ℕ) where
       → auctionPart c (boardHeld text cards entries k .tags) o is ≡ auctionPart c (boardHeld text cards entries k .tags) o []
   unfolding fullText
   auction-none is none e = refl
-  auction-none is (some a) e = rw (after-none true (ascii "Auction") is e, notes-none true (noteValues (drop (a .before) (boardHeld text cards entries k .tags))) is e)
+  auction-none is (some a) e = rw (after-none (ascii "Auction") is e, notes-none [] (noteValues (drop (a .before) (boardHeld text cards entries k .tags))) is e)
 
   whole-none : (is : List Item) → hasRemarks is ≡ false → whole is ≡ whole []
   whole-none is e =
       let b = boardHeld text cards entries k in
       rw (
-        remarks-none (soughtBy Leading []) (isFirst Leading) 4 is refl e,
+        remarks-none (λ t. soughtBy Leading [] (t .name)) (isFirst Leading) 4 is refl e,
         group-none (headTags c b) is e,
         group-none (earlyExtras (b .tags)) is e,
         group-none (dealTags c b) is e,
         group-none (lateExtras (b .tags)) is e,
         auction-none is (b .auction) e,
         group-none (playTags c play (b .play)) is e,
-        remarks-none (soughtBy (Unwritten (presentOf b)) []) (isFirst (Unwritten (presentOf b))) 4 is refl e,
-        remarks-none (soughtBy (Unwritten (presentOf b)) []) (isFirst (Unwritten (presentOf b))) 3 is refl e,
+        remarks-none (λ t. soughtBy (Unwritten (presentOf b)) [] (t .name)) (isFirst (Unwritten (presentOf b))) 4 is refl e,
+        remarks-none (λ t. soughtBy (Unwritten (presentOf b)) [] (t .name)) (isFirst (Unwritten (presentOf b))) 3 is refl e,
       )
 
   scan-whole : whole (scannedItems text cards entries k (scanOf text cards entries k)) ≡ whole (itemsAt text entries (cardWord cards k 0) (cardWord cards k 1))
@@ -240,13 +238,13 @@ module _ (c : Conventions) (text cards entries : List ℕ) (k : ℕ) where
       (λ q. rw q)
       (λ q. rw q (sym (whole-none (itemsAt text entries (cardWord cards k 0) (cardWord cards k 1)) q)))
 
-  scan-lead : remarksText (soughtBy Leading []) (isFirst Leading) 3 (scannedItems text cards entries k (scanOf text cards entries k))
-      ≡ remarksText (soughtBy Leading []) (isFirst Leading) 3 (itemsAt text entries (cardWord cards k 0) (cardWord cards k 1))
+  scan-lead : soughtText Leading [] 3 (scannedItems text cards entries k (scanOf text cards entries k))
+      ≡ soughtText Leading [] 3 (itemsAt text entries (cardWord cards k 0) (cardWord cards k 1))
   unfolding scanOf boardItems
   scan-lead =
       by-cases (hasRemarks (itemsAt text entries (cardWord cards k 0) (cardWord cards k 1)))
       (λ q. rw q)
-      (λ q. rw q (sym (remarks-none (soughtBy Leading []) (isFirst Leading) 3 (itemsAt text entries (cardWord cards k 0) (cardWord cards k 1)) refl q)))
+      (λ q. rw q (sym (remarks-none (λ t. soughtBy Leading [] (t .name)) (isFirst Leading) 3 (itemsAt text entries (cardWord cards k 0) (cardWord cards k 1)) refl q)))
 
   -- ---- the lines of a board
 

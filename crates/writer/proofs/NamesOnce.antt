@@ -1,15 +1,15 @@
 -- No two written tags have one name, but notes; and which names are written.
 use Prim.Native.String.{String}
-use Prim.Native.Nat.{ℕ, zero, suc, _+_, _-_, _≤_, _<_}
+use Prim.Native.Nat.{ℕ, suc, _+_, _-_, _≤_, _<_}
 use mathlib.Core.Path.{_≡_, refl, sym, ap, _∙_}
 use mathlib.Core.Bool.{Bool, true, false, cond, _&&_, _||_, not, or-false, or-true, and-false, and-true}
-use mathlib.Core.List.{List, [], _∷_, _++_, map, append-assoc}
+use mathlib.Core.List.{List, [], _∷_, _++_, map}
 use mathlib.Core.Option.{Option, none, some}
-use native.Mathlib.Nat.{zero-add, add-zero}
+use native.Mathlib.Nat.{zero-add}
 use native.Mathlib.Omega.{arith}
 use lib.Dec.{eqb, ltb}
 use lib.ListN.{length, drop, getD}
-use borrow.Author.Tests.{eqb-true, eqb-false, ne-eqb, eq-eqb, lt-ltb}
+use borrow.Author.Tests.{eqb-true, eqb-false, eq-eqb, lt-ltb}
 use Rattle.tables.specs.declared.letters.Conventions.{Conventions}
 use Rattle.tables.specs.Text.{ascii}
 use Rattle.tables.proofs.Laws.{by-cases, both, clash}
@@ -425,31 +425,6 @@ Written c b play n h =
     by-cases (eqb (tagNumber n) 17)
     (λ y. rw (e, eqb-true (tagNumber n) 17 y) (notes-test (b .tags) (b .auction)))
     (λ y. rw e (known-test (presentOf b) (tagNumber n) (once (named n (b .tags))) (noteCount (b .tags) (b .auction)) x y)))))
-
--- ---- tag by tag
-
--- No tag of ws but a note has the name of one before it, earlier being those before ws.
-pub data Fresh : List WrittenTag → List WrittenTag → Type 0 where
-  done : {earlier : List WrittenTag} → Fresh earlier []
-  fresh : {earlier ws : List WrittenTag} {w : WrittenTag} → (same (ascii "Note") (w .name) ≡ false → wrote (w .name) earlier ≡ false)
-      → Fresh (earlier ++ w ∷ []) ws → Fresh earlier (w ∷ ws)
-
--- Tags of which no name but Note is written twice, cut anywhere.
-pub fresh-by : (earlier ws after : List WrittenTag)
-    → ((n : List ℕ) → same (ascii "Note") n ≡ false → timesWritten n (earlier ++ (ws ++ after)) ≤ 1)
-    → Fresh earlier ws
-fresh-by earlier [] after h = done
-fresh-by earlier (w ∷ ws) after h =
-    fresh
-    (λ e.
-    let z : timesWritten (w .name) earlier ≡ 0 =
-    omega (arith, h (w .name) e, rw (same-self (w .name)) at (times-append (w .name) earlier (w ∷ (ws ++ after)))) in
-    wrote-times (w .name) earlier ∙ ap (ltb 0) z)
-    (fresh-by (earlier ++ w ∷ []) ws after (λ n e. rw append-assoc (h n e)))
-
--- THEOREM. The same of the written tags of a board, group by group: earlier and after are the groups around it.
-pub FreshTags : (c : Conventions) (b : PlainBoard) (play : List (List ℕ)) (earlier ws after : List WrittenTag) → writtenTags c b play ≡ earlier ++ (ws ++ after) → Fresh earlier ws
-FreshTags c b play earlier ws after e = fresh-by earlier ws after (λ n h. rw e at (NamesOnce c b play n h))
 
 -- ---- which groups have notes
 

@@ -1,50 +1,32 @@
--- Laws of notes: the search for the next one, and that going from one to the next finds them all by rising number.
-use Prim.Native.Nat.{ℕ, zero, suc, _+_, _-_, _≤_, _<_}
+-- Laws of a note's value: its number, what follows its colon, and the value that is written.
+use Prim.Native.Nat.{ℕ, suc, _+_, _≤_, _<_}
 use mathlib.Core.Path.{_≡_, refl, sym, ap, _∙_}
-use mathlib.Core.Bool.{Bool, true, false, cond, _&&_, false≢true}
+use mathlib.Core.Bool.{Bool, true, false, cond, _&&_, _||_}
 use mathlib.Core.List.{List, [], _∷_, _++_, append-assoc}
 use mathlib.Core.Option.{Option, none, some}
-use native.Mathlib.Numerals.{add-one}
+use native.Mathlib.Nat.{zero-add}
 use native.Mathlib.Omega.{arith}
-use lib.Dec.{eqb, ltb, leb}
-use lib.ListN.{length, take, drop}
-use borrow.Author.Tests.{eq-eqb, ne-eqb, eqb-true, eqb-false, ltb-true, ltb-false, leb-true, leb-false, lt-ltb, le-ltb, le-leb}
+use lib.Dec.{eqb, ltb}
+use lib.ListN.{length, take, drop, length-append}
+use lib.Seq.{take-at, drop-at, sets-eq}
+use borrow.Author.Tests.{ne-eqb, eqb-true, eqb-false, ltb-true, ltb-false, lt-ltb, le-ltb}
 use Rattle.tables.specs.declared.numbers.Number.{Number}
 use Rattle.tables.specs.declared.numbers.Number.the-variants.{Value, Bad}
-use Rattle.tables.specs.Text.{ascii, trimmed, differs, before}
+use Rattle.tables.specs.Text.{ascii, isWhite, trimmed, differs, before}
+use Rattle.tables.specs.Letters.{every}
+use Rattle.tables.specs.Numbers.{digits, numberOf, decimal}
+use Rattle.tables.proofs.PageLaws.{decimal-few}
 use Rattle.tables.proofs.TextLaws.{take-front}
-use Rattle.tables.specs.Numbers.{numberOf, decimal}
-use Rattle.tables.specs.NumberSteps.{within}
-use Rattle.tables.proofs.Laws.{by-cases, both}
+use Rattle.tables.proofs.Laws.{by-cases, clash}
 use Rattle.reader.specs.Words.{same}
-use Rattle.reader.specs.Names.{tagNumber}
-use Rattle.reader.specs.Names.{tagNames}
-use Rattle.reader.proofs.NameLaws.{tag-name, tag-number-back}
+use Rattle.reader.specs.Names.{tagNumber, tagNames}
+use Rattle.reader.proofs.NameLaws.{tag-name, tag-number-back, all-below, at-below}
 use Rattle.reader.proofs.WordLaws.{same-self, same-is}
-use Rattle.reader.specs.Plain.{Item, TagPair}
-use Rattle.writer.specs.declared.notes.Note.{Note}
-use Rattle.writer.specs.Sections.{afterColon, isNumber, noteIn, later, noteAt, noteValue, notesFrom, noteValues}
+use Rattle.reader.proofs.WordTokens.{front-until}
+use Rattle.writer.specs.Sections.{afterColon, isNumber, noteIn}
 use Rattle.writer.specs.Held.{entryWord, placeBytes}
-use Rattle.writer.specs.PresentSteps.{isAny}
-use Rattle.writer.specs.Items.{tagLineText, afterText, notesText, tagsAt, orNone, noteNumber, noteNumberAt, better, nextNote, noteText}
-
--- ---- the search, entry by entry
-
-module _ (text entries : List ℕ) (n : ℕ) (best : Note) (e left : ℕ) (h : 0 < left) where
-  step : (m : ℕ) → 0 < m → nextNote text entries n best e m ≡ nextNote text entries n (cond (better n (best .number) (noteNumberAt text entries e)) (record { number = noteNumberAt text entries e; place = e }) best) (e + 1) (m - 1)
-  step zero z = absurd (omega arith)
-  step (suc m) z = let w : suc m - 1 ≡ m = omega arith in rw w
-
-  pub next-better : better n (best .number) (noteNumberAt text entries e) ≡ true
-      → nextNote text entries n best e left ≡ nextNote text entries n (record { number = noteNumberAt text entries e; place = e }) (e + 1) (left - 1)
-  next-better q = step left h ∙ rw q
-
-  pub next-pass : better n (best .number) (noteNumberAt text entries e) ≡ false → nextNote text entries n best e left ≡ nextNote text entries n best (e + 1) (left - 1)
-  next-pass q = step left h ∙ rw q
-
-pub next-none : (text entries : List ℕ) (n : ℕ) (best : Note) (e left : ℕ) → left ≤ 0 → nextNote text entries n best e left ≡ best
-next-none text entries n best e zero h = refl
-next-none text entries n best e (suc m) h = absurd (omega arith)
+use Rattle.writer.specs.Items.{hasValue, orNone, noteNumber, noteNumberAt, noteText}
+use Rattle.writer.specs.Puts.{Puts}
 
 -- ---- what a note's value holds
 
@@ -74,7 +56,7 @@ number-is Bad n h = sym (ne-eqb 256 n (λ w. omega (arith, w)))
 number-is (Value v) n h = refl
 
 -- Note has the number 17.
-note-name : (name : List ℕ) → eqb (tagNumber name) 17 ≡ same (ascii "Note") name
+pub note-name : (name : List ℕ) → eqb (tagNumber name) 17 ≡ same (ascii "Note") name
 unfolding tagNames
 note-name name =
     by-cases (eqb (tagNumber name) 17)
@@ -105,130 +87,15 @@ note-given name value n h =
     cond-none false = refl
 
 -- The tag at an entry.
-note-in : (text entries : List ℕ) (e n : ℕ) → entryWord entries e 0 ≡ 1 → n < 256
+pub note-in : (text entries : List ℕ) (e n : ℕ) → entryWord entries e 0 ≡ 1 → n < 256
     → noteIn n (record { name = placeBytes text entries e; value = placeBytes text entries (e + 1) })
     ≡ cond (eqb (noteNumberAt text entries e) n) (some (behindColon (placeBytes text entries (e + 1)))) none
 unfolding noteNumberAt
 note-in text entries e n q h = rw q (note-given (placeBytes text entries e) (placeBytes text entries (e + 1)) n h)
 
--- ---- the lowest number
-
--- The text of a note at its place.
-abbrev textAt : List ℕ → List ℕ → Note → List ℕ
-textAt text entries note = behindColon (placeBytes text entries (note .place + 1))
-
--- best is the lowest from n on of the notes that f gives.
-record Lowest (text entries : List ℕ) (n : ℕ) (best : Note) (f : ℕ → Option (List ℕ)) : Type 0 where
-  low : (m : ℕ) → n ≤ m → m < best .number → f m ≡ none
-  high : best .number ≤ 256
-  is : best .number < 256 → (n ≤ best .number) × (f (best .number) ≡ some (textAt text entries best))
-
-note-256 : (text entries : List ℕ) (e : ℕ) → (entryWord entries e 0 ≡ 1 → ⊥) → noteNumberAt text entries e ≡ 256
+pub note-256 : (text entries : List ℕ) (e : ℕ) → (entryWord entries e 0 ≡ 1 → ⊥) → noteNumberAt text entries e ≡ 256
 unfolding noteNumberAt
 note-256 text entries e q = rw (ne-eqb _ _ q)
-
-module _ (text entries : List ℕ) (n : ℕ) where
-  -- A tag more, behind those that f gives.
-  abbrev with : ℕ → (ℕ → Option (List ℕ)) → ℕ → Option (List ℕ)
-  with e f m = later (noteIn m (record { name = placeBytes text entries e; value = placeBytes text entries (e + 1) })) (f m)
-
-  lowest-tag : (best : Note) (f : ℕ → Option (List ℕ)) (e : ℕ) → entryWord entries e 0 ≡ 1 → Lowest text entries n best f
-      → Lowest text entries n (cond (better n (best .number) (noteNumberAt text entries e)) (record { number = noteNumberAt text entries e; place = e }) best) (with e f)
-  lowest-tag best f e q l =
-      by-cases (better n (best .number) (noteNumberAt text entries e))
-      (λ b.
-      let x = both (ltb (noteNumberAt text entries e) 256) (leb n (noteNumberAt text entries e) && leb (noteNumberAt text entries e) (best .number)) b in
-      let y = both (leb n (noteNumberAt text entries e)) (leb (noteNumberAt text entries e) (best .number)) (x .1) in
-      let k = ltb-true (noteNumberAt text entries e) 256 (x .0) in
-      let a = leb-true n (noteNumberAt text entries e) (y .0) in
-      let z = leb-true (noteNumberAt text entries e) (best .number) (y .1) in
-      rw b (record {
-        low = λ m u v. rw (note-in text entries e m q (omega (arith, v, k)), ne-eqb (noteNumberAt text entries e) m (λ w. omega (arith, v, w))) (l .low m u (omega (arith, v, z)));
-        high = omega (arith, k);
-        is = λ u. (a, rw (note-in text entries e (noteNumberAt text entries e) q k, eq-eqb (noteNumberAt text entries e) (noteNumberAt text entries e) refl));
-      }))
-      (λ b. rw b (record {
-        low = λ m u v. rw (note-in text entries e m q (omega (arith, v, l .high)), ne-eqb (noteNumberAt text entries e) m (λ w. clash-better m u (omega (arith, v)) (omega (arith, v, l .high)) w b)) (l .low m u v);
-        high = l .high;
-        is = λ u. (l .is u .0, rw (note-in text entries e (best .number) q u, ne-eqb (noteNumberAt text entries e) (best .number) (λ w. clash-better (best .number) (l .is u .0) (omega arith) u w b)) (l .is u .1));
-      }))
-    where
-      clash-better : (m : ℕ) → n ≤ m → m ≤ best .number → m < 256 → noteNumberAt text entries e ≡ m → better n (best .number) (noteNumberAt text entries e) ≡ false → ⊥
-      clash-better m u v k w b =
-          let t : better n (best .number) (noteNumberAt text entries e) ≡ true = rw (w, lt-ltb m 256 k, le-leb n m u, le-leb m (best .number) v) in
-          let z : _≡_ {A = ℕ} 0 1 = cc in omega arith
-
-  -- Over the entries from e on.
-  lowest-all : (best : Note) (f : ℕ → Option (List ℕ)) (e m : ℕ) → Lowest text entries n best f
-      → Lowest text entries n (nextNote text entries n best e m) (λ k. later (noteAt k (tagsAt text entries e m)) (f k))
-  lowest-all best f e zero l = l
-  lowest-all best f e (suc m) l =
-      by-cases (eqb (entryWord entries e 0) 1)
-      (λ q. rw q (join (lowest-all (cond (better n (best .number) (noteNumberAt text entries e)) (record { number = noteNumberAt text entries e; place = e }) best) (with e f) (e + 1) m (lowest-tag best f e (eqb-true _ _ q) l))))
-      (λ q.
-      let z = note-256 text entries e (eqb-false _ _ q) in
-      let b : better n (best .number) 256 ≡ false = refl in
-      rw (q, z) (lowest-all best f (e + 1) m l))
-    where
-      join : {r : Note} → Lowest text entries n r (λ k. later (noteAt k (tagsAt text entries (e + 1) m)) (with e f k))
-          → Lowest text entries n r (λ k. later (later (noteAt k (tagsAt text entries (e + 1) m)) (noteIn k (record { name = placeBytes text entries e; value = placeBytes text entries (e + 1) }))) (f k))
-      join {r} g = record { low = λ k u v. later-later (noteAt k (tagsAt text entries (e + 1) m)) (noteIn k (record { name = placeBytes text entries e; value = placeBytes text entries (e + 1) })) (f k) ∙ g .low k u v; high = g .high; is = λ u. (g .is u .0, later-later (noteAt (r .number) (tagsAt text entries (e + 1) m)) (noteIn (r .number) (record { name = placeBytes text entries e; value = placeBytes text entries (e + 1) })) (f (r .number)) ∙ g .is u .1) }
-        where
-          later-later : (x y z : Option (List ℕ)) → later (later x y) z ≡ later x (later y z)
-          later-later none y z = refl
-          later-later (some x) y z = refl
-
--- ---- all notes by rising number
-
-pub none-between : (k n : ℕ) (ts : List TagPair) → ((m : ℕ) → n ≤ m → m < n + k → noteAt m ts ≡ none) → notesFrom k n ts ≡ []
-unfolding notesFrom
-none-between zero n ts f = refl
-none-between (suc k) n ts f = rw (f n (omega arith) (omega arith), none-between k (n + 1) ts (λ m u v. f m (omega arith) (omega arith)))
-
-skip : (j k n : ℕ) (ts : List TagPair) → ((m : ℕ) → n ≤ m → m < n + j → noteAt m ts ≡ none) → notesFrom (j + k) n ts ≡ notesFrom k (n + j) ts
-unfolding notesFrom
-skip zero k n ts f =
-    let y : 0 + k ≡ k = omega arith in
-    let z : n + 0 ≡ n = omega arith in
-    rw (y, z)
-skip (suc j) k n ts f =
-    let y : suc j + k ≡ suc (j + k) = omega arith in
-    let z : n + suc j ≡ n + 1 + j = omega arith in
-    rw (y, z, f n (omega arith) (omega arith)) (skip j k (n + 1) ts (λ m u v. f m (omega arith) (omega arith)))
-
-notes-step : (k n : ℕ) (ts : List TagPair) (t : List ℕ) → noteAt n ts ≡ some t → notesFrom (suc k) n ts ≡ (decimal n ++ 58 ∷ t) ∷ notesFrom k (n + 1) ts
-unfolding notesFrom
-notes-step k n ts t q = rw q
-
-abbrev pub noNote : Note
-noNote = record { number = 256; place = 0 }
-
-module _ (text entries : List ℕ) (n first count : ℕ) (below : n ≤ 256) where
-  lowest : Lowest text entries n (nextNote text entries n noNote first count) (λ k. later (noteAt k (tagsAt text entries first count)) none)
-  lowest = lowest-all text entries n noNote (λ k. none) first count (record { low = λ m u v. refl; high = omega arith; is = λ u. absurd (omega (arith, u)) })
-
-  later-none : (x : Option (List ℕ)) → later x none ≡ x
-  later-none none = refl
-  later-none (some x) = refl
-
-  -- No note is left.
-  pub notes-done : nextNote text entries n noNote first count .number ≡ 256 → notesFrom (256 - n) n (tagsAt text entries first count) ≡ []
-  notes-done q = none-between (256 - n) n (tagsAt text entries first count) (λ m u v. sym (later-none _) ∙ lowest .low m u (omega (arith, q, v)))
-
-  -- The next one, and the others behind it.
-  pub notes-next : nextNote text entries n noNote first count .number < 256
-      → notesFrom (256 - n) n (tagsAt text entries first count)
-      ≡ noteText text entries (nextNote text entries n noNote first count)
-      ∷ notesFrom (256 - (nextNote text entries n noNote first count .number + 1)) (nextNote text entries n noNote first count .number + 1) (tagsAt text entries first count)
-  unfolding noteText
-  notes-next q =
-      let r = nextNote text entries n noNote first count in
-      let i = lowest .is q in
-      let z : 256 - n ≡ (r .number - n) + suc (256 - (r .number + 1)) = omega (arith, i .0) in
-      let y : n + (r .number - n) ≡ r .number = omega (arith, i .0) in
-      rw z (skip (r .number - n) (suc (256 - (r .number + 1))) n (tagsAt text entries first count) (λ m u v. sym (later-none _) ∙ lowest .low m u (omega (arith, v, i .0)))
-      ∙ (rw y (notes-step (256 - (r .number + 1)) (r .number) (tagsAt text entries first count) (textAt text entries r) (sym (later-none _) ∙ i .1))
-      ∙ ap (λ (v : List ℕ). v ∷ notesFrom (256 - (r .number + 1)) (r .number + 1) (tagsAt text entries first count)) (sym (append-assoc (decimal (r .number)) (58 ∷ []) (textAt text entries r)))))
 
 -- ---- a note's number
 
@@ -245,44 +112,108 @@ number-no v k a h =
     let z : ltb (length (before 58 v)) (length v) ≡ false = rw a at (le-ltb k (length v) h) in
     rw z
 
--- ---- notes put in a row
+-- ---- a value as it is written
 
-below-top : {k : ℕ} → k ≤ 256 → (k ≡ 256 → ⊥) → k < 256
-below-top {k} m q = omega arith
+-- Decimal digits hold no colon, and are read as their number.
+abbrev noColon : ℕ → Bool
+noColon n = every (differs 58) (decimal n)
 
-module _ (text entries : List ℕ) (first count : ℕ) (is : List Item) where
-  pub notes-start : notesText true (noteValues (tagsAt text entries first count)) is ≡ notesText true (notesFrom (256 - 0) 0 (tagsAt text entries first count)) is
-  unfolding noteValues
-  notes-start = refl
+abbrev isRead : ℕ → Bool
+isRead n = eqb (orNone (numberOf 255 (trimmed (decimal n)))) n
 
-  pub rest-next : (fresh : Bool) (n : ℕ) → n ≤ 256 → (nextNote text entries n noNote first count .number ≡ 256 → ⊥)
-      → notesText fresh (notesFrom (256 - n) n (tagsAt text entries first count)) is
-      ≡ (tagLineText (ascii "Note") (noteText text entries (nextNote text entries n noNote first count)) ++ afterText fresh (ascii "Note") is)
-      ++ notesText false (notesFrom (256 - (nextNote text entries n noNote first count .number + 1)) (nextNote text entries n noNote first count .number + 1) (tagsAt text entries first count)) is
-  rest-next fresh n h q =
-      let m : nextNote text entries n noNote first count .number ≤ 256 = lowest text entries n first count h .high in
-      ap (λ (vs : List (List ℕ)). notesText fresh vs is) (notes-next text entries n first count h (below-top m q))
+no-colons : all-below noColon 257 ≡ true
+unfolding decimal digits
+no-colons = refl
 
-  -- The next number is n or above.
-  pub next-above : (n : ℕ) → n ≤ 256 → (nextNote text entries n noNote first count .number ≡ 256 → ⊥) → n ≤ nextNote text entries n noNote first count .number
-  next-above n h q =
-      let m : nextNote text entries n noNote first count .number ≤ 256 = lowest text entries n first count h .high in
-      lowest text entries n first count h .is (below-top m q) .0
+all-read : all-below isRead 256 ≡ true
+unfolding decimal digits trimmed isWhite
+all-read = refl
 
-  pub rest-done : (fresh : Bool) (n : ℕ) → n ≤ 256 → nextNote text entries n noNote first count .number ≡ 256
-      → notesText fresh (notesFrom (256 - n) n (tagsAt text entries first count)) is ≡ []
-  rest-done fresh n h q = ap (λ (vs : List (List ℕ)). notesText fresh vs is) (notes-done text entries n first count h q)
+written-before : (n : ℕ) (rest : List ℕ) → n ≤ 256 → before 58 (decimal n ++ (58 ∷ []) ++ rest) ≡ decimal n
+written-before n rest h =
+    ap (before 58) (append-assoc (decimal n) (58 ∷ []) rest) ∙ front-until (differs 58) (decimal n) 58 rest (at-below noColon 257 n no-colons (omega arith)) refl
 
-  pub rest-none : (fresh : Bool) (n : ℕ) → 256 ≤ n → notesText fresh (notesFrom (256 - n) n (tagsAt text entries first count)) is ≡ []
-  unfolding notesFrom
-  rest-none fresh n h = let z : 256 - n ≡ 0 = omega arith in rw z
+-- The number of a written note is its own.
+pub number-back : (n : ℕ) (rest : List ℕ) → n < 256 → noteNumber (decimal n ++ (58 ∷ []) ++ rest) ≡ n
+unfolding noteNumber
+number-back n rest h =
+    let v = decimal n ++ (58 ∷ []) ++ rest in
+    let b = written-before n rest (omega arith) in
+    let l : length (before 58 v) < length v = omega (arith, ap length b, length-append (decimal n ++ 58 ∷ []) rest, length-append (decimal n) (58 ∷ [])) in
+    rw (lt-ltb (length (before 58 v)) (length v) l, b)
+    (eqb-true (orNone (numberOf 255 (trimmed (decimal n)))) n (at-below isRead 256 n all-read h))
 
-  pub any-notes : ltb (nextNote text entries 0 noNote first count .number) 256 ≡ isAny (noteValues (tagsAt text entries first count))
-  unfolding noteValues
-  any-notes =
-      by-cases (ltb (nextNote text entries 0 noNote first count .number) 256)
-      (λ q. q ∙ sym (ap isAny (notes-next text entries 0 first count (omega arith) (ltb-true _ _ q))))
-      (λ q.
-      let m = ltb-false (nextNote text entries 0 noNote first count .number) 256 q in
-      let k = lowest text entries 0 first count (omega arith) .high in
-      q ∙ sym (ap isAny (notes-done text entries 0 first count (omega arith) (omega arith))))
+-- A value is a written one exactly where it has a colon, and is the same before it and behind it.
+colon-split : (v : List ℕ) → length (before 58 v) < length v → v ≡ before 58 v ++ (58 ∷ []) ++ behindColon v
+colon-split [] h = absurd (omega arith)
+colon-split (b ∷ bs) h =
+    by-cases (eqb b 58)
+    (λ q. rw q (ap (λ (x : ℕ). x ∷ bs) (eqb-true b 58 q)))
+    (λ q.
+    let z : suc (length (before 58 bs)) + 1 ≡ suc (length (before 58 bs) + 1) = omega arith in
+    rw (q, z) (ap (λ (l : List ℕ). b ∷ l) (colon-split bs (omega (arith, rw q at h)))))
+
+same-parts : (v d rest : List ℕ) → length (before 58 v) < length v → same (before 58 v) d ≡ true → same (behindColon v) rest ≡ true → same v (d ++ (58 ∷ []) ++ rest) ≡ true
+same-parts v d rest h x y =
+    let e : v ≡ d ++ (58 ∷ []) ++ rest
+    = colon-split v h
+    ∙ (ap (λ (u : List ℕ). u ++ (58 ∷ []) ++ behindColon v) (same-is (before 58 v) d x) ∙ ap (λ (u : List ℕ). d ++ (58 ∷ []) ++ u) (same-is (behindColon v) rest y)) in
+    ap (λ (u : List ℕ). same v u) (sym e) ∙ same-self v
+
+pub note-same : (v rest : List ℕ) (n : ℕ) → n ≤ 256 → length (before 58 v) < length v → same v (decimal n ++ (58 ∷ []) ++ rest) ≡ (same (before 58 v) (decimal n) && same (behindColon v) rest)
+note-same v rest n h l =
+    let w = decimal n ++ (58 ∷ []) ++ rest in
+    by-cases (same (before 58 v) (decimal n))
+    (λ x.
+    by-cases (same (behindColon v) rest)
+    (λ y. rw (x, y) (same-parts v (decimal n) rest l x y))
+    (λ y. rw (x, y) (by-cases (same v w) (λ e. clash (sym y ∙ rw (same-is v w e) (behind-same n rest h))) (λ e. e))))
+    (λ x. rw x (by-cases (same v w) (λ e. clash (sym x ∙ rw (same-is v w e, written-before n rest h) (same-self (decimal n)))) (λ e. e)))
+  where
+    behind-same : (n : ℕ) (rest : List ℕ) → n ≤ 256 → same (behindColon (decimal n ++ (58 ∷ []) ++ rest)) rest ≡ true
+    behind-same n rest h =
+        let k : length (decimal n ++ 58 ∷ []) ≡ length (decimal n) + 1 = length-append (decimal n) (58 ∷ []) in
+        rw (written-before n rest h, drop-at (decimal n ++ 58 ∷ []) rest (length (decimal n) + 1) k) (same-self rest)
+
+pub note-differs : (v rest : List ℕ) (n : ℕ) → n ≤ 256 → length v ≤ length (before 58 v) → same v (decimal n ++ (58 ∷ []) ++ rest) ≡ false
+note-differs v rest n h l =
+    let w = decimal n ++ (58 ∷ []) ++ rest in
+    by-cases (same v w)
+    (λ e.
+    let q = same-is v w e in
+    let b = ap length (ap (before 58) q ∙ written-before n rest h) in
+    absurd (omega (arith, l, b, ap length q, length-append (decimal n ++ 58 ∷ []) rest, length-append (decimal n) (58 ∷ []))))
+    (λ e. e)
+
+-- The value of the note n at its place, as it is found in parts: x says that what stands before the colon of v is n, y that the rest is the
+-- note's.
+module _ (text entries v own behind : List ℕ) (n place i k : ℕ) (h : n ≤ 256) (a : own ≡ placeBytes text entries place) (b : i ≡ length (before 58 own))
+    (d : behind ≡ drop (i + 1) own) (e : k ≡ length (before 58 v)) where
+  note-whole : noteText text entries n place ≡ decimal n ++ (58 ∷ []) ++ behind
+  unfolding noteText
+  note-whole = rw (d, b, a)
+
+  pub note-found : (front rest : List ℕ) (x y : Bool) → k < length v → front ≡ take k v → x ≡ same front (decimal n) → rest ≡ drop (k + 1) v → y ≡ same rest behind
+      → (x && y) ≡ same v (noteText text entries n place)
+  note-found front rest x y l f g r s =
+      let w : front ≡ before 58 v = f ∙ (ap (λ (m : ℕ). take m v) e ∙ take-front (differs 58) v) in
+      let z : rest ≡ behindColon v = r ∙ ap (λ (m : ℕ). drop (m + 1) v) e in
+      rw (note-whole, note-same v behind n h (omega arith), g, s, w, z)
+
+  pub note-none : length v ≤ k → false ≡ same v (noteText text entries n place)
+  note-none l = sym (ap (same v) note-whole ∙ note-differs v behind n h (omega arith))
+
+-- A number put on a page of ten bytes stands there.
+pub decimal-put : (page page′ : List ℕ) (n k : ℕ) → length page ≡ 10 → Puts page 0 (decimal n) page′ k → take k page′ ≡ decimal n
+decimal-put page page′ n k l p =
+    let m = decimal-few n in
+    let q = p .put (omega arith) in
+    let s = sets-eq (decimal n) page 0 (omega arith) in
+    let z : k ≡ length (decimal n) = q .next ∙ zero-add (length (decimal n)) in
+    rw (q .after, s, z) (take-at (decimal n) (drop (0 + length (decimal n)) page) (length (decimal n)) refl)
+
+-- ---- values in a row
+
+pub holds-append : (v : List ℕ) (us ws : List (List ℕ)) → hasValue v (us ++ ws) ≡ (hasValue v us || hasValue v ws)
+holds-append v [] ws = refl
+holds-append v (u ∷ us) ws = by-cases (same v u) (λ e. rw e) (λ e. rw e (holds-append v us ws))

@@ -6,7 +6,7 @@ use mathlib.Core.List.{List, _++_}
 use Rattle.tables.specs.Text.{ascii, isWhite, isInside, trimmed}
 use Rattle.tables.specs.Numbers.{digits, decimal}
 use Rattle.tables.specs.Letters.{builtIn, capital, seatOf, suitOf, honourOf, rankOf}
-use Rattle.tables.specs.Tables.{digitOf, digitByte, digitsReading, tableOfDigits}
+use Rattle.tables.specs.Tables.{digitOf, digitByte, digitsReading, tableOfDigits, gathered}
 use Rattle.reader.specs.Tag.{trimSpan, trimPart, bracketOf, endsQuoted, nameOf, isQuoted, valueOf, isComment, commentOf, tagLine, dataBracket, dataAfter, splitOf, tagText}
 use Rattle.reader.specs.Lines.{isBlank, hasBrace, splitLine, bracketLine, lineKind}
 use Rattle.reader.specs.Words.{levelOf, bidCode, isPass, underscoreCode, signCode, callOf, callToken, isMark, sectionEnd, isAllPass, cardNumber, cardNamed, isDoubling, contractTrump, isNoSide, isBothSides, vulnerabilityOf, vulnerabilityToken}
@@ -20,12 +20,12 @@ use Rattle.reader.specs.Records.{scanned, closesRecord, recordsOf}
 use Rattle.reader.specs.Plain.{itemOf, plainBy, plainOf, plainBoards}
 use Rattle.writer.specs.Sections.{endLines, auctionLines, noteIn, notesFrom, noteValues, playLines}
 use Rattle.writer.specs.Tags.{seatText, resultText, isExtra, earlyExtras, lateExtras, headTags, tableTags, dealTags, auctionTags, playTags, writtenTags}
-use Rattle.writer.specs.Remarks.{directivesOf, blocksOf, directivesAfter, blocksAfter, leadingLines, bodyLines, boardLines, lineText}
+use Rattle.writer.specs.Remarks.{directivesOf, blocksOf, placeOf, directivesAfter, blocksAfter, leadingLines, bodyLines, boardLines, lineText}
 use Rattle.writer.specs.Pages.{builtInHeader, firstPart, nextPart, writtenText}
 
 -- The page of a text.
 unfoldable page : String → List ℕ
-unfolding isWhite isInside trimmed digits decimal builtIn capital seatOf suitOf honourOf rankOf digitOf digitByte digitsReading tableOfDigits trimSpan trimPart bracketOf endsQuoted nameOf isQuoted valueOf isComment commentOf tagLine dataBracket dataAfter splitOf tagText isBlank hasBrace splitLine bracketLine lineKind levelOf bidCode isPass underscoreCode signCode callOf callToken isMark sectionEnd isAllPass cardNumber cardNamed isDoubling contractTrump isNoSide isBothSides vulnerabilityOf vulnerabilityToken tagNames tagNumber has ones cardsNamed handsAfter dealOf handWords handsOfWords cardText ranksText suitText handText dealText callTokenOf called calledPiece weight bestSlot opened isGap played playedBytes playedPiece lastTrick commentaryAfter stopsAt pieceOf sectionData walked noWalk walkedAll identityBy dealBy tableBy contractBy isKeptValue isKept valuesBy applied openBy closed tagged tagLineOut blocked braced inCommentary lineOut recordOut scanned closesRecord recordsOf itemOf plainBy plainOf plainBoards endLines auctionLines noteIn notesFrom noteValues playLines seatText resultText isExtra earlyExtras lateExtras headTags tableTags dealTags auctionTags playTags writtenTags directivesOf blocksOf directivesAfter blocksAfter leadingLines bodyLines boardLines lineText builtInHeader firstPart nextPart writtenText
+unfolding isWhite isInside trimmed digits decimal builtIn capital seatOf suitOf honourOf rankOf digitOf digitByte digitsReading tableOfDigits gathered trimSpan trimPart bracketOf endsQuoted nameOf isQuoted valueOf isComment commentOf tagLine dataBracket dataAfter splitOf tagText isBlank hasBrace splitLine bracketLine lineKind levelOf bidCode isPass underscoreCode signCode callOf callToken isMark sectionEnd isAllPass cardNumber cardNamed isDoubling contractTrump isNoSide isBothSides vulnerabilityOf vulnerabilityToken tagNames tagNumber has ones cardsNamed handsAfter dealOf handWords handsOfWords cardText ranksText suitText handText dealText callTokenOf called calledPiece weight bestSlot opened isGap played playedBytes playedPiece lastTrick commentaryAfter stopsAt pieceOf sectionData walked noWalk walkedAll identityBy dealBy tableBy contractBy isKeptValue isKept valuesBy applied openBy closed tagged tagLineOut blocked braced inCommentary lineOut recordOut scanned closesRecord recordsOf itemOf plainBy plainOf plainBoards endLines auctionLines noteIn notesFrom noteValues playLines seatText resultText isExtra earlyExtras lateExtras headTags tableTags dealTags auctionTags playTags writtenTags directivesOf blocksOf placeOf directivesAfter blocksAfter leadingLines bodyLines boardLines lineText builtInHeader firstPart nextPart writtenText
 page s = writtenText builtIn (ascii s)
 
 -- Lines of a board where nothing is on record: from Event to Date, the players and the vulnerability, from Declarer to Result.
@@ -125,11 +125,79 @@ pin-play = refl
 
 -- ---- directives and commentary
 
--- A directive after a Note follows every written Note; a block only the first.
-pin-note-remarks : page "[Auction \"N\"]\np\n[Note \"2:b\"]\n; c\n{d}\n[Note \"1:a\"]\n"
-    ≡ builtIn-header ++ (upToDeal ++ (tail ++ ascii "[Auction \"N\"]\nPass\n[Note \"1:a\"]\n; c\n{d}\n[Note \"2:b\"]\n; c\n"))
+-- A directive goes after the first written tag of the name and value of the tag before it, else of that name, else to the end. Only Note is
+-- written more than once. The value counts as it is written: `01:a` is written `1:a`.
+pin-note-own : page "[Auction \"N\"]\n1C\n[Note \"1:a\"]\n;c\n[Note \"2:b\"]\n" ≡ builtIn-header ++ (upToDeal ++ (tail ++ ascii "[Auction \"N\"]\n1C\n[Note \"1:a\"]\n;c\n[Note \"2:b\"]\n"))
 unfolding page
-pin-note-remarks = refl
+pin-note-own = refl
+
+pin-note-second : page "[Auction \"N\"]\n1C\n[Note \"1:a\"]\n[Note \"2:b\"]\n;c\n" ≡ builtIn-header ++ (upToDeal ++ (tail ++ ascii "[Auction \"N\"]\n1C\n[Note \"1:a\"]\n[Note \"2:b\"]\n;c\n"))
+unfolding page
+pin-note-second = refl
+
+pin-note-sorted : page "[Auction \"N\"]\n1C\n[Note \"2:b\"]\n;c\n[Note \"1:a\"]\n" ≡ builtIn-header ++ (upToDeal ++ (tail ++ ascii "[Auction \"N\"]\n1C\n[Note \"1:a\"]\n[Note \"2:b\"]\n;c\n"))
+unfolding page
+pin-note-sorted = refl
+
+pin-note-zeros : page "[Auction \"N\"]\n1C\n[Note \"01:a\"]\n;c\n[Note \"0:z\"]\n" ≡ builtIn-header ++ (upToDeal ++ (tail ++ ascii "[Auction \"N\"]\n1C\n[Note \"0:z\"]\n;c\n[Note \"1:a\"]\n"))
+unfolding page
+pin-note-zeros = refl
+
+pin-note-replaced : page "[Auction \"N\"]\n1C\n[Note \"1:a\"]\n;c\n[Note \"1:b\"]\n[Note \"2:d\"]\n" ≡ builtIn-header ++ (upToDeal ++ (tail ++ ascii "[Auction \"N\"]\n1C\n[Note \"1:b\"]\n;c\n[Note \"2:d\"]\n"))
+unfolding page
+pin-note-replaced = refl
+
+pin-note-both : page "[Auction \"N\"]\n1C\n[Note \"1:a\"]\n;p\n[Note \"2:b\"]\n;q\n[Note \"1:d\"]\n" ≡ builtIn-header ++ (upToDeal ++ (tail ++ ascii "[Auction \"N\"]\n1C\n[Note \"1:d\"]\n;p\n[Note \"2:b\"]\n;q\n"))
+unfolding page
+pin-note-both = refl
+
+pin-note-order : page "[Auction \"N\"]\n1C\n[Note \"9\"]\n;p\n[Note \"1:a\"]\n;q\n[Note \"2:b\"]\n" ≡ builtIn-header ++ (upToDeal ++ (tail ++ ascii "[Auction \"N\"]\n1C\n[Note \"1:a\"]\n;p\n;q\n[Note \"2:b\"]\n"))
+unfolding page
+pin-note-order = refl
+
+pin-note-block : page "[Auction \"N\"]\n1C\n[Note \"1:a\"]\n[Note \"2:b\"]\n{x}\n;c\n" ≡ builtIn-header ++ (upToDeal ++ (tail ++ ascii "[Auction \"N\"]\n1C\n[Note \"1:a\"]\n{x}\n[Note \"2:b\"]\n;c\n"))
+unfolding page
+pin-note-block = refl
+
+pin-note-behind : page "[Auction \"N\"]\n1C\n[Note \"1:a\"] ;c\n[Note \"2:b\"] {d}\n" ≡ builtIn-header ++ (upToDeal ++ (tail ++ ascii "[Auction \"N\"]\n1C\n[Note \"1:a\"]\n;c\n[Note \"2:b\"]\n{d}\n"))
+unfolding page
+pin-note-behind = refl
+
+-- Read from that page, `{d}` is a block, and goes after the first Note.
+pin-note-braces : page "[Auction \"N\"]\n1C\n[Note \"1:a\"]\n;c\n[Note \"2:b\"]\n{d}\n"
+    ≡ builtIn-header ++ (upToDeal ++ (tail ++ ascii "[Auction \"N\"]\n1C\n[Note \"1:a\"]\n;c\n{d}\n[Note \"2:b\"]\n"))
+unfolding page
+pin-note-braces = refl
+
+-- A later tag of that name and value; the notes of another auction; a section's directives after its data.
+pin-note-later : page "[Note \"2:b\"]\n;p\n[Auction \"N\"]\n1C\n[Note \"1:a\"]\n[Note \"2:b\"]\n" ≡ builtIn-header ++ (upToDeal ++ (tail ++ ascii "[Auction \"N\"]\n1C\n[Note \"1:a\"]\n[Note \"2:b\"]\n;p\n"))
+unfolding page
+pin-note-later = refl
+
+pin-note-auction : page "[Auction \"N\"]\n1C\n[Note \"1:a\"]\n;c\n[Auction \"E\"]\n1D\n[Note \"2:b\"]\n[Note \"3:d\"]\n" ≡ builtIn-header ++ (upToDeal ++ (tail ++ ascii "[Auction \"E\"]\n1D\n[Note \"2:b\"]\n;c\n[Note \"3:d\"]\n"))
+unfolding page
+pin-note-auction = refl
+
+pin-note-section : page "[Auction \"N\"]\n1C\n;e\n[Note \"1:a\"]\n;c\n[Play \"N\"]\nSA\n;f\n[Note \"2:b\"]\n;g\n" ≡ builtIn-header ++ (upToDeal ++ (tail ++ ascii "[Auction \"N\"]\n1C\n;e\n[Note \"1:a\"]\n;c\n[Note \"2:b\"]\n;g\n[Play \"N\"]\nSA\n;f\n"))
+unfolding page
+pin-note-section = refl
+
+pin-note-none : page "[Note \"2:b\"]\n;c\n[Note \"1:a\"]\n;d\n" ≡ builtIn-header ++ (upToDeal ++ (tail ++ ascii ";c\n;d\n"))
+unfolding page
+pin-note-none = refl
+
+pin-note-table : page "[OptimumResultTable \"\"]\n;c\n{b}\n" ≡ builtIn-header ++ (upToDeal ++ (tail ++ ascii "{b}\n;c\n"))
+unfolding page
+pin-note-table = refl
+
+pin-note-repeated : page "[X \"1\"]\n[X \"2\"]\n;c\n" ≡ builtIn-header ++ (upToDeal ++ (tail ++ ascii "[X \"1\"]\n;c\n"))
+unfolding page
+pin-note-repeated = refl
+
+pin-note-event : page "[Event \"a\"]\n;c\n[Event \"b\"]\n;d\n"
+    ≡ builtIn-header ++ (ascii "[Event \"b\"]\n;c\n;d\n[Site \"\"]\n[Date \"\"]\n" ++ (names ++ (ascii "[Vulnerable \"None\"]\n[Deal \"N:- - - -\"]\n" ++ tail)))
+unfolding page
+pin-note-event = refl
 
 -- After a section's data. What is anchored to a tag that is not written goes to the end: blocks, then directives.
 pin-remarks : page "[Dealer \"?\"]\n; a\n{b}\n[Play \"N\"] ; c\nSA\n{d\r\n}\n% e\n"

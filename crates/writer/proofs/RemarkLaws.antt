@@ -1,6 +1,6 @@
 -- Laws of the entries of a board in a row, and of its remarks.
 use Prim.Native.Nat.{ℕ, zero, suc, _+_, _-_, _≤_, _<_}
-use mathlib.Core.Path.{_≡_, refl, sym, ap, _∙_}
+use mathlib.Core.Path.{_≡_, refl, _∙_}
 use mathlib.Core.Bool.{Bool, true, false, cond, _&&_}
 use mathlib.Core.List.{List, [], _∷_, _++_}
 use native.Mathlib.Numerals.{add-one}
@@ -10,7 +10,7 @@ use lib.ListN.{length, drop, getD}
 use lib.Seq.{drop-cons}
 use borrow.Author.Tests.{eqb-true, ne-eqb}
 use Rattle.tables.proofs.Laws.{by-cases}
-use Rattle.reader.specs.Plain.{Item, startsLine, withoutReturns}
+use Rattle.reader.specs.Plain.{TagPair, firstBytes, startsLine, withoutReturns}
 use Rattle.writer.specs.Held.{entryWord, placeBytes, itemAt, itemsAt}
 use Rattle.writer.specs.Items.{remarkText, remarksText}
 
@@ -37,6 +37,18 @@ item-bytes text entries e k q h =
     let z : eqb (entryWord entries e 0) 8 ≡ false = ne-eqb (entryWord entries e 0) 8 (λ w. omega (arith, w, q)) in
     rw z
 
+-- The bytes of the first of them.
+pub first-none : (text entries : List ℕ) (e left : ℕ) → left ≡ 0 → firstBytes (itemsAt text entries e left) ≡ []
+first-none text entries e left h = rw h
+
+pub first-trick : (text entries : List ℕ) (e left : ℕ) → (left ≡ 0 → ⊥) → entryWord entries e 0 ≡ 8 → firstBytes (itemsAt text entries e left) ≡ []
+unfolding itemAt
+first-trick text entries e left h q = rw (items-step text entries e left (omega arith), q)
+
+pub first-value : (text entries : List ℕ) (e left : ℕ) → (left ≡ 0 → ⊥) → (entryWord entries e 0 ≡ 8 → ⊥) → firstBytes (itemsAt text entries e left) ≡ placeBytes text entries e
+unfolding itemAt
+first-value text entries e left h q = rw (items-step text entries e left (omega arith), ne-eqb (entryWord entries e 0) 8 q)
+
 -- ---- a block's value
 
 starts-at : (s : List ℕ) (k : ℕ) → startsLine (drop k s) ≡ eqb (getD s k 0) 10
@@ -57,9 +69,11 @@ returns-kept s i h e = returns-step s i h ∙ rw e
 
 -- ---- remarks
 
-module _ (p : List ℕ → Bool) (under : Bool) (k : ℕ) (text entries : List ℕ) (e left : ℕ) (h : 0 < left) where
-  -- A tag: the test is asked of its name.
-  pub remarks-tag : entryWord entries e 0 ≡ 1 → remarksText p under k (itemsAt text entries e left) ≡ remarksText p (p (placeBytes text entries e)) k (itemsAt text entries (e + 1) (left - 1))
+module _ (p : TagPair → Bool) (under : Bool) (k : ℕ) (text entries : List ℕ) (e left : ℕ) (h : 0 < left) where
+  -- A tag: the test is asked of it.
+  pub remarks-tag : entryWord entries e 0 ≡ 1
+      → remarksText p under k (itemsAt text entries e left)
+      ≡ remarksText p (p (record { name = placeBytes text entries e; value = firstBytes (itemsAt text entries (e + 1) (left - 1)) })) k (itemsAt text entries (e + 1) (left - 1))
   remarks-tag q = rw (items-step text entries e left h, item-kind, q, item-bytes text entries e 1 q (omega arith))
 
   -- A remark that is sought.

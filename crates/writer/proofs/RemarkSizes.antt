@@ -1,27 +1,23 @@
--- How many bytes the lines of a board are: its tags and their data once, each directive at most 256 times, each block at most once.
-use Prim.Native.Nat.{ℕ, zero, suc, _+_, _*_, _≤_}
+-- How many bytes the lines of a board are: its tags and their data once, each directive and each block once at most.
+use Prim.Native.Nat.{ℕ, suc, _+_, _*_, _≤_}
 use mathlib.Core.Path.{_≡_, refl, sym, ap, _∙_}
 use mathlib.Core.Bool.{Bool, true, false, _&&_, not, and-false}
 use mathlib.Core.List.{List, [], _∷_, _++_, map}
 use mathlib.Core.Option.{Option, none, some}
-use native.Mathlib.Nat.{mul-add, add-mul, mul-le-mul-right}
+use native.Mathlib.Nat.{add-mul, mul-le-mul-right}
 use native.Mathlib.Numerals.{unary-clauses}
 use native.Mathlib.Omega.{arith}
-use lib.Dec.{eqb, ltb}
-use lib.ListN.{length, drop, length-append}
-use borrow.Author.Tests.{lt-ltb}
-use Rattle.tables.specs.declared.letters.Conventions.{Conventions}
+use lib.ListN.{length, length-append}
 use Rattle.tables.proofs.Laws.{by-cases, clash}
 use Rattle.reader.specs.Words.{same}
 use Rattle.reader.specs.Tag.{tagText}
-use Rattle.reader.specs.Plain.{TagPair, Remark, PlainAuction, PlainBoard}
-use Rattle.reader.proofs.WordLaws.{same-self, same-is}
+use Rattle.reader.specs.Plain.{TagPair, Remark, PlainBoard}
+use Rattle.reader.proofs.WordLaws.{same-is}
 use Rattle.reader.proofs.PlainSizes.{remarksSize}
-use Rattle.writer.specs.Sections.{noteAt, noteValue, notesFrom, noteValues}
-use Rattle.writer.specs.Tags.{WrittenTag, named, writtenTags}
-use Rattle.writer.specs.PresentSteps.{presentOf, isTagWritten}
-use Rattle.writer.specs.Remarks.{Anchored, anchoredFrom, directivesOf, blocksOf, those, isLeading, isUnder, wrote, tagUnwritten, WrittenLine, tagLine, dataLine, directiveLine, blockLine, directiveLines, blockLines, directivesAfter, blocksAfter, tagsLines, leadingLines, bodyLines, lineText, linesText}
-use Rattle.writer.proofs.NamesOnce.{once, timesWritten, wrote-times, number, noteCount, TimesWritten}
+use Rattle.writer.specs.Tags.{WrittenTag}
+use Rattle.writer.specs.Remarks.{Anchored, anchoredFrom, directivesOf, blocksOf, those, isLeading, isUnder, wrote, tagUnwritten, goesAfter, WrittenLine, tagLine, dataLine, directiveLine, blockLine, directiveLines, blockLines, directivesAfter, blocksAfter, tagsLines, leadingLines, bodyLines, lineText, linesText}
+use Rattle.writer.proofs.NamesOnce.{once}
+use Rattle.writer.proofs.PlaceLaws.{same-flip, timesPlaced, placed-none, placed-some}
 
 -- ---- sums
 
@@ -88,11 +84,7 @@ tag-size : (n v : List ℕ) → length (lineText (tagLine n v)) ≡ length n + l
 unfolding lineText tagText
 tag-size n v = simp length-append (omega arith)
 
--- Under how many of the tags a directive is written, and a block: under the first of its name.
-abbrev under : List WrittenTag → Anchored → ℕ
-under [] k = 0
-under (w ∷ ws) k = once (isUnder (w .name) k) + under ws k
-
+-- After how many of the tags a block is written: after the first of its name.
 abbrev first : List WrittenTag → List WrittenTag → Anchored → ℕ
 first earlier [] k = 0
 first earlier (w ∷ ws) k = once (not (wrote (w .name) earlier) && isUnder (w .name) k) + first (earlier ++ w ∷ []) ws k
@@ -103,16 +95,18 @@ unfolding blocksAfter
 after-spread ks earlier w = by-cases (wrote (w .name) earlier) (λ e. rw e (sym (spread-none 3 ks))) (λ e. rw e (blocks-spread (isUnder (w .name)) ks))
 
 tags-size : (ds ks : List Anchored) (earlier ws : List WrittenTag)
-    → length (linesText (tagsLines ds ks earlier ws)) ≡ writtenSize ws + spread 1 (under ws) ds + spread 3 (first earlier ws) ks
+    → length (linesText (tagsLines ds ks earlier ws)) ≡ writtenSize ws + spread 1 (λ k. timesPlaced (k .anchor) earlier ws) ds + spread 3 (first earlier ws) ks
 unfolding directivesAfter
 tags-size ds ks earlier [] = rw (spread-none 1 ds, spread-none 3 ks)
 tags-size ds ks earlier (w ∷ ws) =
-    let u : Anchored → ℕ = λ k. once (isUnder (w .name) k) in
+    let here = goesAfter (earlier ++ w ∷ ws) (length earlier) in
+    let u : Anchored → ℕ = λ k. once (here k) in
     let f : Anchored → ℕ = λ k. once (not (wrote (w .name) earlier) && isUnder (w .name) k) in
     let more = earlier ++ w ∷ [] in
-    let a = length-append (lineText (tagLine (w .name) (w .value))) (linesText (map dataLine (w .lines) ++ (directivesAfter ds w ++ (blocksAfter ks earlier w ++ tagsLines ds ks more ws)))) in
-    let b = text-append (map dataLine (w .lines)) (directivesAfter ds w ++ (blocksAfter ks earlier w ++ tagsLines ds ks more ws)) in
-    let d = text-append (directivesAfter ds w) (blocksAfter ks earlier w ++ tagsLines ds ks more ws) in
+    let D = directiveLines (those here ds) in
+    let a = length-append (lineText (tagLine (w .name) (w .value))) (linesText (map dataLine (w .lines) ++ (D ++ (blocksAfter ks earlier w ++ tagsLines ds ks more ws)))) in
+    let b = text-append (map dataLine (w .lines)) (D ++ (blocksAfter ks earlier w ++ tagsLines ds ks more ws)) in
+    let d = text-append D (blocksAfter ks earlier w ++ tagsLines ds ks more ws) in
     let e = text-append (blocksAfter ks earlier w) (tagsLines ds ks more ws) in
     omega (
       arith,
@@ -122,10 +116,10 @@ tags-size ds ks earlier (w ∷ ws) =
       e,
       tag-size (w .name) (w .value),
       data-size (w .lines),
-      directives-spread (isUnder (w .name)) ds,
+      directives-spread here ds,
       after-spread ks earlier w,
       tags-size ds ks more ws,
-      spread-add 1 u (under ws) ds,
+      spread-add 1 u (λ k. timesPlaced (k .anchor) more ws) ds,
       spread-add 3 f (first more ws) ks,
     )
 
@@ -135,12 +129,6 @@ once-few : (x : Bool) → once x ≤ 1
 once-few true = omega arith
 once-few false = omega arith
 
-same-flip : (a b : List ℕ) → same a b ≡ same b a
-same-flip a b =
-    by-cases (same a b)
-    (λ e. rw (same-is a b e))
-    (λ e. by-cases (same b a) (λ f. clash (sym e ∙ rw (same-is b a f) (same-self a))) (λ f. e ∙ sym f))
-
 wrote-append : (n : List ℕ) (ws vs : List WrittenTag) → wrote n ws ≡ true → wrote n (ws ++ vs) ≡ true
 wrote-append n [] vs e = clash e
 wrote-append n (w ∷ ws) vs e = by-cases (same n (w .name)) (λ t. rw t) (λ t. rw t (wrote-append n ws vs (rw t at e)))
@@ -149,102 +137,68 @@ wrote-last : (n : List ℕ) (ws : List WrittenTag) (w : WrittenTag) → same n (
 wrote-last n [] w e = rw e
 wrote-last n (v ∷ ws) w e = by-cases (same n (v .name)) (λ t. rw t) (λ t. rw t (wrote-last n ws w e))
 
-abbrev anchoredTo : ℕ → List ℕ → Option (List ℕ) → Anchored
+abbrev anchoredTo : ℕ → List ℕ → Option TagPair → Anchored
 anchoredTo i b o = record { number = i; bytes = b; anchor = o }
 
 module _ (i : ℕ) (b : List ℕ) where
-  under-none : (ws : List WrittenTag) → under ws (anchoredTo i b none) ≡ 0
-  under-none [] = refl
-  under-none (w ∷ ws) = omega (arith, under-none ws)
-
-  under-times : (n : List ℕ) (ws : List WrittenTag) → under ws (anchoredTo i b (some n)) ≡ timesWritten n ws
-  under-times n [] = refl
-  under-times n (w ∷ ws) = rw (same-flip (w .name) n, under-times n ws)
-
-  directive-most : (o : Option (List ℕ)) (ws : List WrittenTag) → ((n : List ℕ) → timesWritten n ws ≤ 256)
-      → once (isLeading (anchoredTo i b o)) + (under ws (anchoredTo i b o) + once (tagUnwritten ws (anchoredTo i b o))) ≤ 256
-  directive-most none ws h = omega (arith, under-none ws)
-  directive-most (some n) ws h = rw (wrote-times n ws) (lost (timesWritten n ws) (under-times n ws) (h n))
-    where
-      lost : (t : ℕ) → under ws (anchoredTo i b (some n)) ≡ t → t ≤ 256 → 0 + (under ws (anchoredTo i b (some n)) + once (not (ltb 0 t))) ≤ 256
-      lost zero e h = omega arith
-      lost (suc t) e h = rw (lt-ltb 0 (suc t) (omega arith)) (omega arith)
+  directive-most : (o : Option TagPair) (ws : List WrittenTag) → once (isLeading (anchoredTo i b o)) + (timesPlaced o [] ws + once (tagUnwritten ws (anchoredTo i b o))) ≤ 1
+  directive-most none ws = omega (arith, placed-none [] ws)
+  directive-most (some t) ws =
+      let p = placed-some t ws in
+      by-cases (wrote (t .name) ws) (λ e. rw e (omega (arith, rw e at p))) (λ e. rw e (omega (arith, rw e at p)))
 
   first-none : (earlier ws : List WrittenTag) → first earlier ws (anchoredTo i b none) ≡ 0
   first-none earlier [] = refl
   first-none earlier (w ∷ ws) = rw (and-false, first-none (earlier ++ w ∷ []) ws)
 
-  first-over : (n : List ℕ) (earlier ws : List WrittenTag) → wrote n earlier ≡ true → first earlier ws (anchoredTo i b (some n)) ≡ 0
-  first-over n earlier [] e = refl
-  first-over n earlier (w ∷ ws) e =
-      let r = first-over n (earlier ++ w ∷ []) ws (wrote-append n earlier (w ∷ []) e) in
+  first-over : (t : TagPair) (earlier ws : List WrittenTag) → wrote (t .name) earlier ≡ true → first earlier ws (anchoredTo i b (some t)) ≡ 0
+  first-over t earlier [] e = refl
+  first-over t earlier (w ∷ ws) e =
+      let n = t .name in
+      let r = first-over t (earlier ++ w ∷ []) ws (wrote-append n earlier (w ∷ []) e) in
       by-cases (same (w .name) n)
-      (λ t.
-      let u : wrote (w .name) earlier ≡ true = ap (λ (m : List ℕ). wrote m earlier) (same-is (w .name) n t) ∙ e in
-      rw (t, u) (omega arith))
-      (λ t. rw (t, and-false) (omega arith))
+      (λ x.
+      let u : wrote (w .name) earlier ≡ true = ap (λ (m : List ℕ). wrote m earlier) (same-is (w .name) n x) ∙ e in
+      rw (x, u) (omega arith))
+      (λ x. rw (x, and-false) (omega arith))
 
-  first-once : (n : List ℕ) (earlier ws : List WrittenTag) → first earlier ws (anchoredTo i b (some n)) ≤ once (wrote n ws)
-  first-once n earlier [] = omega arith
-  first-once n earlier (w ∷ ws) =
+  first-once : (t : TagPair) (earlier ws : List WrittenTag) → first earlier ws (anchoredTo i b (some t)) ≤ once (wrote (t .name) ws)
+  first-once t earlier [] = omega arith
+  first-once t earlier (w ∷ ws) =
+      let n = t .name in
       by-cases (same n (w .name))
-      (λ t.
-      let r = first-over n (earlier ++ w ∷ []) ws (wrote-last n earlier w t) in
+      (λ x.
+      let r = first-over t (earlier ++ w ∷ []) ws (wrote-last n earlier w x) in
       let f = once-few (not (wrote (w .name) earlier) && same (w .name) n) in
-      rw t (omega arith))
-      (λ t. rw (same-flip (w .name) n, t, and-false) (omega (arith, first-once n (earlier ++ w ∷ []) ws)))
+      rw x (omega arith))
+      (λ x. rw (same-flip (w .name) n, x, and-false) (omega (arith, first-once t (earlier ++ w ∷ []) ws)))
 
-  block-most : (o : Option (List ℕ)) (ws : List WrittenTag)
+  block-most : (o : Option TagPair) (ws : List WrittenTag)
       → once (isLeading (anchoredTo i b o)) + (first [] ws (anchoredTo i b o) + once (tagUnwritten ws (anchoredTo i b o))) ≤ 1
   block-most none ws = omega (arith, first-none [] ws)
-  block-most (some n) ws =
-      let f = first-once n [] ws in
-      by-cases (wrote n ws) (λ e. rw e (omega (arith, rw e at f))) (λ e. rw e (omega (arith, rw e at f)))
+  block-most (some t) ws =
+      let f = first-once t [] ws in
+      by-cases (wrote (t .name) ws) (λ e. rw e (omega (arith, rw e at f))) (λ e. rw e (omega (arith, rw e at f)))
 
 -- ---- the lines of a board
 
--- Every remark n times.
-all-spread : (m n : ℕ) (ts : List TagPair) (i : ℕ) (ks : List Remark) → spread m (λ k. n) (anchoredFrom ts i ks) ≡ n * (remarksSize ks + m * length ks)
-all-spread m n ts i [] = simp unary-clauses
-all-spread m n ts i (k ∷ ks) =
-    let e : length (k .bytes) + remarksSize ks + m * suc (length ks) ≡ length (k .bytes) + m + (remarksSize ks + m * length ks) = simp unary-clauses (omega arith) in
-    rw e (omega (arith, mul-add n (length (k .bytes) + m) (remarksSize ks + m * length ks), all-spread m n ts (i + 1) ks))
+-- Every remark once.
+all-spread : (m : ℕ) (ts : List TagPair) (i : ℕ) (ks : List Remark) → spread m (λ k. 1) (anchoredFrom ts i ks) ≡ remarksSize ks + m * length ks
+all-spread m ts i [] = simp unary-clauses
+all-spread m ts i (k ∷ ks) =
+    let e : m * suc (length ks) ≡ m + m * length ks = simp unary-clauses (omega arith) in
+    omega (arith, e, all-spread m ts (i + 1) ks)
 
--- At most 256 notes are written.
-notes-few : (k n : ℕ) (ts : List TagPair) → length (notesFrom k n ts) ≤ k
-unfolding notesFrom
-notes-few zero n ts = omega arith
-notes-few (suc k) n ts = rw length-append (omega (arith, notes-few k (n + 1) ts, one-note (noteAt n ts)))
-  where
-    one-note : (o : Option (List ℕ)) → length (noteValue n o) ≤ 1
-    one-note none = omega arith
-    one-note (some v) = omega arith
-
-counted-few : (ts : List TagPair) (o : Option PlainAuction) → noteCount ts o ≤ 256
-unfolding noteValues
-counted-few ts none = omega arith
-counted-few ts (some a) = notes-few 256 0 (drop (a .before) ts)
-
--- THEOREM. No name is written more than 256 times.
-pub TimesFew : (c : Conventions) (b : PlainBoard) (play : List (List ℕ)) (n : List ℕ) → timesWritten n (writtenTags c b play) ≤ 256
-TimesFew c b play n =
-    let t = TimesWritten c b play n in
-    by-cases (eqb (number n) 0)
-    (λ e. omega (arith, rw e at t, once-few (named n (b .tags))))
-    (λ e.
-    by-cases (eqb (number n) 17)
-    (λ x. omega (arith, rw (e, x) at t, counted-few (b .tags) (b .auction)))
-    (λ x. omega (arith, rw (e, x) at t, once-few (isTagWritten (presentOf b) (number n)))))
-
--- THEOREM. The bytes of a board's lines: its written tags with their data once, each directive at most 256 times, each block at most once.
-pub LinesSize : (b : PlainBoard) (ws : List WrittenTag) → ((n : List ℕ) → timesWritten n ws ≤ 256)
+-- THEOREM. The bytes of a board's lines: its written tags with their data, each directive and each block once at most.
+pub LinesSize : (b : PlainBoard) (ws : List WrittenTag)
     → length (linesText (leadingLines b)) + length (linesText (bodyLines b ws))
-    ≤ writtenSize ws + 256 * (remarksSize (b .directives) + length (b .directives)) + (remarksSize (b .blocks) + 3 * length (b .blocks))
+    ≤ writtenSize ws + (remarksSize (b .directives) + length (b .directives)) + (remarksSize (b .blocks) + 3 * length (b .blocks))
 unfolding leadingLines bodyLines directivesOf blocksOf
-LinesSize b ws h =
+LinesSize b ws =
     let ds = directivesOf b in
     let ks = blocksOf b in
     let lead : Anchored → ℕ = λ k. once (isLeading k) in
+    let placed : Anchored → ℕ = λ k. timesPlaced (k .anchor) [] ws in
     let lost : Anchored → ℕ = λ k. once (tagUnwritten ws k) in
     omega (
       arith,
@@ -256,12 +210,12 @@ LinesSize b ws h =
       blocks-spread isLeading ks,
       blocks-spread (tagUnwritten ws) ks,
       tags-size ds ks [] ws,
-      spread-add 1 (under ws) lost ds,
-      spread-add 1 lead (λ k. under ws k + lost k) ds,
+      spread-add 1 placed lost ds,
+      spread-add 1 lead (λ k. placed k + lost k) ds,
       spread-add 3 (first [] ws) lost ks,
       spread-add 3 lead (λ k. first [] ws k + lost k) ks,
-      spread-most 1 256 (λ k. lead k + (under ws k + lost k)) ds (λ k. directive-most (k .number) (k .bytes) (k .anchor) ws h),
+      spread-most 1 1 (λ k. lead k + (placed k + lost k)) ds (λ k. directive-most (k .number) (k .bytes) (k .anchor) ws),
       spread-most 3 1 (λ k. lead k + (first [] ws k + lost k)) ks (λ k. block-most (k .number) (k .bytes) (k .anchor) ws),
-      all-spread 1 256 (b .tags) 0 (b .directives),
-      all-spread 3 1 (b .tags) 0 (b .blocks),
+      all-spread 1 (b .tags) 0 (b .directives),
+      all-spread 3 (b .tags) 0 (b .blocks),
     )

@@ -1,4 +1,4 @@
--- How long a page can be: at most 475 bytes for each byte of the text, and the 20 of the header; so below 2 ^ 33.
+-- How long a page can be: at most 177 bytes for each byte of the text, and the 20 of the header; so below 2 ^ 32.
 use Prim.Native.Nat.{ℕ, zero, suc, _+_, _-_, _*_, _≤_, _<_}
 use mathlib.Core.Path.{_≡_, refl}
 use mathlib.Core.Bool.{Bool, true, false, cond, _&&_, not}
@@ -33,16 +33,16 @@ use Rattle.writer.specs.Remarks.{WrittenLine, linesText, leadingLines}
 use Rattle.writer.specs.Pages.{ownPlay, bodyText, builtInHeader, pageHeader, firstPart, nextPart, nextParts, pageText, writtenText}
 use Rattle.writer.proofs.NamesOnce.{once}
 use Rattle.writer.proofs.Shares.{TagLineLong, PlainShares}
-use Rattle.writer.proofs.RemarkSizes.{TimesFew, LinesSize}
+use Rattle.writer.proofs.RemarkSizes.{LinesSize}
 use Rattle.writer.proofs.TagSizes.{callsOf, tricksOf, BoardSized, WrittenSize}
 
 -- ---- a board's part
 
--- THEOREM. A board's lines, and one byte more, are at most 475 bytes for each byte of its record.
-pub PartSize : (c : Conventions) (n : ℕ) (b : PlainBoard) → BoardSized n b → length (linesText (leadingLines b)) + length (bodyText c b) + 1 ≤ 475 * n
+-- THEOREM. A board's lines, and one byte more, are at most 177 bytes for each byte of its record.
+pub PartSize : (c : Conventions) (n : ℕ) (b : PlainBoard) → BoardSized n b → length (linesText (leadingLines b)) + length (bodyText c b) + 1 ≤ 177 * n
 PartSize c n b m =
     let ws = writtenTags c b (ownPlay c (b .play)) in
-    omega (arith, LinesSize b ws (TimesFew c b (ownPlay c (b .play))), WrittenSize c n b m, m .long, m .shared, m .counted)
+    omega (arith, LinesSize b ws, WrittenSize c n b m, m .long, m .shared, m .counted)
 
 -- ---- the page
 
@@ -56,7 +56,7 @@ unfolding builtInHeader
 header-few [] = omega arith
 header-few (l ∷ ls) = omega (arith, length-append (linesText (l ∷ ls)) (10 ∷ []))
 
-parts-few : (c : Conventions) {rs : List (List ℕ)} {bs : List PlainBoard} → BoardsSized rs bs → length (nextParts c bs) ≤ 475 * length (flat rs)
+parts-few : (c : Conventions) {rs : List (List ℕ)} {bs : List PlainBoard} → BoardsSized rs bs → length (nextParts c bs) ≤ 177 * length (flat rs)
 unfolding nextPart
 parts-few c over = omega arith
 parts-few c (next {r = r} {rs = rs} {b = b} {bs = bs} m h) =
@@ -69,8 +69,8 @@ parts-few c (next {r = r} {rs = rs} {b = b} {bs = bs} m h) =
       parts-few c h,
     )
 
--- THEOREM. A page of such boards has at most 475 bytes for each byte of their records, and 20.
-pub PageSize : (c : Conventions) {rs : List (List ℕ)} {bs : List PlainBoard} → BoardsSized rs bs → length (pageText c bs) ≤ 475 * length (flat rs) + 20
+-- THEOREM. A page of such boards has at most 177 bytes for each byte of their records, and 20.
+pub PageSize : (c : Conventions) {rs : List (List ℕ)} {bs : List PlainBoard} → BoardsSized rs bs → length (pageText c bs) ≤ 177 * length (flat rs) + 20
 unfolding firstPart builtInHeader
 PageSize c over = omega arith
 PageSize c (next {r = r} {rs = rs} {b = b} {bs = bs} m h) =
@@ -249,14 +249,14 @@ pub EditionSized : (c : Conventions) (text : List ℕ) → BoardsSized (recordsO
 unfolding plainBoards
 EditionSized c text = plain-sized c (RecordsLong text)
 
--- THEOREM. A page of an edition's boards, whatever their tables, has at most 475 bytes for each byte of the edition, and 20.
-pub PageMost : (c : Conventions) (text : List ℕ) {bs : List PlainBoard} → BoardsSized (recordsOf text) bs → length (pageText c bs) ≤ 475 * length text + 20
+-- THEOREM. A page of an edition's boards, whatever their tables, has at most 177 bytes for each byte of the edition, and 20.
+pub PageMost : (c : Conventions) (text : List ℕ) {bs : List PlainBoard} → BoardsSized (recordsOf text) bs → length (pageText c bs) ≤ 177 * length text + 20
 PageMost c text a = omega (arith, PageSize c a, records-fit text)
 
--- THEOREM. It is below 2 ^ 33 bytes where the edition is not overlong.
-pub PageFew : (c : Conventions) (text : List ℕ) {bs : List PlainBoard} → length text ≤ 16777215 → BoardsSized (recordsOf text) bs → length (pageText c bs) < 8589934592
+-- THEOREM. It is below 2 ^ 32 bytes where the edition is not overlong.
+pub PageFew : (c : Conventions) (text : List ℕ) {bs : List PlainBoard} → length text ≤ 16777215 → BoardsSized (recordsOf text) bs → length (pageText c bs) < 4294967296
 PageFew c text h a = omega (arith, PageMost c text a)
 
-pub BytesFew : (c : Conventions) (text : List ℕ) → length text ≤ 16777215 → length (writtenText c text) < 8589934592
+pub BytesFew : (c : Conventions) (text : List ℕ) → length text ≤ 16777215 → length (writtenText c text) < 4294967296
 unfolding writtenText
 BytesFew c text h = PageFew c text h (EditionSized c text)

@@ -1,6 +1,6 @@
 -- What the functions that write a board put, group by group; is are the entries whose remarks follow the tags.
 use Prim.Native.Nat.{ℕ, zero, suc, _+_, _-_}
-use mathlib.Core.Bool.{Bool, true, false, cond, _&&_, not}
+use mathlib.Core.Bool.{cond, _&&_, not}
 use lib.ListN.{length}
 use mathlib.Core.List.{List, [], _∷_, _++_}
 use mathlib.Core.Option.{Option, none, some}
@@ -10,7 +10,7 @@ use Rattle.tables.specs.Text.{ascii}
 use Rattle.tables.specs.Tables.{digitsText}
 use Rattle.reader.specs.Words.{vulnerabilityToken}
 use Rattle.reader.specs.Deals.{handsOfWords, dealText}
-use Rattle.reader.specs.Plain.{Item, PlainValues}
+use Rattle.reader.specs.Plain.{Item}
 use Rattle.writer.specs.declared.present.Present.{Present}
 use Rattle.writer.specs.declared.remarks.Sought.the-variants.{Leading, Unwritten}
 use Rattle.writer.specs.Sections.{noteValues}
@@ -18,7 +18,7 @@ use Rattle.writer.specs.PresentSteps.{isAny}
 use Rattle.writer.specs.Pages.{builtInHeader}
 use Rattle.writer.specs.Tags.{orEmpty, seatText, resultText, firstSeat}
 use Rattle.writer.specs.Held.{cardWord, cardPart, itemsAt, boardItems, sectionItems, valueHeld}
-use Rattle.writer.specs.Items.{soughtBy, isFirst, hasRemarks, remarksText, afterText, tagLineText, taggedText, extrasText, resultIn, auctionText, playText, notesText, tagsAt, scoringAt, dealPlace}
+use Rattle.writer.specs.Items.{hasRemarks, soughtText, afterText, tagLineText, taggedText, extrasText, resultIn, auctionText, playText, notesText, tagsAt, scoringAt, dealPlace}
 
 -- The entries from first on, scan of them.
 abbrev pub scannedItems : List ℕ → List ℕ → List ℕ → ℕ → ℕ → List Item
@@ -89,7 +89,7 @@ analysisText text cards entries b is =
 
 -- A section's tag, its data lines and what follows it.
 abbrev pub sectionText : List ℕ → List ℕ → List ℕ → List Item → List ℕ
-sectionText n v rows is = tagLineText n v ++ rows ++ afterText true n is
+sectionText n v rows is = tagLineText n v ++ rows ++ afterText n is
 
 -- The tags behind the auction's calls.
 abbrev pub noteTags : List ℕ → List ℕ → List ℕ → ℕ → List (List ℕ)
@@ -99,7 +99,7 @@ unfoldable pub biddingText : Conventions → List ℕ → List ℕ → List ℕ 
 biddingText c text cards entries b is =
     cond (eqb (cardWord cards b 51) 0) []
     (sectionText (ascii "Auction") (seatText c (cardWord cards b 53)) (auctionText c (cardWord cards b 54) (sectionItems text cards entries b 51)) is
-    ++ notesText true (noteTags text cards entries b) is)
+    ++ notesText [] (noteTags text cards entries b) is)
 
 unfoldable pub cardsText : Conventions → List ℕ → List ℕ → List ℕ → ℕ → List Item → List ℕ
 cardsText c text cards entries b is =
@@ -131,12 +131,12 @@ early text cards entries b = dealPlace text entries (cardWord cards b 0) (cardWo
 
 -- What belongs to a tag that is not written, p saying what there is: blocks, then directives.
 abbrev pub unwrittenText : Present → List Item → List ℕ
-unwrittenText p is = remarksText (soughtBy (Unwritten p) []) (isFirst (Unwritten p)) 4 is ++ remarksText (soughtBy (Unwritten p) []) (isFirst (Unwritten p)) 3 is
+unwrittenText p is = soughtText (Unwritten p) [] 4 is ++ soughtText (Unwritten p) [] 3 is
 
 -- Up to the late supplemental tags, and from there on.
 unfoldable pub frontText : Conventions → List ℕ → List ℕ → List ℕ → ℕ → List Item → List ℕ
 frontText c text cards entries b is =
-    remarksText (soughtBy Leading []) (isFirst Leading) 4 is
+    soughtText Leading [] 4 is
     ++ headText c text cards entries b is
     ++ extrasText text entries (cardWord cards b 0) is (cardWord cards b 0) (early text cards entries b)
     ++ contractText c text cards entries b is
@@ -151,7 +151,7 @@ backText c text cards entries b is =
 
 -- The directives before every tag; the other lines.
 unfoldable pub leadHeld : List ℕ → List ℕ → List ℕ → ℕ → List ℕ
-leadHeld text cards entries b = remarksText (soughtBy Leading []) (isFirst Leading) 3 (scannedItems text cards entries b (scanOf text cards entries b))
+leadHeld text cards entries b = soughtText Leading [] 3 (scannedItems text cards entries b (scanOf text cards entries b))
 
 unfoldable pub bodyHeld : Conventions → List ℕ → List ℕ → List ℕ → ℕ → List ℕ
 bodyHeld c text cards entries b =

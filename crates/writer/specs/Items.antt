@@ -3,22 +3,20 @@ use Prim.Native.Nat.{ℕ, zero, suc, _+_, _-_, _/_, _%_}
 use mathlib.Core.Bool.{Bool, true, false, cond, _&&_, _||_, not}
 use mathlib.Core.List.{List, [], _∷_, _++_}
 use lib.Dec.{eqb, ltb, leb}
-use lib.ListN.{length, drop}
+use lib.ListN.{length, drop, set, getD}
 use Rattle.tables.specs.declared.numbers.Number.{Number}
 use Rattle.tables.specs.declared.numbers.Number.the-variants.{Value, Bad}
 use Rattle.tables.specs.declared.letters.Conventions.{Conventions}
 use Rattle.reader.specs.declared.board.Identity.{Identity}
 use Rattle.reader.specs.Words.{same, callToken, cardToken}
 use Rattle.reader.specs.Names.{tagNumber, noteName}
-use Rattle.reader.specs.Plain.{Item, TagPair, withoutReturns}
-use Rattle.writer.specs.declared.present.Present.{Present}
+use Rattle.reader.specs.Plain.{Item, TagPair, firstBytes, withoutReturns}
 use Rattle.writer.specs.declared.remarks.Sought.{Sought}
 use Rattle.writer.specs.declared.remarks.Sought.the-variants.{Leading, Under, Unwritten}
 use Rattle.tables.specs.Text.{ascii, trimmed, before}
 use Rattle.tables.specs.Numbers.{numberOf, decimal}
-use Rattle.writer.specs.declared.notes.Note.{Note}
 use Rattle.writer.specs.Tags.{WrittenTag}
-use Rattle.writer.specs.PresentSteps.{isTagWritten}
+use Rattle.writer.specs.PresentSteps.{isTagWritten, isAny}
 use Rattle.writer.specs.Held.{entryWord, placeBytes, itemsAt}
 
 -- ---- names
@@ -46,15 +44,19 @@ abbrev pub remarkText : ℕ → List ℕ → List ℕ
 remarkText k bs = cond (eqb k 4) (123 ∷ (withoutReturns bs ++ 125 ∷ 10 ∷ [])) (bs ++ 10 ∷ [])
 
 -- The remarks of the kind k whose last tag meets a test; under says it of those before the first tag.
-abbrev pub remarksText : (List ℕ → Bool) → Bool → ℕ → List Item → List ℕ
+abbrev pub remarksText : (TagPair → Bool) → Bool → ℕ → List Item → List ℕ
 remarksText p under k [] = []
 remarksText p under k (i ∷ is) =
-    cond (eqb (i .kind) 1) (remarksText p (p (i .bytes)) k is)
+    cond (eqb (i .kind) 1) (remarksText p (p (record { name = i .bytes; value = firstBytes is })) k is)
     (cond (eqb (i .kind) k && under) (remarkText k (i .bytes) ++ remarksText p under k is) (remarksText p under k is))
 
--- What follows a written tag of the name n: its directives and, after the first of that name, its blocks.
-unfoldable pub afterText : Bool → List ℕ → List Item → List ℕ
-afterText fresh n is = remarksText (soughtBy Under n) false 3 is ++ cond fresh (remarksText (soughtBy Under n) false 4 is) []
+-- The remarks that are sought, by the names of their tags.
+abbrev pub soughtText : Sought → List ℕ → ℕ → List Item → List ℕ
+soughtText s n k is = remarksText (λ t. soughtBy s n (t .name)) (isFirst s) k is
+
+-- What follows a written tag of the name n, no other having that name: its directives, then its blocks.
+unfoldable pub afterText : List ℕ → List Item → List ℕ
+afterText n is = soughtText Under n 3 is ++ soughtText Under n 4 is
 
 -- ---- tags
 
@@ -64,7 +66,7 @@ tagLineText n v = ((91 ∷ []) ++ n ++ (32 ∷ 34 ∷ [])) ++ v ++ (34 ∷ 93 �
 
 -- A tag without data lines, and what follows it.
 unfoldable pub taggedText : List ℕ → List ℕ → List Item → List ℕ
-taggedText n v is = tagLineText n v ++ afterText true n is
+taggedText n v is = tagLineText n v ++ afterText n is
 
 -- ---- supplemental tags
 
@@ -154,18 +156,34 @@ abbrev pub dataText : List (List ℕ) → List ℕ
 dataText [] = []
 dataText (d ∷ ds) = (d ++ 10 ∷ []) ++ dataText ds
 
--- A written tag that is the first of its name, with its data lines and what follows it.
+-- A written tag, no other having its name, with its data lines and what follows it.
 unfoldable pub fullText : WrittenTag → List Item → List ℕ
-fullText w is = tagLineText (w .name) (w .value) ++ dataText (w .lines) ++ afterText true (w .name) is
+fullText w is = tagLineText (w .name) (w .value) ++ dataText (w .lines) ++ afterText (w .name) is
 
 abbrev pub groupText : List WrittenTag → List Item → List ℕ
 groupText [] is = []
 groupText (w ∷ ws) is = fullText w is ++ groupText ws is
 
--- Notes by their values, in a row: blocks follow the first alone.
-abbrev pub notesText : Bool → List (List ℕ) → List Item → List ℕ
-notesText fresh [] is = []
-notesText fresh (v ∷ vs) is = (tagLineText (ascii "Note") v ++ afterText fresh (ascii "Note") is) ++ notesText false vs is
+-- One of the values is v.
+abbrev pub hasValue : List ℕ → List (List ℕ) → Bool
+hasValue v [] = false
+hasValue v (u ∷ us) = same v u || hasValue v us
+
+-- Whether the written note v, between others, takes the directives of a tag: of a Note of its value, where no earlier one has it; the first
+-- also of a Note whose value is not written.
+abbrev pub noteTakes : List (List ℕ) → List ℕ → List (List ℕ) → TagPair → Bool
+noteTakes earlier v later t =
+    same (ascii "Note") (t .name)
+    && cond (hasValue (t .value) (earlier ++ v ∷ later)) (same (t .value) v && not (hasValue (t .value) earlier)) (not (isAny earlier))
+
+-- Notes by their values, in a row, each with its directives; blocks follow the first alone. earlier are those written before.
+abbrev pub notesText : List (List ℕ) → List (List ℕ) → List Item → List ℕ
+notesText earlier [] is = []
+notesText earlier (v ∷ vs) is =
+    (tagLineText (ascii "Note") v
+    ++ remarksText (noteTakes earlier v vs) false 3 is
+    ++ cond (isAny earlier) [] (soughtText Under (ascii "Note") 4 is))
+    ++ notesText (earlier ++ v ∷ []) vs is
 
 -- ---- tags by their entries
 
@@ -207,22 +225,51 @@ noteNumberAt text entries e =
     (cond (eqb (tagNumber (placeBytes text entries e)) noteName) (noteNumber (placeBytes text entries (e + 1))) 256)
     256
 
--- A note with a number from n on that is not above the best so far takes its place.
-abbrev pub better : ℕ → ℕ → ℕ → Bool
-better n best m = ltb m 256 && (leb n m && leb m best)
+-- The places of the values of notes, by number, 0 for none: places, with each note among the n entries from e on put over those before it.
+-- An entry that names none has the number 256, which is past the last place.
+abbrev pub notePlaces : List ℕ → List ℕ → List ℕ → ℕ → ℕ → List ℕ
+notePlaces text entries places e zero = places
+notePlaces text entries places e (suc n) = notePlaces text entries (set places (noteNumberAt text entries e) (e + 1)) (e + 1) n
 
--- The lowest number from n on, and the place of the last note of that number, among the entries from e on; 256 where there is none.
-abbrev pub nextNote : List ℕ → List ℕ → ℕ → Note → ℕ → ℕ → Note
-nextNote text entries n best e zero = best
-nextNote text entries n best e (suc m) =
-    nextNote text entries n
-    (cond (better n (best .number) (noteNumberAt text entries e)) (record { number = noteNumberAt text entries e; place = e }) best)
-    (e + 1) m
+-- The value of the note n as it is written: its number, a colon (58) and what follows the first colon of the value at its place.
+unfoldable pub noteText : List ℕ → List ℕ → ℕ → ℕ → List ℕ
+noteText text entries n place =
+    decimal n ++ (58 ∷ []) ++ drop (length (before 58 (placeBytes text entries place)) + 1) (placeBytes text entries place)
 
--- A note's value is its number, a colon (58) and what follows the first colon of the value at its place.
-unfoldable pub noteText : List ℕ → List ℕ → Note → List ℕ
-noteText text entries note =
-    decimal (note .number) ++ (58 ∷ []) ++ drop (length (before 58 (placeBytes text entries (note .place + 1))) + 1) (placeBytes text entries (note .place + 1))
+-- The value of the note n, where it has a place.
+abbrev pub placedNote : List ℕ → List ℕ → List ℕ → ℕ → List (List ℕ)
+placedNote text entries places n = cond (eqb (getD places n 0) 0) [] (noteText text entries n (getD places n 0) ∷ [])
+
+-- The number of the written note that has the value v, 256 where none has.
+unfoldable pub noteOf : List ℕ → List ℕ → List ℕ → List ℕ → ℕ
+noteOf text entries places v = cond (hasValue v (placedNote text entries places (noteNumber v))) (noteNumber v) 256
+
+-- Whether the note n, which is the first or not, takes the directives of a Note of the value v.
+unfoldable pub takesValue : List ℕ → List ℕ → List ℕ → ℕ → Bool → List ℕ → Bool
+takesValue text entries places n first v = eqb (noteOf text entries places v) n || (first && leb 256 (noteOf text entries places v))
+
+-- The same of a tag.
+abbrev pub takesTag : List ℕ → List ℕ → List ℕ → ℕ → Bool → TagPair → Bool
+takesTag text entries places n first t = same (ascii "Note") (t .name) && takesValue text entries places n first (t .value)
+
+-- The note n with the directives that it takes and, where it is the first, the blocks.
+unfoldable pub fullNote : List ℕ → List ℕ → List ℕ → ℕ → Bool → List Item → List ℕ
+fullNote text entries places n first is =
+    tagLineText (ascii "Note") (noteText text entries n (getD places n 0))
+    ++ remarksText (takesTag text entries places n first) false 3 is
+    ++ cond first (soughtText Under (ascii "Note") 4 is) []
+
+-- The notes that have a place, from the number n on, k numbers long; first says that none stands before them.
+abbrev pub fullNotes : List ℕ → List ℕ → List ℕ → ℕ → ℕ → Bool → List Item → List ℕ
+fullNotes text entries places zero n first is = []
+fullNotes text entries places (suc k) n first is =
+    cond (eqb (getD places n 0) 0)
+    (fullNotes text entries places k (n + 1) first is)
+    (fullNote text entries places n first is ++ fullNotes text entries places k (n + 1) false is)
+
+-- All of them.
+unfoldable pub allNotes : List ℕ → List ℕ → List ℕ → List Item → List ℕ
+allNotes text entries places is = fullNotes text entries places 256 0 true is
 
 -- ---- whether there is anything to put back
 

@@ -136,7 +136,7 @@ fn put_seated(
     let d = put_open(page, at, name);
     let e = put_seat(page, d, c, seat);
     let f = put_close(page, e);
-    put_after(text, entries, first, scan, name, true, page, f)
+    put_after(text, entries, first, scan, name, page, f)
 }
 
 // The dealer, where there is one.
@@ -198,7 +198,7 @@ fn put_vulnerable(
     let d = put_open(page, at, b"Vulnerable");
     let e = put_vulnerability(page, d, v);
     let f = put_close(page, e);
-    put_after(text, entries, first, scan, b"Vulnerable", true, page, f)
+    put_after(text, entries, first, scan, b"Vulnerable", page, f)
 }
 
 // The tags before the deal, but for supplemental ones.
@@ -256,7 +256,7 @@ fn put_dealt(
     let d = put_open(page, at, b"Deal");
     let e = put_deal(page, d, c, seat, h);
     let f = put_close(page, e);
-    put_after(text, entries, first, scan, b"Deal", true, page, f)
+    put_after(text, entries, first, scan, b"Deal", page, f)
 }
 
 // Scoring: the first value of that name.
@@ -300,7 +300,7 @@ fn put_outcome(
     let d = put_open(page, at, b"Result");
     let e = put_result(page, d, met, result);
     let f = put_close(page, e);
-    put_after(text, entries, first, scan, b"Result", true, page, f)
+    put_after(text, entries, first, scan, b"Result", page, f)
 }
 
 // Deal, Scoring, Declarer, Contract, Result.
@@ -356,16 +356,7 @@ fn put_table(
     let d = put_open(page, at, b"DoubleDummyTricks");
     let e = put_digits(page, d, cards, b);
     let f = put_close(page, e);
-    put_after(
-        text,
-        entries,
-        first,
-        scan,
-        b"DoubleDummyTricks",
-        true,
-        page,
-        f,
-    )
+    put_after(text, entries, first, scan, b"DoubleDummyTricks", page, f)
 }
 
 // The table, the optimum score and the par contract, where there are any.
@@ -430,7 +421,7 @@ pub(crate) fn put_bidding(
         page,
         f,
     );
-    let h = put_after(text, entries, first, scan, b"Auction", true, page, g);
+    let h = put_after(text, entries, first, scan, b"Auction", page, g);
     put_notes(text, entries, first, scan, from, less(end, from), page, h)
 }
 
@@ -466,5 +457,5 @@ pub(crate) fn put_cards(
         page,
         f,
     );
-    put_after(text, entries, first, scan, b"Play", true, page, g)
+    put_after(text, entries, first, scan, b"Play", page, g)
 }

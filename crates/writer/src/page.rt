@@ -142,6 +142,9 @@ fn put_unwritten(
     requires { ⌜ scan ≤ 4294967296 ⌝ }
     ensures { λ r. ⌜ Puts (now (page .entry)) at (unwrittenText (presentHeld (now (text .entry)) (now (cards .entry)) (now (entries .entry)) b) (scannedItems (now (text .entry)) (now (cards .entry)) (now (entries .entry)) b scan)) (now (page .exit)) r ⌝ }
 {
+    if scan == 0 {
+        return at;
+    }
     let first = card_word(cards, b, 0);
     let lost = Sought::Unwritten(present_at(text, cards, entries, b));
     let d = put_remarks(text, entries, first, scan, lost, b"", 4, page, at);

@@ -7,7 +7,7 @@ ghost use lib.ListN.{length, getD};
 ghost use Rattle.reader.specs.Plain.{withoutReturns};
 ghost use Rattle.writer.specs.Puts.{Puts};
 ghost use Rattle.writer.specs.Held.{itemsAt};
-ghost use Rattle.writer.specs.Items.{soughtBy, isFirst, remarkText, remarksText, afterText};
+ghost use Rattle.writer.specs.Items.{soughtBy, isFirst, remarkText, soughtText, afterText};
 use crate::held::bytes_at;
 use crate::held::entry_word;
 use crate::present::Present;
@@ -76,7 +76,7 @@ fn put_block(page: &mut [u8], at: usize, s: &[u8]) -> usize
 }
 
 // A directive on its line, a block in braces.
-fn put_remark(page: &mut [u8], at: usize, kind: usize, s: &[u8]) -> usize
+pub(crate) fn put_remark(page: &mut [u8], at: usize, kind: usize, s: &[u8]) -> usize
     ensures { λ r. ⌜ Puts (now (page .entry)) at (remarkText kind (now (s .entry))) (now (page .exit)) r ⌝ }
 {
     if kind == 4 {
@@ -101,7 +101,7 @@ pub(crate) fn put_remarks(
     at: usize,
 ) -> usize
     requires { ⌜ (first + count ≤ 8589934592) × (kind ≤ 4) ⌝ }
-    ensures { λ r. ⌜ Puts (now (page .entry)) at (remarksText (soughtBy sought (now (name .entry))) (isFirst sought) kind (itemsAt (now (text .entry)) (now (entries .entry)) first count)) (now (page .exit)) r ⌝ }
+    ensures { λ r. ⌜ Puts (now (page .entry)) at (soughtText sought (now (name .entry)) kind (itemsAt (now (text .entry)) (now (entries .entry)) first count)) (now (page .exit)) r ⌝ }
 {
     let mut k = at;
     let mut e = first;
@@ -124,19 +124,18 @@ pub(crate) fn put_remarks(
     k
 }
 
-// What follows a written tag: its directives and, after the first of its name, its blocks.
+// What follows a written tag whose name no other has: its directives, then its blocks.
 pub(crate) fn put_after(
     text: &[u8],
     entries: &[u32],
     first: usize,
     count: usize,
     name: &[u8],
-    fresh: bool,
     page: &mut [u8],
     at: usize,
 ) -> usize
     requires { ⌜ first + count ≤ 8589934592 ⌝ }
-    ensures { λ r. ⌜ Puts (now (page .entry)) at (afterText fresh (now (name .entry)) (itemsAt (now (text .entry)) (now (entries .entry)) first count)) (now (page .exit)) r ⌝ }
+    ensures { λ r. ⌜ Puts (now (page .entry)) at (afterText (now (name .entry)) (itemsAt (now (text .entry)) (now (entries .entry)) first count)) (now (page .exit)) r ⌝ }
 {
     let k = put_remarks(
         text,
@@ -149,8 +148,5 @@ pub(crate) fn put_after(
         page,
         at,
     );
-    if fresh {
-        return put_remarks(text, entries, first, count, Sought::Under, name, 4, page, k);
-    }
-    k
+    put_remarks(text, entries, first, count, Sought::Under, name, 4, page, k)
 }

@@ -54,7 +54,7 @@ pub(crate) fn put_tagged(
     ensures { λ r. ⌜ Puts (now (page .entry)) at (taggedText (now (name .entry)) (now (value .entry)) (itemsAt (now (text .entry)) (now (entries .entry)) first count)) (now (page .exit)) r ⌝ }
 {
     let a = put_tag(page, at, name, value);
-    put_after(text, entries, first, count, name, true, page, a)
+    put_after(text, entries, first, count, name, page, a)
 }
 
 // Whether the entry e names a supplemental tag, other than Scoring, that no entry from first on names before.

@@ -1,8 +1,5 @@
 use Rattle.writer.specs.Items.{tagLineText, noteText}
-use Rattle.writer.proofs.PutLaws.{puts-then, puts-as}
-use mathlib.Core.Path.{_≡_, sym, refl, ap, _∙_}
-use denote.Ref.{now}
-use native.Mathlib.Omega.{arith}
+use Rattle.writer.proofs.PutLaws.{puts-then}
 use borrow.Author.Needs.{needs}
 use Rattle.writer.proofs.notes.put_note.Statement.{statement}
 use Rattle.writer.proofs.notes.put_note.Tie as tie
@@ -16,9 +13,6 @@ use Rattle.writer.proofs.put.put_bytes.Reads as put-bytes-reads
 use Rattle.writer.proofs.put.put_number.Reads as put-number-reads
 use Rattle.writer.proofs.tags.put_close.Reads as put-close-reads
 use Rattle.writer.proofs.tags.put_open.Reads as put-open-reads
-
-add-bytes-at : tie.Need-add-bytes-at
-add-bytes-at c = search needs
 
 bytes-at-requires : tie.Need-bytes-at-requires
 bytes-at-requires c κs = search needs
@@ -59,13 +53,12 @@ same-length c = search needs
 returns : tie.Need-returns
 unfolding tagLineText noteText
 returns c =
-    puts-then (puts-then (c .before .before .before .before .before .before .before .before .before .before .before .before .before .before .before .before .before .before .before .before .put-open .ensures) (rw (c .before .before .before .before .before .before .before .from .ensures, c .before .before .before .before .before .before .before .before .before .before .before .before .before .before .before .before .before .before .before .before .before .before .before .index-of .ensures .0, c .before .before .before .before .before .before .before .before .before .before .before .before .before .before .before .before .before .before .before .before .before .before .before .before .bytes-at .ensures) at (puts-then (puts-then (c .before .before .before .before .before .before .before .before .before .before .before .before .before .before .before .put-number .ensures) (c .before .before .before .before .before .before .before .before .before .before .before .put-byte .ensures)) (c .before .before .before .before .before .before .put-bytes .ensures)))) (c .before .before .put-close .ensures)
+    puts-then (puts-then (c .before .before .before .before .before .before .before .before .before .before .before .before .before .before .before .before .before .before .before .put-open .ensures) (rw (c .before .before .before .before .before .before .before .from .ensures, c .before .before .before .before .before .before .before .before .before .before .before .before .before .before .before .before .before .before .before .before .before .before .index-of .ensures .0, c .before .before .before .before .before .before .before .before .before .before .before .before .before .before .before .before .before .before .before .before .before .before .before .bytes-at .ensures) at (puts-then (puts-then (c .before .before .before .before .before .before .before .before .before .before .before .before .before .before .before .put-number .ensures) (c .before .before .before .before .before .before .before .before .before .before .before .put-byte .ensures)) (c .before .before .before .before .before .before .put-bytes .ensures)))) (c .before .before .put-close .ensures)
 
 pub put-note-spec : {M : Type 1} → statement M
 put-note-spec =
     tie.close
     (tie.spec
-    add-bytes-at
     bytes-at-requires
     index-of-requires
     slice-aggregate-put-open

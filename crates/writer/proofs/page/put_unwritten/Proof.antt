@@ -1,8 +1,10 @@
-use native.Mathlib.Omega.{arith}
-use Rattle.writer.proofs.PutLaws.{puts-then}
+use Rattle.writer.proofs.PutLaws.{puts-then, puts-nothing}
 use borrow.Author.Needs.{needs}
 use Rattle.writer.proofs.page.put_unwritten.Statement.{statement}
 use Rattle.writer.proofs.page.put_unwritten.Tie as tie
+
+returns : tie.Need-returns
+returns c = rw (c .if1 .taken) (puts-nothing _ _)
 
 card-word-requires : tie.Need-card-word-requires
 card-word-requires c κs = search needs
@@ -25,13 +27,14 @@ put-remarks-requires-2 c κs = search needs
 same-length : tie.Need-same-length
 same-length c = search needs
 
-returns : tie.Need-returns
-returns c = rw (c .before .before .before .before .before .before .before .before .before .before .present-at .ensures, c .before .before .before .before .before .before .before .before .before .before .before .card-word .ensures .0) at (puts-then (c .before .before .before .before .before .before .before .put-remarks .ensures) (c .before .before .put-remarks2 .ensures))
+returns-2 : tie.Need-returns-2
+returns-2 c = rw (c .before .before .before .before .before .before .before .before .before .before .present-at .ensures, c .before .before .before .before .before .before .before .before .before .before .before .card-word .ensures .0) at (puts-then (c .before .before .before .before .before .before .before .put-remarks .ensures) (c .before .before .put-remarks2 .ensures))
 
 pub put-unwritten-spec : {M : Type 1} → statement M
 put-unwritten-spec =
     tie.close
     (tie.spec
+    returns
     card-word-requires
     present-at-requires
     slice-aggregate-put-remarks
@@ -39,4 +42,4 @@ put-unwritten-spec =
     slice-aggregate-put-remarks-2
     put-remarks-requires-2
     same-length
-    returns)
+    returns-2)

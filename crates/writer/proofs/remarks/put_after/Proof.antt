@@ -1,7 +1,5 @@
-use mathlib.Core.Path.{sym}
-use mathlib.Core.List.{append-nil}
 use Rattle.writer.specs.Items.{afterText}
-use Rattle.writer.proofs.PutLaws.{puts-then, puts-as}
+use Rattle.writer.proofs.PutLaws.{puts-then}
 use borrow.Author.Needs.{needs}
 use Rattle.writer.proofs.remarks.put_after.Statement.{statement}
 use Rattle.writer.proofs.remarks.put_after.Tie as tie
@@ -21,15 +19,7 @@ same-length c = search needs
 returns : tie.Need-returns
 unfolding afterText
 returns c =
-    rw (c .before .before .before .before .if1 .taken) (puts-then (c .before .before .before .before .before .before .before .put-remarks .ensures) (c .before .before .put-remarks2 .ensures))
-
-same-length-2 : tie.Need-same-length-2
-same-length-2 c = search needs
-
-returns-2 : tie.Need-returns-2
-unfolding afterText
-returns-2 c =
-    rw (c .if1 .left) (puts-as (sym (append-nil _)) (c .before .before .before .put-remarks .ensures))
+    puts-then (c .before .before .before .before .before .before .put-remarks .ensures) (c .before .before .put-remarks2 .ensures)
 
 pub put-after-spec : {M : Type 1} → statement M
 put-after-spec =
@@ -38,6 +28,4 @@ put-after-spec =
     put-remarks-requires
     put-remarks-requires-2
     same-length
-    returns
-    same-length-2
-    returns-2)
+    returns)

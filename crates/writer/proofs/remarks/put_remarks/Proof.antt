@@ -3,14 +3,11 @@ use Rattle.writer.specs.Held.{itemsAt}
 use Rattle.writer.proofs.RemarkLaws.{items-none, remarks-tag, remarks-put, remarks-pass}
 use Rattle.writer.proofs.PutLaws.{PutsLeft, puts-first, puts-same, puts-next, puts-all}
 use Prim.Native.Nat.{_-_, _+_, _≤_}
-use mathlib.Core.Path.{_≡_, sym, _∙_}
+use mathlib.Core.Path.{sym, _∙_}
 use denote.Ref.{now}
 use native.Mathlib.Omega.{arith}
 use Prim.Native.Nat.{_-_, _≤_}
-use mathlib.Core.Path.{_≡_}
-use lib.ListN.{length, drop}
 use borrow.Author.Needs.{needs}
-use borrow.Author.Tests.{eq-eqb, ne-eqb}
 use Rattle.writer.proofs.remarks.put_remarks.Statement.{statement}
 use Rattle.writer.proofs.remarks.put_remarks.Tie as tie
 use Rattle.writer.proofs.remarks.put_remarks.Reads as reads
@@ -23,7 +20,7 @@ use Rattle.writer.proofs.remarks.put_remark.Reads as put-remark-reads
 
 abbrev Inv-loop : tie.InvT-loop
 Inv-loop text entries first count sought name kind page₀ at k₀ e₀ left₀ under₀ page k e left under =
-    PutsLeft page₀ at (remarksText (soughtBy sought name) (isFirst sought) kind (itemsAt text entries first count)) page k (remarksText (soughtBy sought name) under kind (itemsAt text entries e left)) × (e + left ≤ first + count)
+    PutsLeft page₀ at (remarksText (λ t. soughtBy sought name (t .name)) (isFirst sought) kind (itemsAt text entries first count)) page k (remarksText (λ t. soughtBy sought name (t .name)) under kind (itemsAt text entries e left)) × (e + left ≤ first + count)
 
 abbrev μ-loop : tie.MeasureT-loop
 μ-loop text entries first count sought name kind page₀ at k₀ e₀ left₀ under₀ page k e left under = left
@@ -55,7 +52,7 @@ loop-less c = search needs
 
 loop-again : tie.Need-loop-again Inv-loop μ-loop
 loop-again c =
-    let a = c .before .before .before .before .before .before .before .before .before .before .before .args in let l = c .before .before .before .before .before .loop in (rw (c .is-sought .ensures, c .before .bytes-at .ensures) (puts-same (remarks-tag (soughtBy (a .sought) (now (a .name))) (l .under) (a .kind) (now (a .text)) (now (a .entries)) (l .e) (l .left) (c .before .before .before .before .loop-test .taken) (sym (c .before .before .before .entry-word .ensures .0) ∙ c .before .before .if1 .taken)) (l .inv .0)), omega (arith, l .inv .1, c .before .before .before .before .loop-test .taken))
+    let a = c .before .before .before .before .before .before .before .before .before .before .before .args in let l = c .before .before .before .before .before .loop in (rw (c .is-sought .ensures, c .before .bytes-at .ensures) (puts-same (remarks-tag (λ t. soughtBy (a .sought) (now (a .name)) (t .name)) (l .under) (a .kind) (now (a .text)) (now (a .entries)) (l .e) (l .left) (c .before .before .before .before .loop-test .taken) (sym (c .before .before .before .entry-word .ensures .0) ∙ c .before .before .if1 .taken)) (l .inv .0)), omega (arith, l .inv .1, c .before .before .before .before .loop-test .taken))
 
 bytes-at-requires-2 : tie.Need-bytes-at-requires-2 Inv-loop μ-loop
 bytes-at-requires-2 c κs = search needs
@@ -68,14 +65,14 @@ loop-less-2 c = search needs
 
 loop-again-2 : tie.Need-loop-again-2 Inv-loop μ-loop
 loop-again-2 c =
-    let a = c .before .before .before .before .before .before .before .before .before .before .before .before .before .before .before .args in let l = c .before .before .before .before .before .before .before .before .before .loop in (puts-next _ _ (puts-same (remarks-put (soughtBy (a .sought) (now (a .name))) (l .under) (a .kind) (now (a .text)) (now (a .entries)) (l .e) (l .left) (c .before .before .before .before .before .before .before .before .loop-test .taken) (rw (← c .before .before .before .before .before .before .before .entry-word .ensures .0) (c .before .before .before .before .before .before .if1 .left)) (c .before .before .before .before .before .before .before .before .before .before .before .before .before .before .before .pre .1) (rw (← c .before .before .before .before .before .before .before .entry-word .ensures .0) (c .before .before .before .before .before .if2 .taken))) (l .inv .0)) (rw (c .before .before .before .bytes-at2 .ensures) at (c .before .before .put-remark .ensures)), omega (arith, l .inv .1, c .before .before .before .before .before .before .before .before .loop-test .taken))
+    let a = c .before .before .before .before .before .before .before .before .before .before .before .before .before .before .before .args in let l = c .before .before .before .before .before .before .before .before .before .loop in (puts-next _ _ (puts-same (remarks-put (λ t. soughtBy (a .sought) (now (a .name)) (t .name)) (l .under) (a .kind) (now (a .text)) (now (a .entries)) (l .e) (l .left) (c .before .before .before .before .before .before .before .before .loop-test .taken) (rw (← c .before .before .before .before .before .before .before .entry-word .ensures .0) (c .before .before .before .before .before .before .if1 .left)) (c .before .before .before .before .before .before .before .before .before .before .before .before .before .before .before .pre .1) (rw (← c .before .before .before .before .before .before .before .entry-word .ensures .0) (c .before .before .before .before .before .if2 .taken))) (l .inv .0)) (rw (c .before .before .before .bytes-at2 .ensures) at (c .before .before .put-remark .ensures)), omega (arith, l .inv .1, c .before .before .before .before .before .before .before .before .loop-test .taken))
 
 loop-less-3 : tie.Need-loop-less-3 Inv-loop μ-loop
 loop-less-3 c = search needs
 
 loop-again-3 : tie.Need-loop-again-3 Inv-loop μ-loop
 loop-again-3 c =
-    let a = c .before .before .before .before .before .before .before .before .before .before .args in let l = c .before .before .before .before .loop in (puts-same (remarks-pass (soughtBy (a .sought) (now (a .name))) (l .under) (a .kind) (now (a .text)) (now (a .entries)) (l .e) (l .left) (c .before .before .before .loop-test .taken) (rw (← c .before .before .entry-word .ensures .0) (c .before .if1 .left)) (rw (← c .before .before .entry-word .ensures .0) (c .if2 .left))) (l .inv .0), omega (arith, l .inv .1, c .before .before .before .loop-test .taken))
+    let a = c .before .before .before .before .before .before .before .before .before .before .args in let l = c .before .before .before .before .loop in (puts-same (remarks-pass (λ t. soughtBy (a .sought) (now (a .name)) (t .name)) (l .under) (a .kind) (now (a .text)) (now (a .entries)) (l .e) (l .left) (c .before .before .before .loop-test .taken) (rw (← c .before .before .entry-word .ensures .0) (c .before .if1 .left)) (rw (← c .before .before .entry-word .ensures .0) (c .if2 .left))) (l .inv .0), omega (arith, l .inv .1, c .before .before .before .loop-test .taken))
 
 same-length : tie.Need-same-length Inv-loop μ-loop
 same-length c =
