@@ -4,6 +4,7 @@
 use crate::read::Checked;
 use crate::shrink::{shrink, Ways};
 use crate::tables::hex;
+use crate::write::once::Names;
 use std::collections::BTreeMap;
 use std::fmt::{Debug, Display};
 
@@ -48,6 +49,9 @@ pub struct Met {
     groups: BTreeMap<&'static str, u64>,
     by_rust: u64,
     by_model: u64,
+    /// Judged by the Rust's page with each directive once.
+    unwritten: u64,
+    repeated: u64,
     pub bytes: u64,
     pub calls: u64,
     /// By refusal and edition.
@@ -69,6 +73,17 @@ impl Met {
             &mut self.by_rust
         } else {
             &mut self.by_model
+        }) += 1;
+    }
+
+    /// Counts who judged a page, by the names that its directives stand after. None
+    /// are told of a text outside the domain.
+    pub fn placed(&mut self, names: Option<Names>) {
+        *(match names {
+            Some(Names::Once) => &mut self.by_rust,
+            Some(Names::Unwritten) => &mut self.unwritten,
+            Some(Names::Repeated) => &mut self.repeated,
+            None => &mut self.by_model,
         }) += 1;
     }
 
@@ -103,12 +118,25 @@ impl Report {
     /// The groups, and how many inputs were compared with which judge.
     pub fn inputs(&self, met: &Met, inputs: &str, judge: &str) {
         self.groups(met);
+        let left = met.unwritten + met.repeated;
+        let once = match left {
+            0 => String::new(),
+            left => format!(" {left} with each directive put in once,"),
+        };
         self.say(format_args!(
-            "{} {inputs} compared, {} with {judge}, {} outside its domain with the model",
-            met.by_rust + met.by_model,
+            "{} {inputs} compared, {} with {judge},{once} {} outside its domain with the model",
+            met.by_rust + left + met.by_model,
             met.by_rust,
             met.by_model
         ));
+    }
+
+    /// How many inputs were judged with each directive put in once, and why.
+    pub fn placed(&mut self, met: &Met, inputs: &str, least: u64) {
+        let after = format!("{inputs} with a directive after a name that is");
+        self.line(met.unwritten, format_args!("{after} not written"));
+        let repeated = format!("{after} written twice or more");
+        self.at_least(least, met.repeated, repeated);
     }
 
     /// What was read and written.
@@ -132,8 +160,13 @@ impl Report {
 
     /// A line for something that must have been met.
     pub fn line(&mut self, count: u64, what: impl Display) {
+        self.at_least(1, count, what);
+    }
+
+    /// A line for something that must have been met so often.
+    fn at_least(&mut self, least: u64, count: u64, what: impl Display) {
         println!("{count:>9}  {what}");
-        self.unmet |= count == 0;
+        self.unmet |= count < least;
     }
 
     /// The calls, and those that met each of these refusals.
@@ -200,7 +233,7 @@ pub fn run<C: Comparison>(
     }
     report.say(format_args!("{calls} calls with {}", C::LONG));
     if report.unmet {
-        report.say("something above was never met, and so not compared");
+        report.say("something above was never or too seldom met, and so not compared");
         return false;
     }
     report.say("no difference");

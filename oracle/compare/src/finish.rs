@@ -3,13 +3,14 @@
 
 pub mod answers;
 pub mod bench;
+mod generate;
 mod judge;
 mod model;
 pub mod outside;
 mod product;
 
 use crate::comparison::{self, Comparison, Met, Refusal, Report};
-use crate::plan::generate;
+use crate::plan::generate::longest;
 use crate::plan::model::{has_table, Plan, State, NEAR, OLD};
 use crate::plan::{each_two, pair, StateCounts, OF_EDITIONS};
 use crate::read::product::Lent as LentBoxes;
@@ -17,8 +18,9 @@ use crate::read::{Checked, LONGEST};
 use crate::rng::Rng;
 use crate::room::{Room, ENOUGH, ROOMS};
 use crate::tables::judge::text_in_domain;
-use crate::write::generate::needing_most;
-use crate::write::{compare_written, same_page, PAGE_STEP};
+use crate::write::generate::{noted_at_length, small_boards};
+use crate::write::once::Names;
+use crate::write::{compare_written, lines, same_page, PAGE_STEP};
 use answers::{Above, Answers, Length, ABOVES, LENGTHS, TABLE};
 use golavimes::Boxes;
 use product::Product;
@@ -73,16 +75,17 @@ impl<'a> Pair<'a> {
         }
     }
 
-    /// The model's page against the Rust's, where both texts are in the domain.
-    /// Returns whether they are.
-    fn compare_rust(&self) -> Result<bool, String> {
+    /// The model's page against the Rust's with each directive once, where both texts
+    /// are in the domain. Returns then whether that is the Rust's own page.
+    fn compare_rust(&self) -> Result<Option<Names>, String> {
         let texts = [self.plan.old, self.plan.new].map(text_in_domain);
         let [Some(old), Some(new)] = texts else {
-            return Ok(false);
+            return Ok(None);
         };
         let rust = judge::page(old, new, &self.answers)?;
-        same_page("writer.rs", &rust, "the model", &self.page)?;
-        Ok(true)
+        let name = rust.names.judge();
+        same_page(name, &rust.page, "the model", &self.page)?;
+        Ok(Some(rust.names))
     }
 
     /// What a call left, against the model.
@@ -122,6 +125,8 @@ enum Check {
     Rust(Answers),
     /// The product against the model.
     Call(Call),
+    /// The directives on the product's page.
+    Lines(Call),
 }
 
 /// Every so many pairs the rooms and answers around each boundary are tried.
@@ -220,8 +225,13 @@ struct Counts {
     aboves: [u64; ABOVES.len()],
     /// Calls whose page was looked at, by `ROOMS`.
     pages: [u64; ROOMS.len()],
+    /// Pairs of which the new edition's directives all differ.
+    all_differ: u64,
     sized: u64,
 }
+
+/// At least so many pairs must have a directive after a name that is written twice.
+const LEAST_REPEATED: u64 = 50_000;
 
 /// The refusals that name no edition.
 const OF_NONE: [Refusal; 3] = [(5, 0, "answers"), (6, 0, "impossible"), (7, 0, "page full")];
@@ -271,6 +281,16 @@ impl Run {
         Ok(())
     }
 
+    /// Each directive is one line of the page that the last call left. Nothing was
+    /// refused.
+    fn lines(&mut self, plan: &Plan) -> Checked {
+        let left = self.product.left();
+        let page = &left.page[..left.answer[3] as usize];
+        let all_differ = lines::check(plan.new, &plan.news, page)?;
+        self.counts.all_differ += u64::from(all_differ);
+        Ok(())
+    }
+
     fn room(&mut self, rooms: &[Room]) -> Room {
         rooms[self.rng.below(rooms.len())]
     }
@@ -304,13 +324,33 @@ impl Run {
         Ok(())
     }
 
-    /// A new edition whose page is too long to be lent: it must be refused, with the
-    /// bytes that the model counts.
-    fn too_long_to_lend(&mut self, new: &[u8]) -> Checked {
+    /// A long pair with these answers, with enough lent and a word too few of some.
+    fn long_pair(&mut self, pair: &Pair, all: [Answers; 2]) -> Checked {
+        let short = [0, 3, 4].map(|at| {
+            let mut rooms = [Room::Exact; 5];
+            rooms[at] = Room::WordLess;
+            rooms
+        });
+        for rooms in short.into_iter().chain([[Room::Exact; 5]]) {
+            for answers in all {
+                let call = Call {
+                    rooms,
+                    page_step: PAGE_STEP,
+                    answers,
+                };
+                let tell = |(check, error)| format!("{check:?}: {error}");
+                self.call(pair, call).map_err(tell)?;
+            }
+        }
+        Ok(())
+    }
+
+    /// A new edition whose page is very long: it must be refused, with the bytes that
+    /// the model counts.
+    fn need_told(&mut self, new: &[u8]) -> Checked {
         let plan = Plan::new(b"", new);
         let answers = Answers::right(1).bytes(&plan);
         let need = model::need(&plan, &answers);
-        assert!(need > 1 << 31, "a page that could be lent");
         for page in [0, 1, 100_000] {
             let lent = Lent {
                 boxes: plan.lent([Room::Exact; 4]),
@@ -347,7 +387,7 @@ impl Comparison for Run {
     const NAME: &'static str = "finish";
     const TEXTS: &'static [&'static str] = &["old text", "new text"];
     const LONG: &'static str =
-        "texts of 16777215 bytes and one more, and with pages and answers too long to lend";
+        "texts of 16777215 bytes and one more, of very many boards, and with answers too long";
 
     type Check = Check;
 
@@ -357,9 +397,9 @@ impl Comparison for Run {
         let right = Answers::right(self.rng.next());
         let pair = Pair::new(old, new, right);
         self.counts.pair(&pair);
-        let by_rust = pair.compare_rust();
-        let by_rust = by_rust.map_err(|error| (Check::Rust(right), error))?;
-        self.counts.met.judged(by_rust);
+        let names = pair.compare_rust();
+        let names = names.map_err(|error| (Check::Rust(right), error))?;
+        self.counts.met.placed(names);
 
         // With enough lent and right answers; with any page; with answers of any
         // length; with bytes above 13; with anything.
@@ -369,6 +409,8 @@ impl Comparison for Run {
             answers: right,
         };
         self.call(&pair, enough)?;
+        self.lines(&pair.plan)
+            .map_err(|error| (Check::Lines(enough), error))?;
         let mut call = enough;
         call.rooms[4] = self.room(&ROOMS);
         self.call(&pair, call)?;
@@ -396,20 +438,31 @@ impl Comparison for Run {
                 let pair = Pair::new(old, new, Answers::right(call.answers.seed));
                 compare_call(&mut self.product, &pair, &call)
             }
+            Check::Lines(call) => {
+                let pair = Pair::new(old, new, call.answers);
+                let product = &mut self.product;
+                product.call(pair.plan.editions(), &pair.answers, &pair.lent(&call))?;
+                match product.left().answer {
+                    [0, ..] => self.lines(&pair.plan),
+                    _ => Ok(()),
+                }
+            }
         }
     }
 
     fn sides(check: Check) -> &'static str {
         match check {
-            Check::Rust(_) => "the model against reader.rs and writer.rs",
+            Check::Rust(_) => "the model against reader.rs and writer.rs, each directive once",
             Check::Call(_) => "golavimes against the model",
+            Check::Lines(_) => "the directives on golavimes's page",
         }
     }
 
-    /// Editions as long as can be, and longer, on either side; pages and answers
-    /// longer than can be lent.
+    /// Editions as long as can be, and longer, on either side; a very long page, and
+    /// answers longer than can be lent.
     fn longest(&mut self, seed: u64) -> Checked {
-        let (longest, few) = generate::longest(seed);
+        let (longest, few) = longest(seed);
+        let noted = noted_at_length();
         let mut overlong = longest.clone();
         overlong.push(b'x');
         let right = Answers::right(seed);
@@ -418,35 +471,18 @@ impl Comparison for Run {
         for (old, new) in [
             (&longest, &few),
             (&few, &longest),
+            (&few, &noted),
             (&overlong, &few),
             (&few, &overlong),
             (&overlong, &overlong),
         ] {
             let pair = Pair::new(old, new, right);
             if old.len().max(new.len()) <= LONGEST {
-                assert!(pair.compare_rust()?, "editions of ASCII");
+                assert!(pair.compare_rust()?.is_some(), "editions of ASCII");
             }
-            let short = [0, 3, 4].map(|at| {
-                let mut rooms = [Room::Exact; 5];
-                rooms[at] = Room::WordLess;
-                rooms
-            });
-            for rooms in short.into_iter().chain([[Room::Exact; 5]]) {
-                for answers in [right, wrong] {
-                    let call = Call {
-                        rooms,
-                        page_step: PAGE_STEP,
-                        answers,
-                    };
-                    let tell = |(check, error)| format!("{check:?}: {error}");
-                    self.call(&pair, call).map_err(tell)?;
-                }
-            }
+            self.long_pair(&pair, [right, wrong])?;
         }
-        for most in needing_most() {
-            self.too_long_to_lend(&most)?;
-        }
-        self.too_long_to_lend(&[&few[..], b"\n", &needing_most()[0]].concat())?;
+        self.need_told(&[&few[..], b"\n", &small_boards()].concat())?;
         self.answers_too_long(b"")?;
         self.answers_too_long(&few)
     }
@@ -458,6 +494,9 @@ impl Comparison for Run {
     fn print(&self, report: &mut Report) {
         let counts = &self.counts;
         report.inputs(&counts.met, "pairs", "reader.rs and writer.rs");
+        report.placed(&counts.met, "pairs", LEAST_REPEATED);
+        let all_differ = "pairs whose new directives all differ, each one line of golavimes's page";
+        report.line(counts.all_differ, all_differ);
         report.say(format_args!(
             "{} bytes read, {} boards in the new editions, {} bytes finished",
             counts.met.bytes, counts.boards, counts.written
@@ -514,12 +553,34 @@ mod tests {
     fn the_listing_example() {
         let (old, new) = example();
         let pair = Pair::new(old.as_bytes(), new.as_bytes(), Answers::right(7));
-        assert_eq!(pair.compare_rust(), Ok(true));
+        assert_eq!(pair.compare_rust(), Ok(Some(Names::Once)));
         let tables = tables(&pair.page);
         assert_eq!(tables.len(), 3);
         assert_eq!(tables[0], "[DoubleDummyTricks \"00000000000000000000\"]");
         assert_ne!(tables[0], tables[1]);
         assert_eq!(tables[1], tables[2]);
+    }
+
+    /// A directive after a tag that writing leaves out and finishing writes.
+    #[test]
+    fn a_table_that_is_given_takes_its_directives() {
+        let (_, new) = example();
+        let deal = new.lines().next().expect("a deal");
+        let new = format!("{deal}\n[DoubleDummyTricks \"bad\"]\n;c\n[Board \"\"]");
+        let finished = |new: &str| {
+            let pair = Pair::new(b"", new.as_bytes(), Answers::right(7));
+            let names = pair.compare_rust().expect("it agrees");
+            (names, String::from_utf8(pair.page).expect("text"))
+        };
+        let (names, page) = finished(&new);
+        assert_eq!(names, Some(Names::Once));
+        assert!(page.ends_with("\"]\n;c\n") && tables(page.as_bytes()).len() == 1);
+        let blank = new.replace(deal, "[Deal \"\"]");
+        assert_eq!(finished(&blank).0, Some(Names::Unwritten));
+        let notes = "[Auction \"N\"]\n1C\n[Note \"1:a\"]\n[Note \"2:b\"] ;d";
+        let (names, page) = finished(&format!("{new}\n{notes}"));
+        assert_eq!(names, Some(Names::Repeated));
+        assert!(page.ends_with("\n[Note \"1:a\"]\n[Note \"2:b\"]\n;d\n"));
     }
 
     #[test]

@@ -52,11 +52,15 @@ pub trait Recording {
     fn record_around(file: &mut File, text: &[u8]);
 }
 
+/// A text and the sizes lent for it.
+type Lent = (Vec<u8>, Vec<usize>);
+
 /// The file and what was put into it.
 #[derive(Default)]
 pub struct File {
     bytes: Vec<u8>,
-    written: BTreeSet<(Vec<u8>, Vec<usize>)>,
+    written: BTreeSet<Lent>,
+    left_out: BTreeSet<Lent>,
     counts: BTreeMap<(Group, u64), usize>,
 }
 
@@ -82,6 +86,11 @@ impl File {
         self.bytes.push(refusal as u8);
         self.short(carried);
         true
+    }
+
+    /// Leaves a case out that the Rust does not judge.
+    pub fn leave_out(&mut self, text: &[u8], sizes: &[usize]) {
+        self.left_out.insert((text.to_vec(), sizes.to_vec()));
     }
 
     /// A number of 16 bits.
@@ -125,7 +134,11 @@ pub fn run<R: Recording>(seed: u64, path: &Path) -> std::io::Result<()> {
         println!("{count:>6}  {group:?} refusal {refusal}");
     }
     let (cases, bytes) = (file.written.len(), file.bytes.len());
-    println!("record: {cases} {}, {bytes} bytes", R::NAME);
+    let left_out = file.left_out.len();
+    println!(
+        "record: {cases} {}, {bytes} bytes; {left_out} left out",
+        R::NAME
+    );
     Ok(())
 }
 

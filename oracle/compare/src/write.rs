@@ -4,7 +4,10 @@
 pub mod bench;
 mod chosen;
 pub mod generate;
+pub mod lines;
 pub mod model;
+pub mod notes;
+pub mod once;
 pub mod outside;
 pub mod product;
 mod read_back;
@@ -17,7 +20,7 @@ use crate::read::{compare_box, read_rust, Checked, LONGEST};
 use crate::rng::Rng;
 use crate::room::{Room, ENOUGH, ROOMS};
 use crate::tables::judge::text_in_domain;
-use bridge_encodings::pbn::write_pbn;
+use once::{judge, Names};
 use product::Product;
 
 /// How many words are lent for cards and entries, and how many bytes as page.
@@ -75,15 +78,13 @@ fn answer_for(length: usize, lent: &Lent, reading: &Reading, need: u64) -> [u64;
     }
 }
 
-/// The page that the unchanged `write_pbn` writes of what `read_pbn` reads.
-fn rust_page(text: &str) -> Result<Vec<u8>, String> {
-    Ok(write_pbn(&read_rust(text)?).into_bytes())
-}
-
-/// The model's page against the Rust's.
-fn compare_rust(edition: &Edition, text: &str) -> Checked {
-    let rust = rust_page(text)?;
-    same_page("writer.rs", &rust, "the model", &edition.page)
+/// The model's page against what the unchanged `write_pbn` writes of what `read_pbn`
+/// reads, with each directive once. Returns whether that is the Rust's own page.
+fn compare_rust(edition: &Edition, text: &str) -> Result<Names, String> {
+    let rust = judge(text, &read_rust(text)?)?;
+    let name = rust.names.judge();
+    same_page(name, &rust.page, "the model", &edition.page)?;
+    Ok(rust.names)
 }
 
 /// Two pages. An error shows the first line in which they differ.
@@ -172,6 +173,8 @@ enum Check {
     Rust,
     /// What the model's page reads back as.
     ReadBack,
+    /// The directives on the product's page.
+    Lines(Rooms),
     /// The product against the model.
     Call(Rooms),
 }
@@ -187,8 +190,14 @@ struct Counts {
     boards: u64,
     /// By what `HELD` names.
     held: [u64; HELD.len()],
+    /// Texts whose directives all differ.
+    all_differ: u64,
     sized: u64,
+    every_length: u64,
 }
+
+/// At least so many texts must have a directive after a name that is written twice.
+const LEAST_REPEATED: u64 = 200_000;
 
 /// What a page can hold, and whether one does.
 type Held = (&'static str, fn(&Edition) -> bool);
@@ -244,9 +253,53 @@ impl Run {
         self.counts.met.call(self.product.left().answer);
     }
 
-    /// A text whose page is too long to be lent: it must be refused, with the
-    /// bytes that the model counts.
-    fn too_long_to_lend(&mut self, text: &[u8]) -> Checked {
+    /// Each directive is one line of the page that the last call left. Nothing was
+    /// refused.
+    fn lines(&mut self, edition: &Edition) -> Checked {
+        let left = self.product.left();
+        let page = &left.page[..left.answer[3] as usize];
+        let all_differ = lines::check(edition.text, &edition.reading, page)?;
+        self.counts.all_differ += u64::from(all_differ);
+        Ok(())
+    }
+
+    /// The texts whose pages are written out, with every page length.
+    fn written_out(&mut self) -> Checked {
+        for (text, wanted) in chosen::placed() {
+            let edition = Edition::new(text.as_bytes());
+            let tell = |error| format!("\"{}\": {error}", text.escape_debug());
+            same_page(
+                "as written out",
+                wanted.as_bytes(),
+                "the model",
+                &edition.page,
+            )
+            .map_err(tell)?;
+            for page in 0..wanted.len() + 4 {
+                let mut lent = edition.lent([Room::Exact; 3]);
+                lent.page = page;
+                compare_call(&mut self.product, &edition, &lent).map_err(tell)?;
+                self.count_call();
+            }
+            self.counts.every_length += 1;
+        }
+        Ok(())
+    }
+
+    /// A long edition of ASCII, with these rooms.
+    fn long_edition(&mut self, edition: &Edition, all: &[Rooms]) -> Checked {
+        let in_domain = text_in_domain(edition.text).expect("an edition of ASCII");
+        compare_rust(edition, in_domain)?;
+        for rooms in all {
+            let tell = |(check, error)| format!("{check:?}: {error}");
+            self.call(edition, *rooms).map_err(tell)?;
+        }
+        Ok(())
+    }
+
+    /// A text whose page is very long: it must be refused, with the bytes that the
+    /// model counts.
+    fn need_told(&mut self, text: &[u8]) -> Checked {
         let reading = reading::read(text);
         let need = model::need(text, &reading);
         for page in [0, 1, 100_000] {
@@ -282,7 +335,8 @@ impl Run {
 impl Comparison for Run {
     const NAME: &'static str = "write";
     const TEXTS: &'static [&'static str] = &["text"];
-    const LONG: &'static str = "texts of 16777215 bytes and more, and with pages too long to lend";
+    const LONG: &'static str =
+        "texts written out, of 16777215 bytes and more, and of very many boards";
 
     type Check = Check;
 
@@ -296,15 +350,15 @@ impl Comparison for Run {
         for (count, (_, holds)) in counts.held.iter_mut().zip(HELD) {
             *count += u64::from(holds(&edition));
         }
-        let in_domain = text_in_domain(text);
-        counts.met.judged(in_domain.is_some());
-        if let Some(text) = in_domain {
-            compare_rust(&edition, text).map_err(|error| (Check::Rust, error))?;
-        }
+        let rust = text_in_domain(text).map(|text| compare_rust(&edition, text));
+        let names = rust.transpose().map_err(|error| (Check::Rust, error))?;
+        counts.met.placed(names);
         read_back::check(&edition).map_err(|error| (Check::ReadBack, error))?;
 
         let enough = std::array::from_fn(|_| ENOUGH[self.rng.below(ENOUGH.len())]);
         self.call(&edition, enough)?;
+        self.lines(&edition)
+            .map_err(|error| (Check::Lines(enough), error))?;
         let [cards, entries, _] = enough;
         let page = ROOMS[self.rng.below(ROOMS.len())];
         self.call(&edition, [cards, entries, page])?;
@@ -329,10 +383,17 @@ impl Comparison for Run {
         let edition = Edition::new(texts[0]);
         match check {
             Check::Rust => match text_in_domain(edition.text) {
-                Some(text) => compare_rust(&edition, text),
+                Some(text) => compare_rust(&edition, text).map(|_| ()),
                 None => Ok(()),
             },
             Check::ReadBack => read_back::check(&edition),
+            Check::Lines(rooms) => {
+                self.product.call(edition.text, &edition.lent(rooms))?;
+                match self.product.left().answer {
+                    [0, ..] => self.lines(&edition),
+                    _ => Ok(()),
+                }
+            }
             Check::Call(rooms) => {
                 let lent = edition.lent(rooms);
                 compare_call(&mut self.product, &edition, &lent)
@@ -343,28 +404,24 @@ impl Comparison for Run {
 
     fn sides(check: Check) -> &'static str {
         match check {
-            Check::Rust => "the model against writer.rs",
+            Check::Rust => "the model against writer.rs, each directive once",
             Check::ReadBack => "the model against what its page reads back as",
+            Check::Lines(_) => "the directives on golavimes's page",
             Check::Call(_) => "golavimes against the model",
         }
     }
 
-    /// Editions as long as can be, and longer; pages longer than can be lent.
+    /// Pages written out; editions as long as can be, and longer; a very long page.
     fn longest(&mut self, seed: u64) -> Checked {
+        self.written_out()?;
+        let [exact, short, none] = [Room::Exact, Room::WordLess, Room::None];
+        let pages = [exact, short, none].map(|page| [exact, exact, page]);
+        let noted = generate::noted_at_length();
+        self.long_edition(&Edition::new(&noted), &pages)?;
         let mut text = crate::read::generate::plain_edition(seed, LONGEST);
         let edition = Edition::new(&text);
-        let in_domain = text_in_domain(&text).expect("an edition of ASCII");
-        compare_rust(&edition, in_domain)?;
-        for rooms in [
-            [Room::Exact; 3],
-            [Room::Exact, Room::Exact, Room::WordLess],
-            [Room::Exact, Room::Exact, Room::None],
-            [Room::WordLess, Room::WordLess, Room::WordLess],
-            [Room::Exact, Room::WordLess, Room::WordLess],
-        ] {
-            let tell = |(check, error)| format!("{check:?}: {error}");
-            self.call(&edition, rooms).map_err(tell)?;
-        }
+        let boxes = [[short; 3], [exact, short, short]];
+        self.long_edition(&edition, &[&pages[..], &boxes].concat())?;
         let generous = edition.lent([Room::OneMore; 3]);
         let nothing = Lent {
             boxes: LentBoxes {
@@ -386,10 +443,7 @@ impl Comparison for Run {
                 self.count_call();
             }
         }
-        for text in generate::needing_most() {
-            self.too_long_to_lend(&text)?;
-        }
-        Ok(())
+        self.need_told(&generate::small_boards())
     }
 
     fn met(&self) -> &Met {
@@ -399,11 +453,18 @@ impl Comparison for Run {
     fn print(&self, report: &mut Report) {
         let counts = &self.counts;
         report.inputs(&counts.met, "texts", "writer.rs");
+        report.placed(&counts.met, "texts", LEAST_REPEATED);
+        let all_differ = "texts whose directives all differ, each one line of golavimes's page";
+        report.line(counts.all_differ, all_differ);
         report.written(&counts.met, counts.boards, counts.written);
         report.held("editions", &counts.held, &HELD);
         report.calls(&counts.met, &REFUSALS);
         let sized = "texts with each room for cards, entries and page";
         report.line(counts.sized, sized);
+        report.line(
+            counts.every_length,
+            "texts written out, with every page length",
+        );
     }
 }
 
@@ -448,10 +509,49 @@ mod tests {
         assert_eq!(early, format!("{HEADER}{bare}[C \"3\"]\n"));
         let notes = page("[Auction \"N\"]\n1C=1= AP\n[Note \"2:b\"]\n;d\n{c}\n[Note \"1:a\"]");
         let auction = "[Auction \"N\"]\n1C=1= Pass Pass Pass\n";
-        let notes_wanted = "[Note \"1:a\"]\n;d\n{c}\n[Note \"2:b\"]\n;d\n";
+        let notes_wanted = "[Note \"1:a\"]\n{c}\n[Note \"2:b\"]\n;d\n";
         assert_eq!(notes, format!("{HEADER}{BARE}{auction}{notes_wanted}"));
         let unwritten = page("[Board \"\"]\n;d\n{b}");
         assert_eq!(unwritten, format!("{HEADER}{BARE}{{b}}\n;d\n"));
+    }
+
+    /// The records whose pages are written out, and how often the names are written
+    /// that their directives stand after.
+    #[test]
+    fn pages_written_out() {
+        let mut all = Vec::new();
+        for (text, wanted) in chosen::placed() {
+            assert_eq!(page(text), wanted);
+            let edition = Edition::new(text.as_bytes());
+            all.push(compare_rust(&edition, text).expect("it agrees"));
+            let seen = lines::check(edition.text, &edition.reading, wanted.as_bytes());
+            assert_eq!(seen, Ok(true));
+        }
+        let [notes @ .., unwritten, also, once, once_too] = &all[..] else {
+            panic!("more than four");
+        };
+        assert!(notes.iter().all(|names| *names == Names::Repeated));
+        assert_eq!([unwritten, also], [&Names::Unwritten; 2]);
+        assert_eq!([once, once_too], [&Names::Once; 2]);
+    }
+
+    /// A directive after another note, before the other, or twice.
+    #[test]
+    fn a_moved_directive_is_seen() {
+        let text = "[Auction \"N\"]\n1C\n[Note \"1:a\"]\n;c\n[Note \"2:b\"]\n;d\n%e";
+        let right = "[Note \"1:a\"]\n;c\n[Note \"2:b\"]\n;d\n%e\n";
+        assert!(page(text).ends_with(right));
+        for wrong in [
+            "[Note \"1:a\"]\n[Note \"2:b\"]\n;c\n;d\n%e\n",
+            "[Note \"1:a\"]\n;c\n;d\n[Note \"2:b\"]\n%e\n",
+            "[Note \"1:a\"]\n;c\n[Note \"2:b\"]\n%e\n",
+            "[Note \"1:a\"]\n;c\n[Note \"2:b\"]\n;c\n;d\n%e\n",
+        ] {
+            let mut edition = Edition::new(text.as_bytes());
+            edition.page = page(text).replace(right, wrong).into_bytes();
+            assert!(compare_rust(&edition, text).is_err(), "{wrong}");
+            assert!(read_back::check(&edition).is_err(), "{wrong}");
+        }
     }
 
     #[test]
@@ -485,7 +585,10 @@ mod tests {
 
     #[test]
     fn chosen_texts_are_in_the_domain() {
-        for text in chosen::texts() {
+        let placed = chosen::placed()
+            .into_iter()
+            .map(|(text, _)| text.to_string());
+        for text in chosen::texts().into_iter().chain(placed) {
             assert!(text_in_domain(text.as_bytes()).is_some());
         }
     }

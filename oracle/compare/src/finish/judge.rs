@@ -1,5 +1,6 @@
 //! The finished edition as the unchanged Rust writes it: `read_pbn` reads both
-//! editions, the tables are put into its boards, and `write_pbn` writes them.
+//! editions, the tables are put into its boards, and `write_pbn` writes them; each
+//! directive is written once (`write/once.rs`).
 //!
 //! The states come from those boards alone (`plan/judge.rs`). A twin copies the
 //! table that its source was given, so no slip is sought by its hands.
@@ -9,7 +10,7 @@ use crate::plan::judge::states;
 use crate::plan::model::State;
 use crate::read::read_rust;
 use crate::tables::judge::table_of;
-use bridge_encodings::pbn::write_pbn;
+use crate::write::once::{judge, Judged};
 use bridge_types::Board;
 
 /// Gives every whole board without a table the answered one or that of its source.
@@ -27,9 +28,9 @@ pub fn put_tables(old: &[Board], new: &mut [Board], answers: &[u8]) {
     assert!(answered.next().is_none(), "more answers than solve boards");
 }
 
-/// The page of the finished edition. The answers are right.
-pub fn page(old: &str, new: &str, answers: &[u8]) -> Result<Vec<u8>, String> {
-    let (old, mut new) = (read_rust(old)?, read_rust(new)?);
-    put_tables(&old, &mut new, answers);
-    Ok(write_pbn(&new).into_bytes())
+/// The page of the finished edition, each directive once. The answers are right.
+pub fn page(old: &str, new: &str, answers: &[u8]) -> Result<Judged, String> {
+    let (olds, mut news) = (read_rust(old)?, read_rust(new)?);
+    put_tables(&olds, &mut news, answers);
+    judge(new, &news)
 }

@@ -2,7 +2,8 @@
 //! page of `write/model.rs`.
 //!
 //! It judges texts outside the domain. Inside it the page must be that of the
-//! unchanged `write_pbn`, of boards into which `judge.rs` puts the tables.
+//! unchanged `write_pbn`, of boards into which `judge.rs` puts the tables, with each
+//! directive written once.
 
 use super::answers::TABLE;
 use super::Lent;

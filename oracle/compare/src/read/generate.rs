@@ -19,6 +19,16 @@ impl Out<'_> {
         }
     }
 
+    /// Gives texts after a change.
+    pub fn changed(&mut self, change: fn(&[u8]) -> Vec<u8>, texts: impl FnOnce(&mut Out)) {
+        let (group, open) = (self.group, self.open);
+        let give = &mut |_: &'static str, text: &[u8]| {
+            self.text(&change(text));
+            self.open
+        };
+        texts(&mut Out { give, group, open });
+    }
+
     /// Every sequence of up to `most` pieces, between `before` and `after`,
     /// with `between` among them.
     pub fn sequences(

@@ -403,3 +403,99 @@ pub fn editions() -> Vec<String> {
         format!("{full}\n").replace('\n', "\r\n").repeat(2),
     ]
 }
+
+/// What every board has between its Event and what is chosen here.
+const MIDDLE: &str = "[Site \"\"]\n[Date \"\"]\n[West \"\"]\n[North \"\"]\n[East \"\"]\n\
+    [South \"\"]\n[Vulnerable \"None\"]\n[Deal \"N:- - - -\"]\n[Scoring \"\"]\n\
+    [Declarer \"\"]\n[Contract \"\"]\n[Result \"\"]\n";
+
+/// Records with directives after a tag whose name is written not just once, or is met
+/// more than once: the record, its Event with what follows it, and the lines behind
+/// Result.
+const PLACED: [[&str; 3]; 16] = [
+    [
+        "[Auction \"N\"]\n1C\n[Note \"1:a\"]\n;c\n[Note \"2:b\"]",
+        "[Event \"\"]\n",
+        "[Auction \"N\"]\n1C\n[Note \"1:a\"]\n;c\n[Note \"2:b\"]\n",
+    ],
+    [
+        "[Auction \"N\"]\n1C\n[Note \"1:a\"]\n[Note \"2:b\"]\n;c",
+        "[Event \"\"]\n",
+        "[Auction \"N\"]\n1C\n[Note \"1:a\"]\n[Note \"2:b\"]\n;c\n",
+    ],
+    [
+        "[Auction \"N\"]\n1C\n[Note \"2:b\"]\n;c\n[Note \"1:a\"]",
+        "[Event \"\"]\n",
+        "[Auction \"N\"]\n1C\n[Note \"1:a\"]\n[Note \"2:b\"]\n;c\n",
+    ],
+    [
+        "[Auction \"N\"]\n1C\n[Note \"01:a\"]\n;c\n[Note \"0:z\"]",
+        "[Event \"\"]\n",
+        "[Auction \"N\"]\n1C\n[Note \"0:z\"]\n;c\n[Note \"1:a\"]\n",
+    ],
+    [
+        "[Auction \"N\"]\n1C\n[Note \"1:a\"]\n;c\n[Note \"1:b\"]\n[Note \"2:d\"]",
+        "[Event \"\"]\n",
+        "[Auction \"N\"]\n1C\n[Note \"1:b\"]\n;c\n[Note \"2:d\"]\n",
+    ],
+    [
+        "[Auction \"N\"]\n1C\n[Note \"1:a\"]\n;p\n[Note \"2:b\"]\n;q\n[Note \"1:d\"]",
+        "[Event \"\"]\n",
+        "[Auction \"N\"]\n1C\n[Note \"1:d\"]\n;p\n[Note \"2:b\"]\n;q\n",
+    ],
+    [
+        "[Auction \"N\"]\n1C\n[Note \"9\"]\n;p\n[Note \"1:a\"]\n;q\n[Note \"2:b\"]",
+        "[Event \"\"]\n",
+        "[Auction \"N\"]\n1C\n[Note \"1:a\"]\n;p\n;q\n[Note \"2:b\"]\n",
+    ],
+    [
+        "[Note \"2:b\"]\n;p\n[Auction \"N\"]\n1C\n[Note \"1:a\"]\n[Note \"2:b\"]",
+        "[Event \"\"]\n",
+        "[Auction \"N\"]\n1C\n[Note \"1:a\"]\n[Note \"2:b\"]\n;p\n",
+    ],
+    [
+        "[Auction \"N\"]\n1C\n[Note \"1:a\"]\n;c\n[Auction \"E\"]\n1D\n[Note \"2:b\"]\n[Note \"3:d\"]",
+        "[Event \"\"]\n",
+        "[Auction \"E\"]\n1D\n[Note \"2:b\"]\n;c\n[Note \"3:d\"]\n",
+    ],
+    [
+        "[Auction \"N\"]\n1C\n[Note \"1:a\"]\n[Note \"2:b\"]\n{x}\n;c",
+        "[Event \"\"]\n",
+        "[Auction \"N\"]\n1C\n[Note \"1:a\"]\n{x}\n[Note \"2:b\"]\n;c\n",
+    ],
+    [
+        "[Auction \"N\"]\n1C\n[Note \"1:a\"] ;c\n[Note \"2:b\"] {d}",
+        "[Event \"\"]\n",
+        "[Auction \"N\"]\n1C\n[Note \"1:a\"]\n;c\n[Note \"2:b\"]\n{d}\n",
+    ],
+    [
+        "[Auction \"N\"]\n1C\n;e\n[Note \"1:a\"]\n;c\n[Play \"N\"]\nSA\n;f\n[Note \"2:b\"]\n;g",
+        "[Event \"\"]\n",
+        "[Auction \"N\"]\n1C\n;e\n[Note \"1:a\"]\n;c\n[Note \"2:b\"]\n;g\n[Play \"N\"]\nSA\n;f\n",
+    ],
+    ["[Note \"1:a\"]\n;c", "[Event \"\"]\n", ";c\n"],
+    [
+        "[OptimumResultTable \"\"]\n;c\n{b}",
+        "[Event \"\"]\n",
+        "{b}\n;c\n",
+    ],
+    [
+        "[X \"1\"]\n[X \"2\"]\n;c",
+        "[Event \"\"]\n",
+        "[X \"1\"]\n;c\n",
+    ],
+    [
+        "[Event \"a\"]\n;c\n[Event \"b\"]\n;d",
+        "[Event \"b\"]\n;c\n;d\n",
+        "",
+    ],
+];
+
+/// These records with their pages.
+pub fn placed() -> Vec<(&'static str, String)> {
+    let page = |event: &str, lines: &str| format!("% PBN 2.1\n% EXPORT\n\n{event}{MIDDLE}{lines}");
+    let records = PLACED.iter();
+    records
+        .map(|[text, event, lines]| (*text, page(event, lines)))
+        .collect()
+}

@@ -2,6 +2,7 @@
 //! what a writer chooses, orders and repeats.
 
 use super::chosen::{self, FULL, UNWRITTEN};
+use super::notes;
 use crate::read::generate::{
     self as reading, damage, deal, names, optimum, play_data, put_outside, tokens, value, Group,
     Out, CALLS, DEAL,
@@ -9,7 +10,7 @@ use crate::read::generate::{
 use crate::read::LONGEST;
 use crate::rng::Rng;
 
-const GROUPS: [Group; 15] = [
+const GROUPS: [Group; 18] = [
     ("writing: chosen texts", chosen),
     ("writing: no boards", no_boards),
     ("writing: all short, remarks", short_remarks),
@@ -25,6 +26,9 @@ const GROUPS: [Group; 15] = [
     ("writing: damaged records", damaged),
     ("writing: outside the domain", outside),
     ("writing: long records", long),
+    ("writing: directives, chosen", notes::chosen),
+    ("writing: all short, directives after notes", notes::short),
+    ("writing: directives after notes", notes::generated),
 ];
 
 /// Gives every text to `give`, which says whether it wants more.
@@ -486,14 +490,16 @@ fn long(rng: &mut Rng, out: &mut Out) {
     }
 }
 
-/// Texts whose pages are too long to lend: 256 notes, and after one of them a
-/// directive that takes the rest.
-pub fn needing_most() -> Vec<Vec<u8>> {
-    let long = |length: usize| {
-        let mut text = noted(0).into_bytes();
-        text.push(b';');
-        text.resize(length, b'x');
-        text
-    };
-    vec![long(LONGEST / 2 + 10_000), long(LONGEST)]
+/// A text as long as can be: 256 notes, and after the last a directive that takes the
+/// rest.
+pub fn noted_at_length() -> Vec<u8> {
+    let mut text = noted(0).into_bytes();
+    text.push(b';');
+    text.resize(LONGEST, b'x');
+    text
+}
+
+/// Very many boards of one tag. No page is longer for its text.
+pub fn small_boards() -> Vec<u8> {
+    b"[ \"\"]\n\n".repeat(1 << 20)
 }

@@ -2,7 +2,7 @@
 //! own: from the words of a reading and the bytes they name.
 //!
 //! It judges texts outside the domain. Inside it the page must be that of the
-//! unchanged `write_pbn`.
+//! unchanged `write_pbn`, with each directive written once (`once.rs`).
 
 use crate::model::trim;
 use crate::plan::model::hands;
@@ -77,11 +77,40 @@ pub struct Board<'a> {
     pub blocks: Vec<Remark<'a>>,
 }
 
-/// The remarks anchored to tags of one name.
+/// The remarks at one place.
 #[derive(Default)]
-struct Anchored<'a> {
+struct Placed<'a> {
     directives: Vec<&'a [u8]>,
     blocks: Vec<&'a [u8]>,
+}
+
+/// Where among a board's written tags the first of each name stands, and the first of
+/// each name and value.
+pub struct Firsts<'w> {
+    names: HashMap<&'w [u8], usize>,
+    tags: HashMap<[&'w [u8]; 2], usize>,
+}
+
+impl<'w> Firsts<'w> {
+    pub fn of(written: impl Iterator<Item = [&'w [u8]; 2]>) -> Self {
+        let (mut names, mut tags) = (HashMap::new(), HashMap::new());
+        for (at, tag) in written.enumerate() {
+            names.entry(tag[0]).or_insert(at);
+            tags.entry(tag).or_insert(at);
+        }
+        Firsts { names, tags }
+    }
+
+    /// The written tag that a directive follows, by the tag it was anchored to.
+    pub fn directive(&self, anchor: &Tag) -> Option<usize> {
+        let same = self.tags.get(&[anchor.name, anchor.value]).copied();
+        same.or_else(|| self.block(anchor))
+    }
+
+    /// The same of a block.
+    pub fn block(&self, anchor: &Tag) -> Option<usize> {
+        self.names.get(anchor.name).copied()
+    }
 }
 
 impl<'a> Board<'a> {
@@ -131,37 +160,23 @@ impl<'a> Board<'a> {
         &self.text[entry[1] as usize..][..entry[2] as usize]
     }
 
-    /// The name of the tag that a remark is anchored to.
-    pub fn anchor(&self, remark: &Remark) -> Option<&'a [u8]> {
+    /// The tag that a remark is anchored to.
+    pub fn anchor(&self, remark: &Remark) -> Option<&Tag<'a>> {
         let last = remark.tags.checked_sub(1)?;
-        Some(self.tags[last].name)
+        Some(&self.tags[last])
     }
 
     fn write(&self, blank_after_header: bool, put: &mut dyn FnMut(&[u8])) {
-        let mut anchored: HashMap<&[u8], Anchored> = HashMap::new();
-        let (mut header, mut opening) = (Vec::new(), Vec::new());
-        for remark in &self.directives {
-            match self.anchor(remark) {
-                Some(name) => &mut anchored.entry(name).or_default().directives,
-                None => &mut header,
-            }
-            .push(remark.bytes);
-        }
-        for remark in &self.blocks {
-            match self.anchor(remark) {
-                Some(name) => &mut anchored.entry(name).or_default().blocks,
-                None => &mut opening,
-            }
-            .push(remark.bytes);
-        }
-
-        write_directives(&header, put);
+        let tags = self.written();
+        let [before, after @ .., end] = &self.placed(&tags)[..] else {
+            unreachable!("two more than there are tags");
+        };
+        write_directives(&before.directives, put);
         if blank_after_header {
             put(b"\n");
         }
-        write_blocks(&opening, put);
-        let mut names: HashSet<&[u8]> = HashSet::new();
-        for tag in self.written() {
+        write_blocks(&before.blocks, put);
+        for (tag, remarks) in tags.iter().zip(after) {
             for part in [b"[", tag.name, b" \"", &tag.value, b"\"]\n"] {
                 put(part);
             }
@@ -169,23 +184,32 @@ impl<'a> Board<'a> {
                 put(line);
                 put(b"\n");
             }
-            let first = names.insert(tag.name);
-            if let Some(remarks) = anchored.get(tag.name) {
-                write_directives(&remarks.directives, put);
-                if first {
-                    write_blocks(&remarks.blocks, put);
-                }
-            }
+            write_directives(&remarks.directives, put);
+            write_blocks(&remarks.blocks, put);
         }
-        let left = |remark: &&Remark<'a>| {
-            self.anchor(remark)
-                .is_some_and(|name| !names.contains(name))
+        write_blocks(&end.blocks, put);
+        write_directives(&end.directives, put);
+    }
+
+    /// The remarks before every tag; those after each written tag; and those at the
+    /// board's end.
+    fn placed(&self, written: &[Written<'a>]) -> Vec<Placed<'a>> {
+        let firsts = Firsts::of(written.iter().map(|tag| [tag.name, &tag.value]));
+        let mut placed: Vec<Placed> = Vec::new();
+        placed.resize_with(written.len() + 2, Placed::default);
+        let place = |at: Option<Option<usize>>| match at {
+            Some(tag) => 1 + tag.unwrap_or(written.len()),
+            None => 0,
         };
-        let bytes = |remark: &Remark<'a>| remark.bytes;
-        let blocks: Vec<_> = self.blocks.iter().filter(left).map(bytes).collect();
-        let directives: Vec<_> = self.directives.iter().filter(left).map(bytes).collect();
-        write_blocks(&blocks, put);
-        write_directives(&directives, put);
+        for remark in &self.directives {
+            let at = self.anchor(remark).map(|tag| firsts.directive(tag));
+            placed[place(at)].directives.push(remark.bytes);
+        }
+        for remark in &self.blocks {
+            let at = self.anchor(remark).map(|tag| firsts.block(tag));
+            placed[place(at)].blocks.push(remark.bytes);
+        }
+        placed
     }
 
     /// The tags that are written, in their order.

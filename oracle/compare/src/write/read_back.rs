@@ -1,20 +1,22 @@
 //! What is promised of a written page that is read again. The page and both
 //! readings are the models'.
 
-use super::model::{block_value, Board};
+use super::model::{block_value, Board, Firsts, Remark};
 use super::Edition;
 use crate::model::trim;
 use crate::read::model::{self as reading, CARD};
 use crate::read::{Checked, LONGEST};
 use std::collections::BTreeMap;
 
-/// Texts and the names they are anchored to, with how often each is met.
-type Remarks = BTreeMap<(Vec<u8>, Option<Vec<u8>>), usize>;
+/// Texts and how many tags stand before them, with how often each is met.
+type Remarks = BTreeMap<(Vec<u8>, usize), usize>;
 
 /// One board for each; in each the written tags, in their order; its seats,
 /// vulnerability, result and table; its deal, an empty one where there was none;
-/// and its remarks, under the same name where a tag of that name is written, else
-/// under the last written tag, with the header's lines in the first board.
+/// and its remarks, each once: a directive under the first tag of the name and value
+/// of its anchor, else of the name, a block under the first of the name, and under the
+/// last tag where none of the name is written; with the header's lines in the first
+/// board.
 pub fn check(edition: &Edition) -> Checked {
     if edition.page.len() > LONGEST {
         return Ok(());
@@ -81,59 +83,48 @@ fn compare_words(card: &[u32], again: &[u32]) -> Checked {
 }
 
 fn compare_remarks(board: &Board, again: &Board, first: bool) -> Checked {
-    let last = again.tags.last().map(|tag| tag.name.to_vec());
     let (mut directives, mut blocks) = (Remarks::new(), Remarks::new());
     if first && !board.has_header() {
         for line in [&b"% PBN 2.1"[..], b"% EXPORT"] {
-            directives.insert((line.to_vec(), None), 1);
+            directives.insert((line.to_vec(), 0), 1);
         }
     }
+    let firsts = Firsts::of(again.tags.iter().map(|tag| [tag.name, tag.value]));
+    let tags = |at: Option<Option<usize>>| match at {
+        Some(Some(at)) => at + 1,
+        Some(None) => again.tags.len(),
+        None => 0,
+    };
     for remark in &board.directives {
-        let (anchor, times) = match board.anchor(remark) {
-            None => (None, 1),
-            Some(name) => match again.tags.iter().filter(|tag| tag.name == name).count() {
-                0 => (last.clone(), 1),
-                times => (Some(name.to_vec()), times),
-            },
-        };
-        // A comment in braces, on a line of its own, is commentary.
-        if let Some(text) = remark.bytes.strip_prefix(b"{") {
-            let end = text
-                .iter()
-                .rposition(|b| *b == b'}')
-                .expect("it was closed");
-            if !trim(&text[..end]).is_empty() {
-                *blocks.entry((text[..end].to_vec(), anchor)).or_default() += times;
-            }
-        } else {
-            let text = remark.bytes.to_vec();
-            *directives.entry((text, anchor)).or_default() += times;
+        let tags = tags(board.anchor(remark).map(|tag| firsts.directive(tag)));
+        match as_block(remark.bytes) {
+            None => *directives.entry((remark.bytes.to_vec(), tags)).or_default() += 1,
+            Some(text) if trim(text).is_empty() => {}
+            Some(text) => *blocks.entry((text.to_vec(), tags)).or_default() += 1,
         }
     }
     for remark in &board.blocks {
-        let anchor = board.anchor(remark).map(|name| {
-            let written = again.tags.iter().any(|tag| tag.name == name);
-            if written {
-                name.to_vec()
-            } else {
-                last.clone().expect("a tag is always written")
-            }
-        });
-        let value = block_value(remark.bytes);
-        *blocks.entry((value, anchor)).or_default() += 1;
+        let tags = tags(board.anchor(remark).map(|tag| firsts.block(tag)));
+        *blocks.entry((block_value(remark.bytes), tags)).or_default() += 1;
     }
-    for (what, wanted, seen) in [
-        ("directives", directives, &again.directives),
-        ("commentary", blocks, &again.blocks),
-    ] {
-        let mut met = Remarks::new();
-        for remark in seen {
-            let anchor = again.anchor(remark).map(<[u8]>::to_vec);
-            *met.entry((remark.bytes.to_vec(), anchor)).or_default() += 1;
-        }
-        if wanted != met {
-            return Err(format!("{what}\n  written: {wanted:?}\n  read: {met:?}"));
-        }
+    same_remarks("directives", &directives, &again.directives)?;
+    same_remarks("commentary", &blocks, &again.blocks)
+}
+
+/// What a comment in braces, on a line of its own, is as commentary.
+fn as_block(directive: &[u8]) -> Option<&[u8]> {
+    let text = directive.strip_prefix(b"{")?;
+    let end = text.iter().rposition(|b| *b == b'}');
+    Some(&text[..end.expect("it was closed")])
+}
+
+fn same_remarks(what: &str, wanted: &Remarks, seen: &[Remark]) -> Checked {
+    let mut met = Remarks::new();
+    for remark in seen {
+        *met.entry((remark.bytes.to_vec(), remark.tags)).or_default() += 1;
     }
-    Ok(())
+    if *wanted == met {
+        return Ok(());
+    }
+    Err(format!("{what}\n  written: {wanted:?}\n  read: {met:?}"))
 }

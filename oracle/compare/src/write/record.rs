@@ -2,12 +2,14 @@
 //!
 //! A text is recorded only where the model's page is that of the unchanged
 //! `write_pbn`, and the boards of the reading model are those of `read_pbn`; a
-//! text of which they disagree stops the recording.
+//! text of which they disagree stops the recording. A text with a directive after a
+//! name that is not written just once is left out.
 //!
 //! The sizes of a case are the words lent for cards, those for entries and the bytes
 //! lent as page. Its own are the length of what is written (16 bits) and what is
 //! written.
 
+use super::once::Names;
 use super::{chosen, compare_rust, generate, Edition, Lent, Rooms};
 use crate::read::generate::plain_edition;
 use crate::read::record::agreed;
@@ -35,6 +37,10 @@ impl Recording for Writings {
         match group {
             "writing: outside the domain" | "outside the domain" => None,
             "writing: long records" | "long editions" => None,
+            // What stays of these is like others.
+            "writing: directives, chosen" => None,
+            "writing: all short, directives after notes" => None,
+            "writing: directives after notes" => None,
             "writing: generated records" => Some((Group::Sampled, [80, 40])),
             "writing: remarks at every place" => Some((Group::Sampled, [15, 15])),
             "writing: damaged records" => Some((Group::Damaged, [40, 30])),
@@ -91,22 +97,26 @@ impl Recording for Writings {
     }
 }
 
-/// An edition of which the models and the Rust agree.
-fn agreed_page(text: &[u8]) -> Edition<'_> {
+/// An edition of which the models and the Rust agree, and how often the names that its
+/// directives stand after are written.
+fn agreed_page(text: &[u8]) -> (Edition<'_>, Names) {
     agreed(text);
     let edition = Edition::new(text);
     let rust = text_in_domain(text).expect("a text of the domain");
-    if let Err(error) = compare_rust(&edition, rust) {
-        panic!("{error}\n\"{}\"", text.escape_ascii());
+    match compare_rust(&edition, rust) {
+        Ok(names) => (edition, names),
+        Err(error) => panic!("{error}\n\"{}\"", text.escape_ascii()),
     }
-    edition
 }
 
-fn record(file: &mut File, group: Group, edition: &Edition, rooms: Rooms) {
+fn record(file: &mut File, group: Group, (edition, names): &(Edition, Names), rooms: Rooms) {
     let lent = edition.lent(rooms);
     let Lent { boxes, page } = lent;
     assert!(boxes.cards <= MOST_WORDS && boxes.entries <= MOST_WORDS && page <= MOST_PAGE);
     let sizes = [boxes.cards, boxes.entries, page];
+    if *names != Names::Once {
+        return file.leave_out(edition.text, &sizes);
+    }
     let [refusal, _, carried, _] = edition.answer(&lent);
     if file.start(group, edition.text, &sizes, [refusal, carried]) {
         file.with_length(if refusal == 0 { &edition.page } else { &[] });
