@@ -269,9 +269,11 @@ uint64_t golavimes_read(const uint8_t *text, size_t text_length, uint32_t *cards
 /*
  * Writing. The text of a collection is read, as golavimes_read reads it, and
  * written on the page: its boards in order, the tags of each in a fixed order,
- * and every directive and every block of commentary after the tag that it
- * followed, or at the board's end where that tag is not written. docs/FORMAT.md
- * section 14 says what is written, line by line.
+ * and every directive and every block of commentary, each once, after the tag
+ * that it followed, or at the board's end where no tag of that name is written.
+ * Among several Notes a directive stays with the one that has the value it
+ * followed, else with the first. docs/FORMAT.md section 14 says what is written,
+ * line by line.
  *
  * The written text stands at the start of the page, with zeros after it to the
  * page's end. It does not end in a zero byte: its length is answer[3], 0 after a
@@ -291,10 +293,9 @@ uint64_t golavimes_read(const uint8_t *text, size_t text_length, uint32_t *cards
  * word of cards and entries is 0.
  *
  * How much to lend. The bounds of golavimes_read hold for cards and entries. The
- * page never needs more than 475 * text_length + 20 bytes, which is below 2^33;
- * it is proved. The most is needed by comments that follow a Note, since they
- * are written after each Note of the board, and by records of a few bytes, since
- * each board is written with thirteen tags or more. So a host asks rather than
+ * page never needs more than 177 * text_length + 20 bytes, which is below 2^32;
+ * it is proved. The most is needed by records of a few bytes, since each board is
+ * written with thirteen tags or more. So a host asks rather than
  * lends the bound: with page_length 0 (and page any pointer that is not null)
  * refusal 7 carries the need, and a page of that length is never refused. A host
  * that knows no size lends nothing at first, and after each refusal 2, 3 or 7
@@ -587,7 +588,7 @@ uint64_t golavimes_record_behind(const uint8_t *old_text, size_t old_text_length
  * word of the four boxes is 0.
  *
  * How much to lend. The boxes need what golavimes_plan needs, so those that it
- * took are enough. The page needs at most 475 bytes for each byte of the new
+ * took are enough. The page needs at most 177 bytes for each byte of the new
  * edition, and 20, which is proved. A host asks rather than lends that: with
  * page_length 0 (and page any pointer that is not null) refusal 7 carries the
  * need, since no finished text is empty. The need is the same whatever the
