@@ -206,7 +206,7 @@ pub extern "C" fn golavimes_lin_to_pbn(text: &[u8], page: &mut [u8], answer: &mu
 }
 
 // The first three numbers of planning's answers.
-#[derive(Drop)]
+#[derive(Clone, Copy)]
 pub struct Head {
     pub refusal: u64,
     pub edition: u64,

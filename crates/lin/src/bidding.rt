@@ -57,7 +57,7 @@ pub(crate) fn call_in(c: Conventions, value: &[u8]) -> u8
 }
 
 // The last bid, 0 where there is none; the seat that made it, counted from the dealer; the last X (36) or XX (37) behind it, or 0.
-#[derive(Drop)]
+#[derive(Clone, Copy)]
 pub struct Contract {
     pub bid: u8,
     pub bidder: u8,

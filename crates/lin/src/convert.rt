@@ -10,7 +10,7 @@ use tables::page::finish;
 use writer::write::clear;
 
 // 1 with the text's length, 16, and 7 with the bytes needed; specs/Conversions.antt gives the numbers.
-#[derive(Drop)]
+#[derive(Clone, Copy)]
 pub enum LinRefusal {
     Overlong(u64),
     NoDeal,
@@ -18,7 +18,7 @@ pub enum LinRefusal {
 }
 
 // The bytes written and the boards, or a refusal, which leaves the page zero.
-#[derive(Drop)]
+#[derive(Clone, Copy)]
 pub enum Converted {
     Page(u64, u64),
     Refused(LinRefusal),

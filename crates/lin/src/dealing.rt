@@ -10,7 +10,7 @@ use tables::letters::{Conventions, rank_of, suit_of};
 use tables::text::{first_character, from, index_of, is_inside, trim, upto};
 
 // A hand that is being read: the cards so far, with those of the hands before it, how many are its own, and its suit.
-#[derive(Drop)]
+#[derive(Clone, Copy)]
 pub struct LinPart {
     pub cards: u64,
     pub count: usize,
@@ -18,28 +18,28 @@ pub struct LinPart {
 }
 
 // The same, or a card came twice.
-#[derive(Drop)]
+#[derive(Clone, Copy)]
 pub enum LinStep {
     To(LinPart),
     Twice,
 }
 
 // A hand once it is read: the cards, with those of the hands before it, and how many are its own; or a card came twice.
-#[derive(Drop)]
+#[derive(Clone, Copy)]
 pub enum LinHand {
     Held(u64, usize),
     Again,
 }
 
 // Hands that make a deal: no card twice, at most 13 a hand.
-#[derive(Drop)]
+#[derive(Clone, Copy)]
 pub enum LinDeal {
     Dealt(Hands),
     Faulty,
 }
 
 // What is kept of the md in force: its dealer; its hands, where they make a deal; whether they do.
-#[derive(Drop)]
+#[derive(Clone, Copy)]
 pub struct LinDealing {
     pub dealer: usize,
     pub hands: Hands,

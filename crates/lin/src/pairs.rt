@@ -7,14 +7,14 @@ use tables::letters::to_capital;
 use tables::text::{from, index_of, trim, upto};
 
 // A pair of a text: its command's number, and where its value starts and ends. The next pair starts behind the bar at its end.
-#[derive(Drop)]
+#[derive(Clone, Copy)]
 pub struct PairAt {
     pub command: u8,
     pub start: usize,
     pub end: usize,
 }
 
-#[derive(Drop)]
+#[derive(Clone, Copy)]
 pub enum NextPair {
     Found(PairAt),
     NoPair,

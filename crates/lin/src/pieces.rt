@@ -16,7 +16,7 @@ use writer::put::{put_byte, put_bytes};
 
 // How far the page has come: the place behind what was put, the boards, whether one of them has a card, and whether all make deals. Once
 // one does not, nothing more is put.
-#[derive(Drop)]
+#[derive(Clone, Copy)]
 pub struct Progress {
     pub at: usize,
     pub boards: u64,

@@ -24,7 +24,7 @@ pub(crate) fn card_in(c: Conventions, t: &[u8]) -> u8
 }
 
 // A trick of at most four cards: its leader, its cards, and how many they are.
-#[derive(Drop)]
+#[derive(Clone, Copy)]
 pub struct LinTrick {
     pub leader: usize,
     pub slots: Slots,

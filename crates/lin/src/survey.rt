@@ -12,7 +12,7 @@ use tables::letters::Conventions;
 use tables::text::trim;
 
 // What is known of a board after some of its pairs; seat is the next caller's, counted from the dealer.
-#[derive(Drop)]
+#[derive(Clone, Copy)]
 pub struct Survey {
     pub deal: LinDealing,
     pub vulnerability: u8,

@@ -12,7 +12,7 @@ use crate::state::{BoardState, state_of};
 use tables::letters::{Conventions, built_in};
 use tables::text::{from, upto};
 
-#[derive(Drop)]
+#[derive(Clone, Copy)]
 pub enum Behind {
     InOld(u64, u64),
     InNew(u64, u64),
@@ -20,7 +20,7 @@ pub enum Behind {
 }
 
 // Whether both editions were taken, and the record behind a board.
-#[derive(Drop)]
+#[derive(Clone, Copy)]
 pub struct BehindAnswer {
     pub editions: Editions,
     pub behind: Behind,

@@ -7,14 +7,14 @@ use reader::store::zero;
 use tables::letters::Conventions;
 
 // Refusals 1 to 3 of the old edition, then of the new.
-#[derive(Drop)]
+#[derive(Clone, Copy)]
 pub enum EditionsRefusal {
     Old(ReadRefusal),
     New(ReadRefusal),
 }
 
 // Both taken, with the boards of each, or refused.
-#[derive(Drop)]
+#[derive(Clone, Copy)]
 pub enum Editions {
     Both(u64, u64),
     Refused(EditionsRefusal),

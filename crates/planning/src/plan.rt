@@ -18,7 +18,7 @@ use reader::deal::hands_of_words;
 use reader::store::zero;
 use tables::letters::{Conventions, built_in};
 
-#[derive(Drop)]
+#[derive(Clone, Copy)]
 pub struct Totals {
     pub boards: u64,
     pub blank: u64,
@@ -30,14 +30,14 @@ pub struct Totals {
 }
 
 // A refusal of an edition, or 4: fewer slips lent than boards to solve.
-#[derive(Drop)]
+#[derive(Clone, Copy)]
 pub enum PlanRefusal {
     Edition(EditionsRefusal),
     SlipsShort(u64),
 }
 
 // Planned with the totals, or refused, which leaves all lent words zero.
-#[derive(Drop)]
+#[derive(Clone, Copy)]
 pub enum Planning {
     Planned(Totals),
     Refused(PlanRefusal),

@@ -10,7 +10,7 @@ use crate::cards::{has_table, is_whole};
 use reader::deal::HandWords;
 
 // The board found, from 1, 0 where there is none, and the number of hand words compared.
-#[derive(Drop)]
+#[derive(Clone, Copy)]
 pub struct Found {
     pub board: usize,
     pub words: usize,
@@ -55,7 +55,7 @@ fn words_counted(cards: &[u32], k: usize, equal: usize) -> usize
 }
 
 // Whether a board is found, and the words that count on it.
-#[derive(Drop)]
+#[derive(Clone, Copy)]
 struct Tried {
     fits: bool,
     words: usize,

@@ -15,7 +15,7 @@ use crate::state::{from_of, state_number, state_of};
 use tables::letters::{Conventions, built_in};
 
 // Whether both editions were taken, and the words compared for all boards, 0 after a refusal.
-#[derive(Drop)]
+#[derive(Clone, Copy)]
 pub struct Searched {
     pub editions: Editions,
     pub words: u64,

@@ -13,7 +13,7 @@ use crate::state::{state_number, state_of};
 use tables::letters::{Conventions, built_in};
 
 // A board's position from 1 and its hands.
-#[derive(Drop)]
+#[derive(Clone, Copy)]
 pub struct Slip {
     pub position: u64,
     pub north: u64,
@@ -23,14 +23,14 @@ pub struct Slip {
 }
 
 // A slip, and the index of the board behind its own.
-#[derive(Drop)]
+#[derive(Clone, Copy)]
 pub struct NextSlip {
     pub next: usize,
     pub slip: Slip,
 }
 
 // What planning answers, and how many cards of each edition the slips are of: none after a refusal.
-#[derive(Drop)]
+#[derive(Clone, Copy)]
 pub struct Counted {
     pub answer: Planning,
     pub olds: usize,

@@ -8,7 +8,7 @@ use crate::cards::{deal_at, has_table, is_whole};
 use crate::search::first_with;
 
 // The state of a board, the first that fits; a source board counts from 1.
-#[derive(Drop)]
+#[derive(Clone, Copy)]
 pub enum BoardState {
     Blank,
     Own,

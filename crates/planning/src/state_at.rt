@@ -10,7 +10,7 @@ use crate::state::{BoardState, state_of};
 use tables::letters::{Conventions, built_in};
 
 // Whether both editions were taken, and the state of a board.
-#[derive(Drop)]
+#[derive(Clone, Copy)]
 pub struct StateAnswer {
     pub editions: Editions,
     pub state: BoardState,

@@ -12,7 +12,7 @@ use tables::letters::Conventions;
 use tables::text::{from, lead_len, upto, word_len};
 
 // What a token of an auction is.
-#[derive(Drop)]
+#[derive(Clone, Copy)]
 pub enum CallToken {
     Plus,
     Star,
@@ -23,7 +23,7 @@ pub enum CallToken {
 }
 
 // Bidding so far.
-#[derive(Drop)]
+#[derive(Clone, Copy)]
 pub struct Bidding {
     pub any: bool,
     pub made: bool,

@@ -1,7 +1,7 @@
 // The structs of a board and of a record's state.
 use crate::section::Open;
 
-#[derive(Drop)]
+#[derive(Clone, Copy)]
 pub struct Identity {
     pub number_met: usize,
     pub number: usize,
@@ -13,21 +13,21 @@ pub struct Identity {
 }
 
 // 0 none, 1 parsed, 2 kept unparsed; the words of the last deal that parsed.
-#[derive(Drop)]
+#[derive(Clone, Copy)]
 pub struct DealCard {
     pub kind: usize,
     pub words: [u32; 8],
 }
 
 // 0 none, 1 DoubleDummyTricks, 2 OptimumResultTable.
-#[derive(Drop)]
+#[derive(Clone, Copy)]
 pub struct TableCard {
     pub kind: usize,
     pub cells: [u8; 20],
 }
 
 // Value entries plus 1, 0 absent.
-#[derive(Drop)]
+#[derive(Clone, Copy)]
 pub struct Values {
     pub id: usize,
     pub event: usize,
@@ -44,7 +44,7 @@ pub struct Values {
 }
 
 // First entry plus 1, entries, dealer or leader, end.
-#[derive(Drop)]
+#[derive(Clone, Copy)]
 pub struct Section {
     pub first: usize,
     pub count: usize,
@@ -53,7 +53,7 @@ pub struct Section {
 }
 
 // trump is the play's; contract is the trump of the last kept contract.
-#[derive(Drop)]
+#[derive(Clone, Copy)]
 pub struct Board {
     pub id: Identity,
     pub deal: DealCard,
@@ -66,7 +66,7 @@ pub struct Board {
 }
 
 // The board so far, its open section, its tags and entries, and whether commentary is open and where its block starts.
-#[derive(Drop)]
+#[derive(Clone, Copy)]
 pub struct State {
     pub board: Board,
     pub section: Open,

@@ -8,7 +8,7 @@ ghost use Rattle.reader.specs.DealSteps.{add_card, IsGrown, step_of, Fine, IsFin
 use tables::letters::{Conventions, rank_of, seat_of};
 use tables::text::{byte_at, from, is_white, next_words, trim, word_len};
 
-#[derive(Drop)]
+#[derive(Clone, Copy)]
 pub struct Hands {
     pub north: u64,
     pub east: u64,
@@ -16,28 +16,28 @@ pub struct Hands {
     pub west: u64,
 }
 
-#[derive(Drop)]
+#[derive(Clone, Copy)]
 pub enum DealRead {
     Dealt(Hands),
     NoDeal,
 }
 
 // The cards after a hand was read, with those of the hands before it.
-#[derive(Drop)]
+#[derive(Clone, Copy)]
 pub enum HandRead {
     Held(u64),
     NoHand,
 }
 
 // A hand that is being read: the cards so far, with those of the hands before it; its suit; the cards that it may still take.
-#[derive(Drop)]
+#[derive(Clone, Copy)]
 pub struct PartHand {
     pub cards: u64,
     pub suit: u8,
     pub room: u8,
 }
 
-#[derive(Drop)]
+#[derive(Clone, Copy)]
 pub enum HandStep {
     To(PartHand),
     Off,
@@ -286,7 +286,7 @@ fn from_words(low: u32, high: u32) -> u64
 }
 
 // The hands as words: N, E, S, W, the low word first.
-#[derive(Drop)]
+#[derive(Clone, Copy)]
 pub struct HandWords {
     pub words: [u32; 8],
 }

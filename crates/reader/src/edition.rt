@@ -14,7 +14,7 @@ use tables::letters::{Conventions, built_in};
 use tables::text::{from, upto};
 
 // Refusals 1 to 3, each with its carried number; specs/Editions.antt gives the numbers.
-#[derive(Drop)]
+#[derive(Clone, Copy)]
 pub enum ReadRefusal {
     Overlong(u64),
     BoxFull(u64),
@@ -22,14 +22,14 @@ pub enum ReadRefusal {
 }
 
 // Taken with the counts of boards and entries, or refused, which leaves all lent words zero.
-#[derive(Drop)]
+#[derive(Clone, Copy)]
 pub enum Reading {
     Taken(u64, u64),
     Refused(ReadRefusal),
 }
 
 // The boards and entries of an edition.
-#[derive(Drop)]
+#[derive(Clone, Copy)]
 pub struct Counts {
     pub boards: usize,
     pub entries: usize,

@@ -9,7 +9,7 @@ use crate::tag::{
 use tables::text::{byte_at, lead_len};
 
 // A tag: alone on its line, with a comment, or with section data split off.
-#[derive(Drop)]
+#[derive(Clone, Copy)]
 pub enum TagReading {
     Plain(Tag),
     WithComment(Tag, Span),
@@ -17,7 +17,7 @@ pub enum TagReading {
 }
 
 // `Brace` starts a commentary block; `Bracket` starts with `[` and is no tag. Directives and data are trimmed.
-#[derive(Drop)]
+#[derive(Clone, Copy)]
 pub enum Line {
     Blank,
     Brace,

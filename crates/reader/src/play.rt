@@ -10,7 +10,7 @@ use tables::letters::Conventions;
 use tables::text::{from, lead_len, upto, word_len};
 
 // The four slots of a trick, 255 for an empty one.
-#[derive(Drop)]
+#[derive(Clone, Copy)]
 pub struct Slots {
     pub a: usize,
     pub b: usize,
@@ -19,7 +19,7 @@ pub struct Slots {
 }
 
 // Play so far.
-#[derive(Drop)]
+#[derive(Clone, Copy)]
 pub struct Tricks {
     pub any: bool,
     pub leader: usize,

@@ -8,14 +8,14 @@ use crate::section::commentary_after;
 use crate::walk::line_at;
 
 // Whether commentary is open, and whether a tag was met since the record's start.
-#[derive(Drop)]
+#[derive(Clone, Copy)]
 pub struct Scan {
     pub commentary: bool,
     pub met: bool,
 }
 
 // The place just after the record, and whether a tag was met in it.
-#[derive(Drop)]
+#[derive(Clone, Copy)]
 pub struct RecordEnd {
     pub end: usize,
     pub met: bool,

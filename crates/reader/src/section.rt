@@ -17,7 +17,7 @@ use tables::letters::Conventions;
 use tables::text::{byte_at, from, lead_len, upto};
 
 // An open section: 0 none, 1 auction, 2 play, 3 optimum; where the lines after its tag start, and what was split off its tag line.
-#[derive(Drop)]
+#[derive(Clone, Copy)]
 pub struct Open {
     pub kind: usize,
     pub seat: usize,
@@ -26,13 +26,13 @@ pub struct Open {
 }
 
 // The rows of an OptimumResultTable so far.
-#[derive(Drop)]
+#[derive(Clone, Copy)]
 pub struct Rows {
     pub cells: Cells,
     pub fault: bool,
 }
 
-#[derive(Drop)]
+#[derive(Clone, Copy)]
 pub struct Walk {
     pub bidding: Bidding,
     pub tricks: Tricks,
@@ -53,7 +53,7 @@ pub(crate) fn commentary_after(commentary: bool, l: &[u8]) -> bool
 }
 
 // What a section makes of a line: it ends there, the line is passed, or it is data, trimmed.
-#[derive(Drop)]
+#[derive(Clone, Copy)]
 pub enum Visit {
     Stop,
     Pass,
@@ -61,7 +61,7 @@ pub enum Visit {
 }
 
 // The next piece of a section's data, and where the lines after it start; `more` is false where the section has ended.
-#[derive(Drop)]
+#[derive(Clone, Copy)]
 pub struct Next {
     pub more: bool,
     pub piece: Span,

@@ -4,7 +4,7 @@ ghost use Rattle.std.proofs.lemmas.List.Edits.{sets};
 ghost use Rattle.reader.specs.Store.{low_word, zeros, put, moved, entry_words};
 
 // An entry of a record, its place counted from the record's start.
-#[derive(Drop)]
+#[derive(Clone, Copy)]
 pub struct Entry {
     pub kind: usize,
     pub x: usize,

@@ -7,68 +7,68 @@ ghost use Rattle.reader.specs.TagSteps.{BracketInside, IsInside, NameInside, Val
 use tables::text::{byte_at, from, index_of, kept_len, lead_len, trim_end, upto, word_len};
 
 // A part of a line.
-#[derive(Drop)]
+#[derive(Clone, Copy)]
 pub struct Span {
     pub start: usize,
     pub len: usize,
 }
 
 // The places of a tag's name and of its value, without the quotes.
-#[derive(Drop)]
+#[derive(Clone, Copy)]
 pub struct Tag {
     pub name: Span,
     pub value: Span,
 }
 
-#[derive(Drop)]
+#[derive(Clone, Copy)]
 pub enum TagLine {
     NoTag,
     Plain(Tag),
     WithComment(Tag, Span),
 }
 
-#[derive(Drop)]
+#[derive(Clone, Copy)]
 pub enum Pair {
     Of(Tag),
     NoPair,
 }
 
-#[derive(Drop)]
+#[derive(Clone, Copy)]
 pub enum Split {
     Data(Tag, Span),
     NoData,
 }
 
 // Where the text behind the opening bracket starts.
-#[derive(Drop)]
+#[derive(Clone, Copy)]
 enum Bracket {
     Body(usize),
     NoBracket,
 }
 
 // The place of a byte that was looked for.
-#[derive(Drop)]
+#[derive(Clone, Copy)]
 enum Close {
     At(usize),
     Nothing,
 }
 
 // The length of a tag's name.
-#[derive(Drop)]
+#[derive(Clone, Copy)]
 enum Name {
     Len(usize),
     NoName,
 }
 
 // The text between a value's quotes.
-#[derive(Drop)]
+#[derive(Clone, Copy)]
 enum Value {
     Text(Span),
     NoValue,
 }
 
 // What follows a tag on its line: nothing, a comment, or something else.
-#[derive(Drop)]
+#[derive(Clone, Copy)]
 enum Comment {
     Clean,
     Found(Span),

@@ -22,7 +22,7 @@ fn line_end(text: &[u8], start: usize) -> usize
 }
 
 // A walk over the lines of a text: the text, and the start of the next line.
-#[derive(Drop)]
+#[derive(Clone, Copy)]
 pub struct Lines<'a> {
     pub text: &'a [u8],
     pub next: usize,

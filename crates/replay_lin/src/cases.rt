@@ -4,7 +4,7 @@ ghost use Rattle.std.specs.Prelude.{◌≤◌, length};
 use tables::text::{byte_at, from};
 
 // What converting answers. After a refusal nothing is written and no board told, without one nothing is carried.
-#[derive(Drop)]
+#[derive(Clone, Copy)]
 pub struct Told {
     pub refusal: u64,
     pub carried: u64,
@@ -13,7 +13,7 @@ pub struct Told {
 }
 
 // The lengths of the text, of the lent page and of what is written.
-#[derive(Drop)]
+#[derive(Clone, Copy)]
 pub struct Lengths {
     pub text: usize,
     pub page: usize,
@@ -21,7 +21,7 @@ pub struct Lengths {
 }
 
 // A case of size 0 is none.
-#[derive(Drop)]
+#[derive(Clone, Copy)]
 pub struct Case {
     pub group: u8,
     pub lengths: Lengths,

@@ -9,7 +9,7 @@ ghost use Rattle.std.specs.Prelude.{◌≤◌, length};
 use tables::text::{byte_at, from};
 
 // `old`, `new`, `page` and `output` are lengths. A case of size 0 is none.
-#[derive(Drop)]
+#[derive(Clone, Copy)]
 pub struct Case {
     pub limit: usize,
     pub page: usize,

@@ -7,7 +7,7 @@ use tables::page::Written;
 use tables::text::{byte_at, from, upto};
 
 // How the replay ended: all cases gave the expected answer, or the first that did not, or the first that is not whole.
-#[derive(Drop)]
+#[derive(Clone, Copy)]
 pub enum End {
     Same,
     Different(u64),
@@ -15,14 +15,14 @@ pub enum End {
 }
 
 // How many cases were listed, were refused in a line, and had too short a page.
-#[derive(Drop)]
+#[derive(Clone, Copy)]
 pub struct Counts {
     pub listed: u64,
     pub refused: u64,
     pub full: u64,
 }
 
-#[derive(Drop)]
+#[derive(Clone, Copy)]
 pub struct Replayed {
     pub counts: Counts,
     pub compared: u64,

@@ -4,7 +4,7 @@ ghost use Rattle.std.specs.Prelude.{◌≤◌, length};
 use tables::text::{byte_at, from};
 
 // What a reading answers. After a refusal there are no boards and no entries, without one nothing is carried.
-#[derive(Drop)]
+#[derive(Clone, Copy)]
 pub struct Told {
     pub refusal: u64,
     pub carried: u64,
@@ -13,14 +13,14 @@ pub struct Told {
 }
 
 // The words that are lent.
-#[derive(Drop)]
+#[derive(Clone, Copy)]
 pub struct Lent {
     pub cards: usize,
     pub entries: usize,
 }
 
 // The lengths of the text, of the cards' codes and of the entries' codes.
-#[derive(Drop)]
+#[derive(Clone, Copy)]
 pub struct Lengths {
     pub text: usize,
     pub cards: usize,
@@ -28,7 +28,7 @@ pub struct Lengths {
 }
 
 // A case of size 0 is none.
-#[derive(Drop)]
+#[derive(Clone, Copy)]
 pub struct Case {
     pub group: u8,
     pub lengths: Lengths,

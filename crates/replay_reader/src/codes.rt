@@ -5,7 +5,7 @@ use crate::cases::two_bytes;
 use tables::text::{byte_at, from};
 
 // The code at a place of the codes, and how many words of it were met.
-#[derive(Drop)]
+#[derive(Clone, Copy)]
 struct Place {
     at: usize,
     met: usize,

@@ -7,7 +7,7 @@ use reader::edition::{Reading, read_pbn};
 use tables::text::{from, upto};
 
 // How the replay ended: all cases gave the recorded answer, or the first that did not, or the first that is not whole.
-#[derive(Drop)]
+#[derive(Clone, Copy)]
 pub enum End {
     Same,
     Different(u64),
@@ -15,7 +15,7 @@ pub enum End {
 }
 
 // The compared cases of each group and with each answer (0 taken), the boards and entries of those that are taken, and all words.
-#[derive(Drop)]
+#[derive(Clone, Copy)]
 pub struct Counts {
     pub groups: [u64; 6],
     pub answers: [u64; 4],
@@ -24,7 +24,7 @@ pub struct Counts {
     pub words: u64,
 }
 
-#[derive(Drop)]
+#[derive(Clone, Copy)]
 pub struct Replayed {
     pub counts: Counts,
     pub compared: u64,

@@ -8,7 +8,7 @@ ghost use Rattle.std.specs.Prelude.{◌≤◌, length};
 use tables::text::{byte_at, from};
 
 // `input`, `page` and `output` are lengths. A case of size 0 is none.
-#[derive(Drop)]
+#[derive(Clone, Copy)]
 pub struct Case {
     pub kind: u8,
     pub input: usize,

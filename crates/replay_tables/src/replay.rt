@@ -10,7 +10,7 @@ use tables::page::Written;
 use tables::text::{byte_at, from, upto};
 
 // How the replay ended: all cases gave the recorded answer, or the first that did not, or the first that is not whole.
-#[derive(Drop)]
+#[derive(Clone, Copy)]
 pub enum End {
     Same,
     Different(u64),
@@ -18,12 +18,12 @@ pub enum End {
 }
 
 // The number of compared cases of each kind.
-#[derive(Drop)]
+#[derive(Clone, Copy)]
 pub struct Counts {
     pub kinds: [u64; 6],
 }
 
-#[derive(Drop)]
+#[derive(Clone, Copy)]
 pub struct Replayed {
     pub counts: Counts,
     pub compared: u64,
@@ -31,7 +31,7 @@ pub struct Replayed {
 }
 
 // What a function of tables answered.
-#[derive(Drop)]
+#[derive(Clone, Copy)]
 struct Told {
     refusal: u64,
     carried: u64,

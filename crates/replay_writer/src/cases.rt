@@ -4,7 +4,7 @@ ghost use Rattle.std.specs.Prelude.{◌≤◌, length};
 use tables::text::{byte_at, from};
 
 // What writing answers. After a refusal nothing is written, without one nothing is carried.
-#[derive(Drop)]
+#[derive(Clone, Copy)]
 pub struct Told {
     pub refusal: u64,
     pub carried: u64,
@@ -12,7 +12,7 @@ pub struct Told {
 }
 
 // The words and bytes that are lent.
-#[derive(Drop)]
+#[derive(Clone, Copy)]
 pub struct Lent {
     pub cards: usize,
     pub entries: usize,
@@ -20,14 +20,14 @@ pub struct Lent {
 }
 
 // The lengths of the text and of what is written.
-#[derive(Drop)]
+#[derive(Clone, Copy)]
 pub struct Lengths {
     pub text: usize,
     pub written: usize,
 }
 
 // A case of size 0 is none.
-#[derive(Drop)]
+#[derive(Clone, Copy)]
 pub struct Case {
     pub group: u8,
     pub lengths: Lengths,

@@ -7,7 +7,7 @@ use tables::text::{byte_at, from, upto};
 use writer::write::{Writing, write_carried, write_number, write_pbn};
 
 // How the replay ended: all cases gave the recorded answer, or the first that did not, or the first that is not whole.
-#[derive(Drop)]
+#[derive(Clone, Copy)]
 pub enum End {
     Same,
     Different(u64),
@@ -15,7 +15,7 @@ pub enum End {
 }
 
 // The compared cases of each group and with each answer (0 written), the bytes written, and all bytes lent as pages.
-#[derive(Drop)]
+#[derive(Clone, Copy)]
 pub struct Counts {
     pub groups: [u64; 6],
     pub answers: [u64; 8],
@@ -23,7 +23,7 @@ pub struct Counts {
     pub lent: u64,
 }
 
-#[derive(Drop)]
+#[derive(Clone, Copy)]
 pub struct Replayed {
     pub counts: Counts,
     pub compared: u64,

@@ -17,14 +17,14 @@ use crate::text::{
 };
 
 // The answer of a reader of tables.
-#[derive(Drop)]
+#[derive(Clone, Copy)]
 pub enum Decoded {
     Table,
     Refused(Refusal),
 }
 
 // The answer with the table beside it, all zero after a refusal.
-#[derive(Drop)]
+#[derive(Clone, Copy)]
 pub struct TableRead {
     pub answer: Decoded,
     pub table: [u8; 20],
@@ -201,7 +201,7 @@ pub fn optimum_result_table_rows(table: &[u8; 20], page: &mut [u8]) -> Written
 }
 
 // What a row says.
-#[derive(Drop)]
+#[derive(Clone, Copy)]
 pub enum Row {
     Blank,
     Cell(usize, u8),
@@ -261,7 +261,7 @@ pub fn read_row(c: Conventions, row: &[u8], n: u64) -> Row
 }
 
 // The cells that rows have given so far, 255 for one that none has.
-#[derive(Drop)]
+#[derive(Clone, Copy)]
 pub struct Cells {
     pub tricks: [u8; 20],
 }

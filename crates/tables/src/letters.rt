@@ -5,7 +5,7 @@ ghost use Rattle.tables.specs.Letters.{built_in, capital, seat_of, suit_of, hono
 use crate::text::{byte_at, from, index_of, upto};
 
 // north, east, south, west, spades, hearts, diamonds, clubs, ace, king, queen, jack, ten
-#[derive(Drop)]
+#[derive(Clone, Copy)]
 pub struct Conventions {
     pub letters: [u8; 13],
 }

@@ -5,7 +5,7 @@ ghost use Rattle.tables.specs.NumberSteps.{IsWithin};
 
 use crate::text::{byte_at, from};
 
-#[derive(Drop)]
+#[derive(Clone, Copy)]
 pub enum Number {
     Value(u32),
     Bad,

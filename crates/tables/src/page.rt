@@ -7,7 +7,7 @@ ghost use Rattle.tables.specs.PageSteps.{Put, PageEnded, Digits, cleared};
 use crate::refusal::Refusal;
 
 // The answer of a writer: the bytes written, or a refusal, which leaves the page all zero.
-#[derive(Drop)]
+#[derive(Clone, Copy)]
 pub enum Written {
     Bytes(u64),
     Refused(Refusal),

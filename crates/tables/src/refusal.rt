@@ -2,7 +2,7 @@
 ghost use Rattle.std.specs.Prelude.{◌≡◌};
 ghost use Rattle.tables.specs.Refusals.{refusal_number, refusal_carries};
 
-#[derive(Drop)]
+#[derive(Clone, Copy)]
 pub enum Refusal {
     PageFull(u64),
     Length(u64),

@@ -19,7 +19,7 @@ use tables::letters::{Conventions, built_in};
 
 // Refusals 1 to 3 of an edition; 5 answers of another number of bytes than 20 a slip, 6 a byte above 13, 7 the page is too short;
 // specs/Finishings.antt gives the numbers.
-#[derive(Drop)]
+#[derive(Clone, Copy)]
 pub enum FinishRefusal {
     Edition(EditionsRefusal),
     Answers(u64),
@@ -28,14 +28,14 @@ pub enum FinishRefusal {
 }
 
 // The bytes written, or a refusal, which leaves all that was lent zero.
-#[derive(Drop)]
+#[derive(Clone, Copy)]
 pub enum Finishing {
     Finished(u64),
     Refused(FinishRefusal),
 }
 
 // Answers that are let through, or refusal 5 or 6.
-#[derive(Drop)]
+#[derive(Clone, Copy)]
 pub enum Checked {
     Right,
     Wrong(FinishRefusal),

@@ -5,7 +5,7 @@ ghost use Rattle.writer.specs.PresentSteps.{is_tag_written};
 use reader::names;
 
 // What of a board there is: an id, a dealer, a table, an optimum score, a par contract, an auction, notes of it, a play.
-#[derive(Drop)]
+#[derive(Clone, Copy)]
 pub struct Present {
     pub board: bool,
     pub dealer: bool,

@@ -13,7 +13,7 @@ use reader::words::same;
 use tables::text::byte_at;
 
 // The remarks sought: those before every tag, those under a name, those whose tag is not written.
-#[derive(Drop)]
+#[derive(Clone, Copy)]
 pub enum Sought {
     Leading,
     Under,

@@ -12,14 +12,14 @@ use tables::letters::{Conventions, built_in};
 use tables::page::finish;
 
 // Refusals 1 to 3 of the edition, and 7 with the bytes needed; specs/Writings.antt gives the numbers.
-#[derive(Drop)]
+#[derive(Clone, Copy)]
 pub enum WriteRefusal {
     Edition(ReadRefusal),
     PageFull(u64),
 }
 
 // The bytes written, or a refusal, which leaves all that was lent zero.
-#[derive(Drop)]
+#[derive(Clone, Copy)]
 pub enum Writing {
     Written(u64),
     Refused(WriteRefusal),
