@@ -7,7 +7,7 @@ use native.Mathlib.Nat.{pow-zero, pow-succ'}
 use native.Mathlib.Omega.{arith}
 use lib.Dec.{eqb}
 use lib.ListN.{get_or, take}
-use borrow.Author.Tests.{eqb-true, not_false}
+use borrow.Author.Tests.{eqb-true, not-false}
 use Rattle.tables.specs.declared.letters.Conventions.{Conventions}
 use Rattle.tables.proofs.Laws.{by_cases, clash, neither}
 use Rattle.reader.specs.declared.deal.Hands.{Hands}
@@ -114,7 +114,7 @@ cards_proper c text x i =
 -- A board that is not passed over is whole.
 over_whole : (tabled : Bool) (y : List ℕ) → passed_over tabled y ≡ false → is_whole y ≡ true
 unfolding passed_over
-over_whole tabled y e = not_false (is_whole y) (neither (not (is_whole y)) (tabled && not (has_table y)) e).0
+over_whole tabled y e = not-false (is_whole y) (neither (not (is_whole y)) (tabled && not (has_table y)) e).0
 
 pub left_by_six : LeftBySix
 unfolding compared

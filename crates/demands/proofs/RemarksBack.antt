@@ -2,7 +2,7 @@
 use Prim.Native.Nat.{ℕ, suc, ◌+◌, ◌-◌, ◌<◌}
 use mathlib.Core.Path.{◌≡◌, refl, sym, ap, ◌∙◌}
 use mathlib.Core.Bool.{Bool, true, false, cond}
-use mathlib.Core.List.{List, [], ◌∷◌, ◌++◌, append_assoc, append-nil, map, map_append, map_congr_left}
+use mathlib.Core.List.{List, [], ◌∷◌, ◌++◌, append_assoc, append-nil, map, map-append, map_congr_left}
 use mathlib.Core.Option.{Option, none, some}
 use native.Mathlib.Nat.{add-zero}
 use native.Mathlib.Numerals.{add-one}
@@ -10,7 +10,7 @@ use native.Mathlib.Omega.{arith}
 use lib.Dec.{eqb}
 use lib.ListN.{length, take, drop, get_elem?, length-append}
 use lib.Seq.{append_snoc, take-append-le}
-use borrow.Author.Tests.{eqb-true, not_false}
+use borrow.Author.Tests.{eqb-true, not-false}
 use Rattle.tables.specs.declared.letters.Conventions.{Conventions}
 use Rattle.tables.specs.Text.{ascii, is_white, lead, trimmed}
 use Rattle.tables.specs.Letters.{Accepted, every, among}
@@ -128,7 +128,7 @@ comment_inner : (d : List ℕ) → is_signed d ≡ false → among 125 d ≡ tru
 unfolding is_white
 comment_inner [] g e = let z : ◌≡◌ {A = ℕ} 0 1 = cc in wrong z
 comment_inner (b ∷ bs) g e =
-    let q : b ≡ 123 = eqb-true b 123 (not_false (eqb b 123) g) in
+    let q : b ≡ 123 = eqb-true b 123 (not-false (eqb b 123) g) in
     let m : among 125 (123 ∷ bs) ≡ true = rw q at e in
     let h = brace_kept (123 ∷ bs) m in
     rw (q, h.0) (take-append-le (last_brace (123 ∷ bs) - 1) bs (10 ∷ []) (omega (arith, h.1)))
@@ -138,7 +138,7 @@ unfolding is_white
 block_inner l = let e : suc (last_brace l) - 1 ≡ last_brace l = omega arith in rw e
 
 value_then : (n : ℕ) (v : List ℕ) (ks : List Remark) → map block_value (block_on v n ++ ks) ≡ remarked n (block_text v) ++ map block_value ks
-value_then n v ks = map_append block_value (block_on v n) ks ∙ rw (block_value_lem n v)
+value_then n v ks = map-append block_value (block_on v n) ks ∙ rw (block_value_lem n v)
 
 line_blocks_lem : (n : ℕ) (l : WrittenLine) (ls r : List (List ℕ)) → ReadsAs l ls → blocks_read n (ls ++ r) ≡ remarked n (texts_on as_blocks l) ++ blocks_read (tags_after n l) r
 unfolding line_tags line_blocks block_after commentary_after has_brace is_white
@@ -212,9 +212,9 @@ module _ (t : Texts) where
       anchors_at ts (pre ++ p ∷ []) post (m + 1) (some p) ls e' em' ea'
   anchors_at ts pre post m a (data_line d ∷ ls) e em ea = anchors_at ts pre post m a ls e em ea
   anchors_at ts pre post m a (directive_line i d ∷ ls) e em ea =
-      map_append (place_in ts) (remarked m (t.of_directive d)) (remarks_at t m ls) ∙ rw (remarked_places ts m a (t.of_directive d) ea, anchors_at ts pre post m a ls e em ea)
+      map-append (place_in ts) (remarked m (t.of_directive d)) (remarks_at t m ls) ∙ rw (remarked_places ts m a (t.of_directive d) ea, anchors_at ts pre post m a ls e em ea)
   anchors_at ts pre post m a (block_line i v ∷ ls) e em ea =
-      map_append (place_in ts) (remarked m (t.of_block v)) (remarks_at t m ls) ∙ rw (remarked_places ts m a (t.of_block v) ea, anchors_at ts pre post m a ls e em ea)
+      map-append (place_in ts) (remarked m (t.of_block v)) (remarks_at t m ls) ∙ rw (remarked_places ts m a (t.of_block v) ea, anchors_at ts pre post m a ls e em ea)
 
   -- ---- the lines of a board
 
@@ -305,7 +305,7 @@ module _ (t : Texts) where
   lines_places ts hs ls n e =
       let x = anchors_at ts [] ts 0 none hs (rw n) refl refl in
       let y = anchors_at ts [] [] 0 none ls (e ∙ sym (append-nil (pairs_in ls))) refl refl in
-      map_append (place_in ts) (remarks_at t 0 hs) (remarks_at t 0 ls) ∙ rw (x, y)
+      map-append (place_in ts) (remarks_at t 0 hs) (remarks_at t 0 ls) ∙ rw (x, y)
 
   own_places : (c : Conventions) (b : PlainBoard)
       → map (place_in (tags_as_written c b)) (remarks_at t 0 (leading_lines b) ++ remarks_at t 0 (body_lines b (written_tags c b (own_play c b.play)))) ≡ remarks_back t c b

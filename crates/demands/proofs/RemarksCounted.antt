@@ -1,7 +1,7 @@
 -- A directive and a block are written once.
 use Prim.Native.Nat.{ℕ, zero, suc, ◌+◌, ◌<◌}
 use mathlib.Core.Path.{◌≡◌, refl, sym, ap, ◌∙◌}
-use mathlib.Core.Bool.{Bool, true, false, cond, ◌&&◌, ◌||◌, not, and_true, and_false, or_true, or_false}
+use mathlib.Core.Bool.{Bool, true, false, cond, ◌&&◌, ◌||◌, not, and-true, and-false, or-true, or-false}
 use mathlib.Core.List.{List, [], ◌∷◌, ◌++◌}
 use mathlib.Core.Option.{Option, none, some}
 use native.Mathlib.Nat.{zero-add, add-zero}
@@ -54,7 +54,7 @@ remark_times kind t ts i j zero (r ∷ rs) k q h =
     let j-is : j ≡ i = omega arith in
     rw (← same-remark, ← j-is)
     (those_times kind j t (numbered ts j r) (anchored_from ts (j + 1) rs)
-    ∙ rw (number_low kind t ts j (j + 1) rs (omega arith), eq-eqb j j refl, and_true, add-zero))
+    ∙ rw (number_low kind t ts j (j + 1) rs (omega arith), eq-eqb j j refl, and-true, add-zero))
 remark_times kind t ts i j (suc m) (r ∷ rs) k q h =
     omega (
       arith,
@@ -86,18 +86,18 @@ first_none earlier [] = refl
 first_none earlier (w ∷ ws) = by_cases (wrote w.name earlier) (λ e. rw e (omega (arith, first_none (earlier ++ w ∷ []) ws))) (λ e. rw e (omega (arith, first_none (earlier ++ w ∷ []) ws)))
 
 first_some : (t : TagPair) (earlier ws : List WrittenTag) → times_first (some t) earlier ws ≡ once (not (wrote t.name earlier) && wrote t.name ws)
-first_some t earlier [] = rw and_false
+first_some t earlier [] = rw and-false
 first_some t earlier (w ∷ ws) =
     let n = t.name in
     let i : times_first (some t) (earlier ++ w ∷ []) ws ≡ once (not (wrote n earlier || (same n w.name || false)) && wrote n ws) =
     first_some t (earlier ++ w ∷ []) ws ∙ rw wrote_append in
     by_cases (same n w.name)
     (λ e.
-    let z : times_first (some t) (earlier ++ w ∷ []) ws ≡ 0 = i ∙ rw (e, or_true) in
+    let z : times_first (some t) (earlier ++ w ∷ []) ws ≡ 0 = i ∙ rw (e, or-true) in
     let m : wrote w.name earlier ≡ wrote n earlier = ap (λ (l : List ℕ). wrote l earlier) (sym (same_is n w.name e)) in
     rw (z, m, same_flip w.name n, e) (now_first (wrote n earlier)))
     (λ e.
-    let z : times_first (some t) (earlier ++ w ∷ []) ws ≡ once (not (wrote n earlier) && wrote n ws) = i ∙ rw (e, or_false) in
+    let z : times_first (some t) (earlier ++ w ∷ []) ws ≡ once (not (wrote n earlier) && wrote n ws) = i ∙ rw (e, or-false) in
     rw (z, same_flip w.name n, e) (not_now (wrote w.name earlier) (once (not (wrote n earlier) && wrote n ws))))
   where
     now_first : (x : Bool) → cond x 0 1 + 0 ≡ once (not x && true)

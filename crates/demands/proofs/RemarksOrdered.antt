@@ -1,7 +1,7 @@
 -- The order of the remarks between two tags.
 use Prim.Native.Nat.{ℕ, ◌+◌, ◌≤◌, ◌<◌}
 use mathlib.Core.Path.{◌≡◌, sym, subst}
-use mathlib.Core.Bool.{Bool, true, or_true}
+use mathlib.Core.Bool.{Bool, true, or-true}
 use mathlib.Core.List.{List, [], ◌∷◌, ◌++◌, map, append-nil, append_assoc}
 use native.Mathlib.Omega.{arith}
 use lib.ListN.{length, length-append}
@@ -129,7 +129,7 @@ module _ (rk : Kind → ℕ → ℕ) where
       let under-ks = blocks_under ks earlier w in
       let B = remark_lines block under-ks in
       let T = tags_lines ds ks (earlier ++ w ∷ []) ws in
-      let here : wrote n (earlier ++ w ∷ ws) ≡ true = rw (wrote_append n earlier (w ∷ ws), same_self n, or_true) in
+      let here : wrote n (earlier ++ w ∷ ws) ≡ true = rw (wrote_append n earlier (w ∷ ws), same_self n, or-true) in
       let inside : length earlier < length (earlier ++ w ∷ ws) = simp length-append (omega arith) in
       let ranks : All (λ k. rk block k.number ≡ 1) under-ks = by_cases (wrote n earlier) (λ x. rw x no_more) (λ x. rw x (r.blocks_are_under n here)) in
       let rises : Rising under-ks = by_cases (wrote n earlier) (λ x. rw x no_rise) (λ x. rw x (r.blocks_rise (is_under n))) in

@@ -3,7 +3,7 @@
 use Prim.Native.Nat.{ℕ, ◌+◌}
 use mathlib.Core.Path.{◌≡◌, refl, sym, ap, ◌∙◌}
 use mathlib.Core.Bool.{true, false, cond}
-use mathlib.Core.List.{List, [], ◌∷◌, ◌++◌, map, append_assoc, append-nil, map_append}
+use mathlib.Core.List.{List, [], ◌∷◌, ◌++◌, map, append_assoc, append-nil, map-append}
 use lib.ListN.{length}
 use borrow.Author.Tests.{not-true}
 use Rattle.tables.specs.declared.letters.Conventions.{Conventions}
@@ -117,7 +117,7 @@ all_tokens (q ∷ qs) = tokens_of q ++ all_tokens qs
 pub tokens_texts : (qs : List Piece) → texts (all_tokens qs) ≡ words_in_all (texts qs)
 tokens_texts [] = refl
 tokens_texts (q ∷ qs) =
-    map_append (λ (x : Piece). x.bytes) (tokens_of q) (all_tokens qs)
+    map-append (λ (x : Piece). x.bytes) (tokens_of q) (all_tokens qs)
     ∙ ap (λ (x : List (List ℕ)). x ++ texts (all_tokens qs)) (tokens_words q.at q.bytes)
     ∙ ap (λ (x : List (List ℕ)). words q.bytes ++ x) (tokens_texts qs)
 

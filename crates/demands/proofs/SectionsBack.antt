@@ -3,7 +3,7 @@
 use Prim.Native.Nat.{ℕ, ◌+◌, ◌-◌, ◌≤◌, ◌<◌}
 use mathlib.Core.Path.{◌≡◌, refl, sym, ap, ◌∙◌}
 use mathlib.Core.Bool.{Bool, true, false, cond, ◌||◌}
-use mathlib.Core.List.{List, [], ◌∷◌, ◌++◌, map, append_assoc, append-nil, map_append}
+use mathlib.Core.List.{List, [], ◌∷◌, ◌++◌, map, append_assoc, append-nil, map-append}
 use mathlib.Core.Option.{Option, none, some}
 use native.Mathlib.Omega.{arith}
 use lib.Dec.{ltb, eqb}
@@ -75,7 +75,7 @@ within_more r s es fs h =
     let is = items_of r es in
     let n = length-map es (item_of r) in
     let d = length-drop (s.first - 1) is in
-    ap (λ (xs : List Item). take s.count (drop (s.first - 1) xs)) (map_append (item_of r) es fs)
+    ap (λ (xs : List Item). take s.count (drop (s.first - 1) xs)) (map-append (item_of r) es fs)
     ∙ ap (λ (xs : List Item). take s.count xs) (drop-append-le (s.first - 1) is (items_of r fs) (omega arith))
     ∙ take-append-le s.count (drop (s.first - 1) is) (items_of r fs) (omega arith)
 
@@ -85,7 +85,7 @@ within_own r s es fs f k =
     let is = items_of r es in
     let js = items_of r fs in
     let n : s.first - 1 ≡ length is = rw (length-map es (item_of r)) (omega arith) in
-    ap (λ (xs : List Item). take s.count (drop (s.first - 1) xs)) (map_append (item_of r) es fs)
+    ap (λ (xs : List Item). take s.count (drop (s.first - 1) xs)) (map-append (item_of r) es fs)
     ∙ ap (λ (m : ℕ). take s.count (drop m (is ++ js))) n
     ∙ ap (λ (xs : List Item). take s.count xs) (drop-append_seam is js)
     ∙ take_all s.count js (rw (length-map fs (item_of r)) (omega arith))

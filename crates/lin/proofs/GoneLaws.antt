@@ -2,7 +2,7 @@
 use Prim.Native.Nat.{ℕ, suc, ◌+◌, ◌≤◌}
 use mathlib.Core.Path.{◌≡◌, refl, sym, ap, ◌∙◌}
 use mathlib.Core.Bool.{Bool, true, false, cond, ◌&&◌, ◌||◌}
-use mathlib.Core.List.{List, [], ◌∷◌, ◌++◌, append_assoc, append-nil, map, map_append}
+use mathlib.Core.List.{List, [], ◌∷◌, ◌++◌, append_assoc, append-nil, map, map-append}
 use native.Mathlib.Omega.{arith}
 use lib.Dec.{eqb}
 use lib.ListN.{length, length-append}
@@ -184,7 +184,7 @@ going_next {c} {pieces} {x} {rest} {page₀} {page} {page'} {g} {r} n m =
     record {
       done = n.done ++ x ∷ [];
       pieces_are = n.pieces_are ∙ sym (append_assoc n.done (x ∷ []) rest);
-      gone = rw (map_append (board_of c) n.done (x ∷ [])) (gone_more c (map (board_of c) n.done) x page₀ page page' g r n.gone m);
+      gone = rw (map-append (board_of c) n.done (x ∷ [])) (gone_more c (map (board_of c) n.done) x page₀ page page' g r n.gone m);
     }
 
 -- A piece that counts only with an md.

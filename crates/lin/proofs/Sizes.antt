@@ -1,7 +1,7 @@
 -- How long a page can be: at most 256 bytes for each byte of the text, and the 20 of the header.
 use Prim.Native.Nat.{ℕ, zero, suc, ◌+◌, ◌-◌, ◌*◌, ◌%◌, ◌≤◌, ◌<◌}
 use mathlib.Core.Path.{◌≡◌, refl}
-use mathlib.Core.Bool.{true, false, cond, ◌&&◌, ◌||◌, not, and_false}
+use mathlib.Core.Bool.{true, false, cond, ◌&&◌, ◌||◌, not, and-false}
 use mathlib.Core.List.{List, [], ◌∷◌, ◌++◌, map}
 use native.Mathlib.Omega.{arith}
 use lib.Dec.{eqb, ltb}
@@ -206,7 +206,7 @@ trimmed_few s = omega (arith, trim_length s)
 -- A command that counts has two bytes.
 command_short : (t : List ℕ) → length t < 2 → command_named t ≡ 0
 command_short [] h = refl
-command_short (b ∷ []) h = simp and_false
+command_short (b ∷ []) h = simp and-false
 command_short (b ∷ d ∷ bs) h = absurd (omega arith)
 
 command_long : (s : List ℕ) → eqb (command_of s) md ≡ true → 2 ≤ length s

@@ -2,7 +2,7 @@
 use Prim.Native.Nat.{ℕ, ◌+◌, ◌-◌, ◌≤◌, ◌<◌}
 use mathlib.Core.Path.{◌≡◌, refl, sym, ap, ◌∙◌}
 use mathlib.Core.Bool.{Bool, true, false, cond, ◌&&◌, not}
-use mathlib.Core.List.{List, [], ◌∷◌, ◌++◌, map, append-nil, append_assoc, map_append}
+use mathlib.Core.List.{List, [], ◌∷◌, ◌++◌, map, append-nil, append_assoc, map-append}
 use native.Mathlib.Nat.{add-zero}
 use native.Mathlib.Omega.{arith}
 use lib.Dec.{eqb}
@@ -229,7 +229,7 @@ Reads f is xs = (js : List Item) → f (is ++ js) ≡ xs ++ f js
 reads_both : {A : Type 0} (f : List Item → List A) (r : List ℕ) (es fs : List Entry) (xs ys : List A) → Reads f (items_of r es) xs → Reads f (items_of r fs) ys → Reads f (items_of r (es ++ fs)) (xs ++ ys)
 reads_both {A = A} f r es fs xs ys a b js =
     let is = items_of r fs ++ js in
-    let m = ap (λ (l : List Item). l ++ js) (map_append (item_of r) es fs) ∙ append_assoc (items_of r es) (items_of r fs) js in
+    let m = ap (λ (l : List Item). l ++ js) (map-append (item_of r) es fs) ∙ append_assoc (items_of r es) (items_of r fs) js in
     ap f m ∙ a is ∙ ap (λ (l : List A). xs ++ l) (b js) ∙ sym (append_assoc xs ys (f js))
 
 reads_alone : {A : Type 0} (f : List Item → List A) (is : List Item) (xs : List A) → f [] ≡ [] → Reads f is xs → f is ≡ xs

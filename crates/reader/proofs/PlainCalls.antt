@@ -9,7 +9,7 @@ use native.Mathlib.Omega.{arith}
 use lib.Dec.{ltb, eqb}
 use lib.ListN.{length, take, drop, get_or}
 use lib.Seq.{drop-drop, get_or-take, get_or-drop}
-use borrow.Author.Tests.{ltb-true, ltb-false, eqb-true, eqb-false, not_false}
+use borrow.Author.Tests.{ltb-true, ltb-false, eqb-true, eqb-false, not-false}
 use Rattle.tables.specs.declared.letters.Conventions.{Conventions}
 use Rattle.tables.specs.Text.{is_white, is_word, lead, ascii}
 use Rattle.tables.specs.Letters.{every, strain_of}
@@ -175,7 +175,7 @@ mark_first [] h = absurd (omega arith)
 mark_first (b ∷ bs) h =
     by_cases (is_call_byte b)
     (λ e. let g : length (call_part (b ∷ bs)) ≡ suc (length (call_part bs)) = rw e in rw e (mark_first bs (omega arith)))
-    (λ e. rw e (not_false (is_mark b) e))
+    (λ e. rw e (not-false (is_mark b) e))
 
 -- The annotation from the byte k of a token on.
 annotation_good : (r : List ℕ) (t : Piece) (k : ℕ) → Token r t → k < length t.bytes → is_mark (get_or t.bytes k 0) ≡ true → CallGood r (entry 7 (t.at + k) (length t.bytes - k) 0)

@@ -1,7 +1,7 @@
 -- The plain board: each place is where its bytes stand; the same board and entries, with the same bytes, are the same plain board.
 use Prim.Native.Nat.{ℕ, ◌+◌, ◌≤◌}
 use mathlib.Core.Path.{◌≡◌, refl, sym, ap, ◌∙◌}
-use mathlib.Core.List.{List, [], ◌∷◌, ◌++◌, map, append_assoc, map_append, head-eq_of_cons-eq, tail-eq_of_cons-eq}
+use mathlib.Core.List.{List, [], ◌∷◌, ◌++◌, map, append_assoc, map-append, head-eq_of_cons-eq, tail-eq_of_cons-eq}
 use mathlib.Core.Option.{none as nothing, some}
 use native.Mathlib.Omega.{arith}
 use lib.Dec.{eqb}
@@ -73,7 +73,7 @@ from_hold c p (r ∷ rs) q h =
     let i = from_hold c (p ++ r) rs q (rw b at k) in
     rw (
       a,
-      map_append (bytes_at (p ++ (r ++ (flat rs ++ q)))) (map (entry_words (length p)) es) (entries_from c (length p + length r) rs),
+      map-append (bytes_at (p ++ (r ++ (flat rs ++ q)))) (map (entry_words (length p)) es) (entries_from c (length p + length r) rs),
       entries_hold p r (flat rs ++ q) es k (EntriesPlaced c r),
     )
     (ap (λ (l : List (List ℕ)). map (bytes_of r) es ++ l) (rw (b, sym n) i))
@@ -127,7 +127,7 @@ plain_parts : (c : Conventions) (text f m b : List ℕ) → records_of text ≡ 
     → plain_boards c text ≡ plain_boards c f ++ (plain_boards c m ++ plain_boards c b)
 unfolding plain_boards
 plain_parts c text f m b e =
-    rw (e, map_append (plain_of c) (records_of f) (records_of m ++ records_of b), map_append (plain_of c) (records_of m) (records_of b))
+    rw (e, map-append (plain_of c) (records_of f) (records_of m ++ records_of b), map-append (plain_of c) (records_of m) (records_of b))
 
 -- THEOREM. Two editions alike but for a stretch have the same plain boards before the stretch and behind it.
 pub PlainAlike : (c : Conventions) (front middle middle' back : List ℕ) → AlikeBut front middle middle' back

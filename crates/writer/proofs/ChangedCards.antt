@@ -2,7 +2,7 @@
 use Prim.Native.Nat.{ℕ, zero, suc, ◌+◌, ◌*◌, ◌-◌, ◌≤◌, ◌<◌}
 use mathlib.Core.Path.{◌≡◌, refl, sym, ap, ◌∙◌}
 use mathlib.Core.Bool.{true, false, ◌&&◌, not}
-use mathlib.Core.List.{List, [], ◌∷◌, ◌++◌, map, append_assoc, map_append}
+use mathlib.Core.List.{List, [], ◌∷◌, ◌++◌, map, append_assoc, map-append}
 use native.Mathlib.Omega.{arith}
 use lib.Dec.{eqb}
 use lib.ListN.{length, get_or, take, drop, set, replicate, length-append, length-map, length-drop, take-append-drop}
@@ -156,7 +156,7 @@ changed_next {f} {n} {k} {box₀} {box} {box'} g i h r e l =
     let z : k + 1 - suc k ≡ 0 = omega arith in
     let more : cards_in (k + 1) box₀ ≡ cards_in k box₀ ++ (card_here k box₀ ∷ []) = cards_split (k + 1) k box₀ (omega arith) ∙ rw z in
     let front : flat (map f (cards_in (k + 1) box₀)) ≡ p ++ f (card_here k box₀) =
-    rw more (ap flat (map_append f (cards_in k box₀) (card_here k box₀ ∷ [])) ∙ flat_more (map f (cards_in k box₀)) (f (card_here k box₀))) in
+    rw more (ap flat (map-append f (cards_in k box₀) (card_here k box₀ ∷ [])) ∙ flat_more (map f (cards_in k box₀)) (f (card_here k box₀))) in
     record {
       inside = omega arith;
       same_length = l ∙ i.same_length;

@@ -1,7 +1,7 @@
 -- Supplemental tags, put from the entries of a board, are those that the board's tags give.
 use Prim.Native.Nat.{ℕ, zero, suc, ◌+◌, ◌-◌, ◌≤◌, ◌<◌}
 use mathlib.Core.Path.{◌≡◌, refl, sym, ap, ◌∙◌}
-use mathlib.Core.Bool.{Bool, true, false, cond, ◌&&◌, ◌||◌, not, or_false}
+use mathlib.Core.Bool.{Bool, true, false, cond, ◌&&◌, ◌||◌, not, or-false}
 use mathlib.Core.List.{List, [], ◌∷◌, ◌++◌, append-nil}
 use native.Mathlib.Nat.{add-zero}
 use native.Mathlib.Omega.{arith}
@@ -218,7 +218,7 @@ module _ (text entries : List ℕ) where
       (λ t.
       let sees : (m : List ℕ) → named m seen ≡ named m (tags_in (items_at text entries first (suc j))) = λ m.
       let new : false ≡ named m (tags_in (item_at text entries e ∷ [])) = rw (item_kind text entries e, t) in
-      sym (or_false (named m seen)) ∙ (ap (λ (b : Bool). named m seen || b) new ∙ sym (last m)) in
+      sym (or-false (named m seen)) ∙ (ap (λ (b : Bool). named m seen || b) new ∙ sym (last m)) in
       rw (item_kind, t, no_extra first e t) (more seen sees))
 
   -- ---- a board

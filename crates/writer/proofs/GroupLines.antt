@@ -1,8 +1,8 @@
 -- The lines of a board's tags, group by group: a tag whose name no other has is followed by all directives and all blocks of that name.
 use Prim.Native.Nat.{ℕ, ◌≤◌}
 use mathlib.Core.Path.{◌≡◌, refl, sym, ap, ◌∙◌}
-use mathlib.Core.Bool.{Bool, true, false, cond, ◌||◌, or_false}
-use mathlib.Core.List.{List, [], ◌∷◌, ◌++◌, map, append-nil, append_assoc, map_append}
+use mathlib.Core.Bool.{Bool, true, false, cond, ◌||◌, or-false}
+use mathlib.Core.List.{List, [], ◌∷◌, ◌++◌, map, append-nil, append_assoc, map-append}
 use mathlib.Core.Option.{Option, none, some}
 use native.Mathlib.Omega.{arith}
 use lib.Dec.{eqb, ltb}
@@ -138,7 +138,7 @@ module _ (others after : List WrittenTag) (x : wrote (ascii "Note") others ≡ f
       let o : meets (of_name t) others ≡ false = meets_name t others ∙ rw n x in
       let a : meets (of_name t) after ≡ false = meets_name t after ∙ rw n y in
       let p : meets (of_name_and_value t) before ≡ has_value t.value earlier = meets_append (of_name_and_value t) others (map note_tag earlier) ∙ rw (both_name t others o) (notes_hold t earlier n) in
-      let q : meets (of_name_and_value t) behind ≡ has_value t.value vs = meets_append (of_name_and_value t) (map note_tag vs) after ∙ rw (both_name t after a, or_false) (notes_hold t vs n) in
+      let q : meets (of_name_and_value t) behind ≡ has_value t.value vs = meets_append (of_name_and_value t) (map note_tag vs) after ∙ rw (both_name t after a, or-false) (notes_hold t vs n) in
       let r : meets (of_name t) before ≡ is_any earlier = meets_append (of_name t) others (map note_tag earlier) ∙ rw o (meets_name t (map note_tag earlier) ∙ rw n (notes_wrote earlier)) in
       let s : has_value t.value (earlier ++ v ∷ vs) ≡ (has_value t.value earlier || (same t.value v || has_value t.value vs)) = holds_append t.value earlier (v ∷ vs) in
       rw (meets_append (of_name_and_value t) before (note_tag v ∷ behind), p, q, r, s, n))
@@ -158,7 +158,7 @@ module _ (others after : List WrittenTag) (x : wrote (ascii "Note") others ≡ f
       let all = (others ++ map note_tag earlier) ++ note_tag v ∷ (map note_tag vs ++ after) in
       let w : wrote (ascii "Note") (others ++ map note_tag earlier) ≡ is_any earlier = wrote_append (ascii "Note") others (map note_tag earlier) ∙ rw x (notes_wrote earlier) in
       let m : (others ++ map note_tag earlier) ++ note_tag v ∷ [] ≡ others ++ map note_tag (earlier ++ v ∷ [])
-      = append_assoc others (map note_tag earlier) (note_tag v ∷ []) ∙ ap (λ (us : List WrittenTag). others ++ us) (sym (map_append note_tag earlier (v ∷ []))) in
+      = append_assoc others (map note_tag earlier) (note_tag v ∷ []) ∙ ap (λ (us : List WrittenTag). others ++ us) (sym (map-append note_tag earlier (v ∷ []))) in
       rw (
         those_same (goes_after all (length (others ++ map note_tag earlier))) (takes_anchored earlier v vs) ds (λ d. anchor_takes earlier v vs d.anchor),
         w,

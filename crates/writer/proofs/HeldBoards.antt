@@ -2,7 +2,7 @@
 use Prim.Native.Nat.{ℕ, zero, suc, ◌+◌, ◌-◌, ◌*◌, ◌/◌, ◌≤◌, ◌<◌}
 use mathlib.Core.Path.{◌≡◌, refl, sym, ap, ◌∙◌}
 use mathlib.Core.Bool.{true, false}
-use mathlib.Core.List.{List, [], ◌∷◌, ◌++◌, map, append_assoc, append-nil, map_append}
+use mathlib.Core.List.{List, [], ◌∷◌, ◌++◌, map, append_assoc, append-nil, map-append}
 use mathlib.Core.Option.{some}
 use native.Mathlib.Nat.{add-zero, mul-zero, mul-suc, zero-add}
 use native.Mathlib.Omega.{arith}
@@ -214,7 +214,7 @@ module _ (c : Conventions) (text cards entries : List ℕ) (t : Holds c text car
     -- Those before a run, and the run, of all entries.
     module _ (j : ℕ) (run : List Entry) (s : Stands (record_out c r).entries j run) where
       parts_are : items_of r (record_out c r).entries ≡ items_of r s.before ++ (items_of r run ++ items_of r s.after)
-      parts_are = ap (items_of r) s.whole ∙ map_append (item_of r) s.before (run ++ s.after) ∙ ap (λ (l : List Item). items_of r s.before ++ l) (map_append (item_of r) run s.after)
+      parts_are = ap (items_of r) s.whole ∙ map-append (item_of r) s.before (run ++ s.after) ∙ ap (λ (l : List Item). items_of r s.before ++ l) (map-append (item_of r) run s.after)
 
       before_length : length (items_of r s.before) ≡ j
       before_length = length-map s.before (item_of r) ∙ s.count

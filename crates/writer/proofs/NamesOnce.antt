@@ -2,7 +2,7 @@
 use Prim.Native.String.{String}
 use Prim.Native.Nat.{ℕ, suc, ◌+◌, ◌-◌, ◌≤◌, ◌<◌}
 use mathlib.Core.Path.{◌≡◌, refl, sym, ap, ◌∙◌}
-use mathlib.Core.Bool.{Bool, true, false, cond, ◌&&◌, ◌||◌, not, or_false, or_true, and_false, and_true}
+use mathlib.Core.Bool.{Bool, true, false, cond, ◌&&◌, ◌||◌, not, or-false, or-true, and-false, and-true}
 use mathlib.Core.List.{List, [], ◌∷◌, ◌++◌, map}
 use mathlib.Core.Option.{Option, none, some}
 use native.Mathlib.Nat.{zero-add}
@@ -162,7 +162,7 @@ note_times k (v ∷ vs) =
 
 extra_is : (t : TagPair) → is_extra t ≡ eqb (number t.name) 0
 unfolding is_extra
-extra_is t = by_cases (same (ascii "Scoring") t.name) (λ e. rw (e, and_false)) (λ e. rw (e, and_true))
+extra_is t = by_cases (same (ascii "Scoring") t.name) (λ e. rw (e, and-false)) (λ e. rw (e, and-true))
 
 pub named_append : (n : List ℕ) (ts us : List TagPair) → named n (ts ++ us) ≡ (named n ts || named n us)
 named_append n [] us = refl
@@ -175,9 +175,9 @@ extra_times n seen (t ∷ ts) h =
     let i : times_written n (extras_from (seen ++ t ∷ []) ts) ≡ once (named n ts && not (named n seen || (same n t.name || false))) =
     extra_times n (seen ++ t ∷ []) ts h ∙ rw (named_append n seen (t ∷ [])) in
     by_cases (same n t.name)
-    (λ e. met e (i ∙ rw (e, or_true, and_false)))
+    (λ e. met e (i ∙ rw (e, or-true, and-false)))
     (λ e.
-    let more : times_written n (extras_from (seen ++ t ∷ []) ts) ≡ once (named n ts && not (named n seen)) = i ∙ rw (e, or_false) in
+    let more : times_written n (extras_from (seen ++ t ∷ []) ts) ≡ once (named n ts && not (named n seen)) = i ∙ rw (e, or-false) in
     by_cases (is_extra t && not (named t.name seen))
     (λ x. rw (x, e, zero-add) more)
     (λ x. rw (x, e) more))

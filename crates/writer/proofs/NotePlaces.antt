@@ -1,7 +1,7 @@
 -- The notes of an auction by their places: that they are all its notes by rising number, and which directives each takes.
 use Prim.Native.Nat.{ℕ, zero, suc, ◌+◌, ◌-◌, ◌≤◌, ◌<◌}
 use mathlib.Core.Path.{◌≡◌, refl, sym, ap, ◌∙◌}
-use mathlib.Core.Bool.{Bool, true, false, cond, ◌&&◌, ◌||◌, not, and_false, and_true, or_false}
+use mathlib.Core.Bool.{Bool, true, false, cond, ◌&&◌, ◌||◌, not, and-false, and-true, or-false}
 use mathlib.Core.List.{List, [], ◌∷◌, ◌++◌, append-nil, append_assoc}
 use mathlib.Core.Option.{Option, none, some}
 use native.Mathlib.Nat.{zero-add}
@@ -49,11 +49,11 @@ first_or_own : (p n : ℕ) (first : Bool) → n < 256 → cond (ltb p 256) (eqb 
 first_or_own p n first h =
     by_cases (ltb p 256)
     (λ e.
-    rw (e, lt-leb 256 p (ltb-true p 256 e), and_false)
+    rw (e, lt-leb 256 p (ltb-true p 256 e), and-false)
     (by_cases (eqb p n) (λ x. rw (x, le-ltb p n (omega (arith, eqb-true p n x)))) (λ x. rw x)))
     (λ e.
     let l = ltb-false p 256 e in
-    rw (e, le-leb 256 p l, ne_eqb p n (λ x. omega (arith, x, l)), and_true))
+    rw (e, le-leb 256 p l, ne_eqb p n (λ x. omega (arith, x, l)), and-true))
 
 pub set_past : (l : List ℕ) (i a : ℕ) → length l ≤ i → set l i a ≡ l
 set_past [] i a h = refl
@@ -299,7 +299,7 @@ module _ (text entries : List ℕ) where
 
       pub of_note : (x : Bool) → (place ≡ 0 → ⊥) → x ≡ same v (note_text text entries n place) → cond x n 256 ≡ note_of text entries places v
       unfolding note_of
-      of_note x z e = rw (← a, ← b, ne_eqb place 0 z, or_false, e)
+      of_note x z e = rw (← a, ← b, ne_eqb place 0 z, or-false, e)
 
     pub taken_first : (v : List ℕ) (n m : ℕ) → m ≡ note_of text entries places v → (eqb m n || leb 256 m) ≡ takes_value text entries places n true v
     unfolding takes_value
@@ -307,13 +307,13 @@ module _ (text entries : List ℕ) where
 
     pub taken_own : (v : List ℕ) (n m : ℕ) → m ≡ note_of text entries places v → eqb m n ≡ takes_value text entries places n false v
     unfolding takes_value
-    taken_own v n m e = rw (e, or_false)
+    taken_own v n m e = rw (e, or-false)
 
     -- Another number is not its own.
     pub taken_other : (v : List ℕ) (n k : ℕ) → n < 256 → k ≡ note_number v → (k ≡ n → ⊥) → false ≡ takes_value text entries places n false v
     unfolding takes_value
     taken_other v n k h e d =
-        sym (rw (or_false, of_one v n h)
+        sym (rw (or-false, of_one v n h)
         (by_cases (has_value v (placed_note text entries places n))
         (λ x. absurd (d (e ∙ holds_one v n h x)))
         (λ x. x)))
@@ -352,7 +352,7 @@ module _ (text entries : List ℕ) where
           let m = note_of text entries places v in
           let a : has_value v before ≡ ltb m n = of_some v n 0 (omega arith) ∙ rw (le-leb 0 m (omega arith), zero-add) in
           let b : (same v own || has_value v behind) ≡ (leb n m && ltb m 256) = rw there at (rw h at (of_some v (suc k) n (omega arith))) in
-          let d : same v own ≡ eqb m n = sym (of_one v n (omega arith) ∙ rw (there, or_false)) in
+          let d : same v own ≡ eqb m n = sym (of_one v n (omega arith) ∙ rw (there, or-false)) in
           let e : has_value v (before ++ own ∷ behind) ≡ ltb m 256 = holds_append v before (own ∷ behind) ∙ rw (a, b) (below m n 256 (omega arith)) in
           rw (e, d, a) (first_or_own m n (not (is_any before)) (omega arith))
 

@@ -1,7 +1,7 @@
 -- How many bytes the lines of a board are: its tags and their data once, each directive and each block once at most.
 use Prim.Native.Nat.{ℕ, suc, ◌+◌, ◌*◌, ◌≤◌}
 use mathlib.Core.Path.{◌≡◌, refl, sym, ap, ◌∙◌}
-use mathlib.Core.Bool.{Bool, true, false, ◌&&◌, not, and_false}
+use mathlib.Core.Bool.{Bool, true, false, ◌&&◌, not, and-false}
 use mathlib.Core.List.{List, [], ◌∷◌, ◌++◌, map}
 use mathlib.Core.Option.{Option, none, some}
 use native.Mathlib.Nat.{add-mul, mul-le-mul_right}
@@ -149,7 +149,7 @@ module _ (i : ℕ) (b : List ℕ) where
 
   first_none : (earlier ws : List WrittenTag) → first earlier ws (anchored_to i b none) ≡ 0
   first_none earlier [] = refl
-  first_none earlier (w ∷ ws) = rw (and_false, first_none (earlier ++ w ∷ []) ws)
+  first_none earlier (w ∷ ws) = rw (and-false, first_none (earlier ++ w ∷ []) ws)
 
   first_over : (t : TagPair) (earlier ws : List WrittenTag) → wrote t.name earlier ≡ true → first earlier ws (anchored_to i b (some t)) ≡ 0
   first_over t earlier [] e = refl
@@ -160,7 +160,7 @@ module _ (i : ℕ) (b : List ℕ) where
       (λ x.
       let u : wrote w.name earlier ≡ true = ap (λ (m : List ℕ). wrote m earlier) (same_is w.name n x) ∙ e in
       rw (x, u) (omega arith))
-      (λ x. rw (x, and_false) (omega arith))
+      (λ x. rw (x, and-false) (omega arith))
 
   first_once : (t : TagPair) (earlier ws : List WrittenTag) → first earlier ws (anchored_to i b (some t)) ≤ once (wrote t.name ws)
   first_once t earlier [] = omega arith
@@ -171,7 +171,7 @@ module _ (i : ℕ) (b : List ℕ) where
       let r = first_over t (earlier ++ w ∷ []) ws (wrote_last n earlier w x) in
       let f = once_few (not (wrote w.name earlier) && same w.name n) in
       rw x (omega arith))
-      (λ x. rw (same_flip w.name n, x, and_false) (omega (arith, first_once t (earlier ++ w ∷ []) ws)))
+      (λ x. rw (same_flip w.name n, x, and-false) (omega (arith, first_once t (earlier ++ w ∷ []) ws)))
 
   block_most : (o : Option TagPair) (ws : List WrittenTag)
       → once (is_leading (anchored_to i b o)) + (first [] ws (anchored_to i b o) + once (tag_unwritten ws (anchored_to i b o))) ≤ 1

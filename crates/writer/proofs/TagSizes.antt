@@ -2,7 +2,7 @@
 use Prim.Native.Nat.{ℕ, zero, suc, ◌+◌, ◌-◌, ◌*◌, ◌%◌, ◌≤◌, ◌<◌}
 use Prim.Native.String.{String}
 use mathlib.Core.Path.{◌≡◌, refl, ap}
-use mathlib.Core.Bool.{Bool, cond, ◌&&◌, not, and_false}
+use mathlib.Core.Bool.{Bool, cond, ◌&&◌, not, and-false}
 use mathlib.Core.List.{List, [], ◌∷◌, ◌++◌, map}
 use mathlib.Core.Option.{Option, none, some}
 use native.Mathlib.Nat.{le_trans}
@@ -148,18 +148,18 @@ tag_cost a m o (suc k) n = note_cost (cond (a && is_number n m) o none) + tag_co
 
 past_cost : (a : Bool) (v : ℕ) (o : Option (List ℕ)) (k n : ℕ) → v < n → tag_cost a (Value v) o k n ≡ 0
 past_cost a v o zero n h = refl
-past_cost a v o (suc k) n h = rw (ne_eqb v n (λ e. omega (arith, e)), and_false) (omega (arith, past_cost a v o k (n + 1) (omega arith)))
+past_cost a v o (suc k) n h = rw (ne_eqb v n (λ e. omega (arith, e)), and-false) (omega (arith, past_cost a v o k (n + 1) (omega arith)))
 
 tag_cost_lem : (a : Bool) (m : Number) (o : Option (List ℕ)) (k n : ℕ) → tag_cost a m o k n ≤ note_cost o
 tag_cost_lem a m o zero n = omega arith
-tag_cost_lem a Bad o (suc k) n = rw and_false (omega (arith, tag_cost_lem a Bad o k (n + 1)))
+tag_cost_lem a Bad o (suc k) n = rw and-false (omega (arith, tag_cost_lem a Bad o k (n + 1)))
 tag_cost_lem a (Value v) o (suc k) n =
     by_cases (eqb v n)
     (λ e.
     let p = past_cost a v o k (n + 1) (omega (arith, eqb-true v n e)) in
     let f : note_cost (cond (a && eqb v n) o none) ≤ note_cost o = chosen (λ x. note_cost x ≤ note_cost o) (a && eqb v n) o none (λ t. omega arith) (λ t. omega arith) in
     omega arith)
-    (λ e. rw (e, and_false) (omega (arith, tag_cost_lem a (Value v) o k (n + 1))))
+    (λ e. rw (e, and-false) (omega (arith, tag_cost_lem a (Value v) o k (n + 1))))
 
 later_cost : (x y : Option (List ℕ)) → note_cost (later x y) ≤ note_cost x + note_cost y
 later_cost none y = omega arith

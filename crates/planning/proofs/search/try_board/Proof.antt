@@ -5,7 +5,7 @@ use Prim.Native.Nat.{ℕ, ◌+◌}
 use mathlib.Core.Path.{sym, ap, ◌∙◌}
 use mathlib.Core.Bool.{cond}
 use native.Mathlib.Omega.{arith}
-use borrow.Author.Tests.{not-true, not_false}
+use borrow.Author.Tests.{not-true, not-false}
 use borrow.Author.Rules.{rules}
 use Rattle.planning.proofs.search.try_board.Statement.{statement}
 use Rattle.planning.proofs.search.try_board.Tie as tie
@@ -26,7 +26,7 @@ returns-2 : tie.Need-returns-2
 returns-2 c =
     let s = c.before.before.before.before.before.before in
     let a = s.args in
-    let m = sym c.before.before.before.may-fit.ensures ∙ not_false _ c.before.before.if1.false in
+    let m = sym c.before.before.before.may-fit.ensures ∙ not-false _ c.before.before.if1.false in
     let e = c.before.equal_words.ensures.0 in
     let t = tried_found a.tabled a.deal.now (card_here a.k a.cards.now) m s.requires.1 (deal_length a.k a.cards.now s.requires.0) s.requires.2 (sym e ∙ c.if2.true) in
     (t.0, t.1, omega arith)
@@ -38,7 +38,7 @@ returns-3 : tie.Need-returns-3
 returns-3 c =
     let s = c.before.before.before.before.before.before.before in
     let a = s.args in
-    let m = sym c.before.before.before.before.may-fit.ensures ∙ not_false _ c.before.before.before.if1.false in
+    let m = sym c.before.before.before.before.may-fit.ensures ∙ not-false _ c.before.before.before.if1.false in
     let e = c.before.before.equal_words.ensures.0 in
     let card = card_here a.k a.cards.now in
     let t =
