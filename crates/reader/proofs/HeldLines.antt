@@ -20,7 +20,7 @@ use denote.Slice.{slice_val, ShrSlice}
 use denote.Steps.{owned, nothing}
 use denote.Struct.Declared.{Declared}
 use denote.Struct.Laws as LL
-use denote.Struct.Rest.{allOwn, field_own, rest, own_open, own_out, own_put}
+use denote.Struct.Rest.{all_own, field_own, rest, own_open, own_out, own_put}
 use denote.Struct.Values.{Values}
 use Rattle.reader.specs.declared.walk.Lines.{Lines}
 use Rattle.reader.specs.contracts.walk.Lines as T
@@ -38,7 +38,7 @@ the_laws κ = T'.the_laws (named_lft 1 0 tt (κ, tt))
 
 -- What a walk owns.
 abbrev pub Own : Lft → Lines → Fml
-Own κ w = (TheLines (κ, tt)).own w (T'.lowered w ∷ [])
+Own κ w = (TheLines (κ, tt)).own_val w (T'.lowered w ∷ [])
 
 -- The machine values of its text and its number, which a function on the two is passed.
 abbrev pub apart_vals : Lines → List Val × (List Val × Unit {0})
@@ -60,7 +60,7 @@ module _ {M : Type 1} {𝓤 : Ura M} (𝓛 : Logic 𝓤) (κ : Lft) (w : Lines) 
   pub apart : w.next < 2 ^ 64 → ent 𝓤 (sem 𝓛 (Own κ w)) (sep 𝓤 (sem 𝓛 (Apart κ w)) (sem 𝓛 (Own κ w)))
   apart fits =
       qed 𝓛 (‵ (Own κ w) ∷ []) ∵ use1 𝓛 (‵ (Own κ w) ⊛ ‵ (Own κ w)) twice $ split ! $
-      use1 𝓛 (given (T'.lowered w ∷ [] ≡ T'.lowered w ∷ []) (‵ (allOwn (the_parts κ).parts (the_laws κ) values)))
+      use1 𝓛 (given (T'.lowered w ∷ [] ≡ T'.lowered w ∷ []) (‵ (all_own (the_parts κ).parts (the_laws κ) values)))
       (own_open 𝓛 (the_parts κ) (the_laws κ) values (T'.lowered w)) $
       learn ! (λ _.
       use1 𝓛 (‵ (field_own (the_parts κ).parts (the_laws κ) 0 w.text) ⊛ ‵ (rest (the_parts κ).parts (the_laws κ) 0 values))

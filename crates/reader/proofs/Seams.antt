@@ -1,6 +1,6 @@
 -- The records of a text that is cut at a seam.
 use Prim.Native.Nat.{ℕ, ◌+◌, ◌≤◌, ◌<◌}
-use mathlib.Core.Path.{◌≡◌, refl, sym, ◌∙◌, ap}
+use mathlib.Core.Path.{◌≡◌, refl, sym, ◌∙◌, ap, subst}
 use mathlib.Core.Bool.{Bool, true, false, cond, ◌||◌}
 use mathlib.Core.List.{List, [], ◌∷◌, ◌++◌, append_assoc, append-nil, map}
 use native.Mathlib.Nat.{add-zero, add_comm, add_assoc}
@@ -116,7 +116,8 @@ spans_cut p [] q = refl
 spans_cut p (x ∷ xs) q =
     let i = simp (append_assoc, length-append) at (spans_cut (p ++ x) xs q) in
     let h : take (length x) (drop (length p) (p ++ (x ++ (flat xs ++ q)))) ≡ x = rw (drop-append_seam, take-append_seam) in
-    simp append_assoc (rw (h, i))
+    let e : p ++ (flat (x ∷ xs) ++ q) ≡ p ++ (x ++ (flat xs ++ q)) = ap (λ (l : List ℕ). p ++ l) (append_assoc x (flat xs) q) in
+    subst (λ (t : List ℕ). map (λ (s : Span). cut s t) (spans_from (length p) (x ∷ xs)) ≡ x ∷ xs) (sym e) (rw (h, i))
 
 -- A record is what its span cuts out of the text.
 pub SpanTexts : (text : List ℕ) → map (λ (s : Span). cut s text) (spans_of text) ≡ records_of text
