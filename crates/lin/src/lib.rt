@@ -1,4 +1,6 @@
 // A LIN text converted to a PBN page.
+#![tactic(auto)]
+
 pub mod pairs; // the pairs of a text, and the commands that count
 pub mod dealing; // the deal of a board (parse_md)
 pub mod bidding; // the vulnerability (parse_sv), the calls, the contract

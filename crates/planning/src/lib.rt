@@ -1,4 +1,6 @@
 // Layer 3: what still needs solving, given an old and a new edition.
+#![tactic(auto)]
+
 pub mod behind; // the record behind a board
 pub mod boards; // every board's state and record, from one reading
 pub mod cards; // the words of a card that planning reads

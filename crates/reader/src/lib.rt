@@ -1,4 +1,6 @@
 // Layer 2: PBN text to cards and entries (reader.rs).
+#![tactic(auto)]
+
 pub mod apply; // what a tag does to a board
 pub mod auction; // the auction section
 pub mod board; // the structs of a board and of a record's state

@@ -1,4 +1,6 @@
 // Layer 1: the two PBN forms of a double-dummy table (dd.rs), and the leaf meanings that every layer needs.
+#![tactic(auto)]
+
 pub mod dd; // dd.rs: digits, header and rows of a table
 pub mod letters; // the letters of seats, suits, strains and ranks
 pub mod numbers; // decimal numbers, read and written

@@ -1,4 +1,6 @@
 // Layer 4: an edition written, and finished.
+#![tactic(auto)]
+
 pub mod auction; // the data lines of an auction
 pub mod board; // the tags of a board
 pub mod deal; // the value of a Deal tag

@@ -1,0 +1,6 @@
+use borrow.Author.Rules.{rules}
+use Rattle.lin.proofs.convert.lin_to_pbn.Goals as goal
+
+pub returns : goal.returns
+returns c =
+    rw (← c.built_in.ensures) c.lin_to_pbn_with.ensures

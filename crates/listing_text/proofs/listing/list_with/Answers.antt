@@ -1,0 +1,12 @@
+use Rattle.listing_text.proofs.ListingLaws.{limited_room, list_refused, list_both}
+use borrow.Author.Rules.{rules}
+use Rattle.listing_text.proofs.listing.list_with.Goals as goal
+
+pub list_taken-requires : goal.list_taken-requires
+list_taken-requires c = limited_room c.read_both_limited.ensures c.in-Both.is
+
+pub returns-in-Refused : goal.returns-in-Refused
+returns-in-Refused c = list_refused c.read_both_limited.ensures c.zero_numbers.ensures c.in-Refused.is c.write_refused.ensures
+
+pub returns-in-Both : goal.returns-in-Both
+returns-in-Both c = let b = c.read_both_limited in list_both b.ensures c.zero_numbers.ensures c.in-Both.is (record { old_cards = b.auto.1.1.1.1.0; old_entries = b.auto.1.1.1.1.1.0; new_cards = b.auto.1.1.1.1.1.1.0; new_entries = b.auto.1.1.1.1.1.1.1.0 }) c.list_taken.ensures

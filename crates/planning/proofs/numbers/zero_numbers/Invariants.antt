@@ -1,0 +1,14 @@
+use Prim.Native.Nat.{◌≤◌, ◌-◌}
+use mathlib.Core.Path.{◌≡◌, refl, ◌∙◌}
+use mathlib.Core.List.{◌++◌, append-nil}
+use native.Mathlib.Omega.{arith}
+use lib.ListN.{length, drop, replicate, length-set}
+use borrow.Author.Fill.{fill_none, fill_more}
+use lib.Seq.{drop-length}
+use Rattle.planning.proofs.numbers.zero_numbers.Given as goal
+
+abbrev pub invariant-loop-i : goal.invariant-loop-i
+invariant-loop-i l = (l.i ≤ length l.initial.numbers) × (l.numbers ≡ replicate l.i 0 ++ drop l.i l.initial.numbers) × (length l.numbers ≡ length l.initial.numbers)
+
+abbrev pub decreases-loop-i : goal.decreases-loop-i
+decreases-loop-i l = length l.initial.numbers - l.i

@@ -1,0 +1,6 @@
+use borrow.Author.Rules.{rules}
+use Rattle.planning.proofs.plan.count_boards.Goals as goal
+
+pub returns : goal.returns
+returns c =
+    rw (← c.put_slips.ensures.0)

@@ -1,0 +1,16 @@
+use Rattle.planning.proofs.CardWords.{deal_length, deal_word}
+use Rattle.tables.proofs.Laws.{step, stop}
+use Prim.Native.Nat.{◌+◌, ◌<◌, ◌-◌, ◌≤◌}
+use mathlib.Core.Path.{◌≡◌}
+use native.Mathlib.Omega.{arith}
+use borrow.Author.Tests.{eq-eqb, ne_eqb}
+use Rattle.planning.specs.Cards.{card_deal, card_here}
+use Rattle.planning.specs.PlanSteps.{equal_front}
+use lib.ListN.{length, drop}
+use Rattle.planning.proofs.search.equal_words.Given as goal
+
+abbrev pub invariant-loop-i : goal.invariant-loop-i
+invariant-loop-i l = (equal_front l.deal (card_deal (card_here l.k l.cards)) ≡ l.i + equal_front (drop l.i l.deal) (drop l.i (card_deal (card_here l.k l.cards)))) × (l.i ≤ 8)
+
+abbrev pub decreases-loop-i : goal.decreases-loop-i
+decreases-loop-i l = 8 - l.i

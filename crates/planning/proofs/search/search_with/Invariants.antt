@@ -1,0 +1,14 @@
+use Prim.Native.Nat.{◌*◌, ◌-◌, ◌≤◌}
+use mathlib.Core.Path.{◌≡◌, ◌∙◌}
+use native.Mathlib.Omega.{arith}
+use Rattle.planning.specs.PlanSteps.{cards_in}
+use Rattle.planning.specs.Searches.{searched}
+use Rattle.planning.proofs.SearchLaws.{searchLeft, search_first, search_found, search_past, search_stop}
+use borrow.Author.Rules.{rules}
+use Rattle.planning.proofs.search.search_with.Given as goal
+
+abbrev pub invariant-loop-k : goal.invariant-loop-k
+invariant-loop-k l = (searchLeft l.tabled l.deal l.n l.cards l.k l.words ≡ searched l.tabled l.deal (cards_in l.n l.cards)) × (l.k ≤ l.n) × (l.words ≤ 8 * l.k)
+
+abbrev pub decreases-loop-k : goal.decreases-loop-k
+decreases-loop-k l = l.n - l.k

@@ -1,0 +1,14 @@
+use Rattle.planning.specs.PlanSteps.{cards_in}
+use Rattle.planning.proofs.BoxLaws.{cards_count}
+use Rattle.planning.proofs.PlanLaws.{rows_end}
+use Rattle.planning.proofs.SearchesLaws.{SearchRows, search_rows_first, search_rows_next, search_rows_fit, search_rows_end}
+use Prim.Native.Nat.{◌-◌}
+use native.Mathlib.Omega.{arith}
+use borrow.Author.Rules.{rules}
+use Rattle.planning.proofs.searches.put_searches.Given as goal
+
+abbrev pub invariant-loop-k : goal.invariant-loop-k
+invariant-loop-k l = SearchRows (cards_in l.olds l.old_cards) l.news l.new_cards l.initial.numbers l.k l.numbers l.words
+
+abbrev pub decreases-loop-k : goal.decreases-loop-k
+decreases-loop-k l = l.news - l.k

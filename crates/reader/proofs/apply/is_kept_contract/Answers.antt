@@ -1,0 +1,6 @@
+use borrow.Author.Rules.{rules}
+use Rattle.reader.proofs.apply.is_kept_contract.Goals as goal
+
+pub returns : goal.returns
+returns c =
+    rw (← c.same.ensures)

@@ -1,0 +1,15 @@
+use Prim.Native.Nat.{◌<◌, ◌-◌, ◌≤◌}
+use native.Mathlib.Omega.{arith}
+use native.Mathlib.Numerals.{add-one}
+use mathlib.Core.Path.{refl, ◌≡◌}
+use lib.ListN.{replicate, length-set, length, drop}
+use lib.Seq.{sets, drop-cons, drop-length}
+use Rattle.reader.proofs.EditionLaws.{sets_all}
+use borrow.Author.Rules.{rules}
+use Rattle.reader.proofs.edition.cell_words.Given as goal
+
+abbrev pub invariant-loop-i : goal.invariant-loop-i
+invariant-loop-i l = (l.i ≤ 20) × (sets l.w l.i (drop l.i l.cells) ≡ l.cells) × (length l.w ≡ 20) × (length l.cells ≡ 20)
+
+abbrev pub decreases-loop-i : goal.decreases-loop-i
+decreases-loop-i l = 20 - l.i

@@ -1,0 +1,37 @@
+use Prim.Native.Nat.{◌+◌, ◌*◌, ◌≤◌, ◌<◌}
+use native.Mathlib.Omega.{arith}
+use mathlib.Core.Path.{◌≡◌, refl, sym, ap, ◌∙◌}
+use lib.ListN.{length}
+use borrow.Author.Tests.{le-leb, lt-leb}
+use Rattle.reader.specs.Store.{put}
+use Rattle.reader.specs.Editions.{card_words, back_words}
+use Rattle.reader.proofs.EditionLaws.{card_put, card_length}
+use borrow.Author.Rules.{rules}
+use Rattle.reader.proofs.edition.put_card.Goals as goal
+
+lengths : (c : tie.After-cell-words) → (length c.before.before.before.args.b.deal.words ≡ 8) × (length c.before.before.before.args.b.table.cells ≡ 20)
+lengths c =
+    let h : length c.before.hand-words.result ≡ 8 = search rules in
+    let k : length c.cell-words.result ≡ 20 = search rules in
+    (sym (ap length c.before.hand-words.ensures) ∙ h, sym (ap length c.cell-words.ensures) ∙ k)
+
+pub returns-then-k-cards : goal.returns-then-k-cards
+unfolding put card_words
+returns-then-k-cards c =
+    let a = c.args in
+    let h : 64 * a.k + 64 ≤ length a.cards.now = omega (arith, c.if-k-cards.true) in
+    let n = lengths c in (
+      rw (le-leb _ _ h)
+          (card_put a.cards.now (64 * a.k) (back_words a.start a.end a.n a.b)
+          c.copy_in.ensures c.copy_in-then-k-cards.ensures c.copy_in-then-k-cards-2.ensures c.put_back.ensures
+          c.head_words-head.ensures c.hand_words-hands.ensures c.cell_words-cells.ensures refl n.0 n.1),
+      card_length a.start a.end a.n a.count a.b n.0 n.1,
+    )
+
+pub returns-else-k-cards : goal.returns-else-k-cards
+unfolding put
+returns-else-k-cards c =
+    let a = c.args in
+    let h : length a.cards.now < 64 * a.k + 64 = omega (arith, c.if-k-cards.false) in
+    let n = lengths c in
+    (rw (lt-leb _ _ h), card_length a.start a.end a.n a.count a.b n.0 n.1)

@@ -1,0 +1,14 @@
+use Rattle.reader.proofs.EditionLaws.{read_all, read_none}
+use borrow.Author.Rules.{rules}
+use Rattle.reader.proofs.edition.read_pbn_with.Goals as goal
+
+pub returns-then-length-gt16777215 : goal.returns-then-length-gt16777215
+returns-then-length-gt16777215 c = read_none c.if-length-gt16777215.true c.zero.ensures c.zero-2.ensures
+
+pub returns : goal.returns
+returns c =
+    let z = c.zero in
+    let z₂ = c.zero-2 in
+    let a = c.read_records-t in
+    let f = c.finish_reading in
+    read_all a.new.1.1.0 a.new.1.1.1.0 f.new.0 f.new.1.0 c.if-length-gt16777215.false z.ensures z₂.ensures a.auto.1.1.0 a.auto.1.1.1.0 a.ensures f.ensures

@@ -1,0 +1,16 @@
+use mathlib.Core.Path.{sym, ◌≡◌}
+use mathlib.Core.Bool.{false}
+use native.Mathlib.Omega.{arith}
+use lib.Seq.{drop-length}
+use Rattle.tables.specs.Letters.{among}
+use Rattle.reader.proofs.LineLaws.{brace_none, brace_at, brace_turn}
+use Prim.Native.Nat.{◌≤◌}
+use lib.ListN.{length, drop}
+use borrow.Author.Rules.{rules}
+use Rattle.reader.proofs.line.last_brace.Given as goal
+
+abbrev pub invariant-loop-e : goal.invariant-loop-e
+invariant-loop-e l = (among 125 (drop l.e l.line) ≡ false) × (l.e ≤ length l.line)
+
+abbrev pub decreases-loop-e : goal.decreases-loop-e
+decreases-loop-e l = l.e

@@ -1,0 +1,21 @@
+use Prim.Native.Nat.{◌+◌, ◌<◌, ◌-◌, ◌≤◌}
+use mathlib.Core.Path.{refl, ap, ◌≡◌}
+use native.Mathlib.Omega.{arith}
+use lib.ListN.{length-drop, length}
+use Rattle.reader.specs.PieceSteps.{piece}
+use Rattle.reader.specs.Play.{played_token, played_piece}
+use Rattle.reader.specs.TokenSteps.{Seated}
+use Rattle.reader.proofs.TokenLaws.{AtToken, reading_start, reading_some, reading_next, reading_done}
+use Rattle.reader.proofs.PlayLaws.{next_trick_count, next_trick_few}
+use borrow.Author.Rules.{rules}
+use Rattle.reader.proofs.play.play_piece.Given as goal
+
+abbrev pub invariant-loop-i : goal.invariant-loop-i
+invariant-loop-i l = (l.i ≤ length l.s)
+    × AtToken (played_token l.c l.lead l.trump) l.a (l.base + l.initial.w.count) l.initial.entries (played_piece l.c l.lead l.trump l.initial.w (piece l.at l.s)) l.at l.s l.entries l.w (l.base + l.w.count) l.i
+    × (l.w.count ≤ l.initial.w.count + l.i)
+    × Seated l.w
+    × (length l.entries ≡ length l.initial.entries)
+
+abbrev pub decreases-loop-i : goal.decreases-loop-i
+decreases-loop-i l = length l.s - l.i

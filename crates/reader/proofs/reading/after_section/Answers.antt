@@ -1,0 +1,5 @@
+use borrow.Author.Rules.{rules}
+use Rattle.reader.proofs.reading.after_section.Goals as goal
+
+pub returns : goal.returns
+returns c = rw c.no_open.ensures

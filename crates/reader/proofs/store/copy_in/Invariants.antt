@@ -1,0 +1,15 @@
+use Prim.Native.Nat.{ℕ, suc, ◌<◌, ◌≤◌, ◌+◌, ◌-◌}
+use mathlib.Core.Path.{◌≡◌, refl, sym, ap, ◌∙◌}
+use mathlib.Core.List.{List}
+use native.Mathlib.Omega.{arith}
+use native.Mathlib.Numerals.{add-one}
+use native.Mathlib.Nat.{add-zero}
+use lib.ListN.{length, drop, get_or, length-set}
+use lib.Seq.{sets, drop-cons, drop-length}
+use Rattle.reader.proofs.store.copy_in.Given as goal
+
+abbrev pub invariant-loop-i : goal.invariant-loop-i
+invariant-loop-i l = (l.i ≤ length l.src) × (sets l.dst (l.at + l.i) (drop l.i l.src) ≡ sets l.initial.dst l.at l.src) × (length l.dst ≡ length l.initial.dst)
+
+abbrev pub decreases-loop-i : goal.decreases-loop-i
+decreases-loop-i l = length l.src - l.i

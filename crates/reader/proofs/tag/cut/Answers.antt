@@ -1,0 +1,6 @@
+use borrow.Author.Rules.{rules}
+use Rattle.reader.proofs.tag.cut.Goals as goal
+
+pub returns : goal.returns
+returns c =
+    rw (← c.from.ensures) c.upto.ensures

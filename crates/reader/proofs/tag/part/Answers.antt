@@ -1,0 +1,6 @@
+use borrow.Author.Rules.{rules}
+use Rattle.reader.proofs.tag.part.Goals as goal
+
+pub returns : goal.returns
+returns c =
+    rw (← c.upto.ensures) c.from.ensures

@@ -1,0 +1,6 @@
+use borrow.Author.Rules.{rules}
+use Rattle.tables.proofs.PageLaws.{finished}
+use Rattle.tables.proofs.dd.dd_table_to_pbn.Goals as goal
+
+pub returns : goal.returns
+returns c = finished c.put_digits-n.ensures c.finish.ensures

@@ -1,0 +1,15 @@
+use borrow.Author.Tests.{eq-eqb, ne_eqb}
+use borrow.Author.Rules.{rules}
+use Rattle.tables.specs.Tables.{column_text}
+use Rattle.tables.proofs.PageLaws.{put_then}
+use Rattle.tables.proofs.dd.put_column.Goals as goal
+
+pub returns-then-k-eq0 : goal.returns-then-k-eq0
+unfolding column_text
+returns-then-k-eq0 c =
+    rw (eq-eqb _ _ c.if-k-eq0.true) c.put_text.ensures
+
+pub returns : goal.returns
+unfolding column_text
+returns c =
+    rw (ne_eqb _ _ c.if-k-eq0.false, ← c.suit_letter.ensures) (put_then c.put_byte-a.ensures c.put_byte.ensures)

@@ -1,0 +1,15 @@
+-- The invariant: putting what is left of `s` at `k` comes to putting all of it at `at`.
+use Prim.Native.Nat.{◌-◌}
+use mathlib.Core.List.{◌∷◌, []}
+use native.Mathlib.Omega.{arith}
+use lib.ListN.{length-drop, length, drop}
+use borrow.Author.Rules.{rules}
+use Rattle.tables.proofs.Laws.{step, stop}
+use Rattle.tables.proofs.PageLaws.{ToPut, to_put, putting, put_all_lem}
+use Rattle.tables.proofs.page.put_tail.Given as goal
+
+abbrev pub invariant-loop-i : goal.invariant-loop-i
+invariant-loop-i l = ToPut l.initial.page l.at (drop l.a l.s) l.page l.k (drop l.i l.s)
+
+abbrev pub decreases-loop-i : goal.decreases-loop-i
+decreases-loop-i l = length l.s - l.i

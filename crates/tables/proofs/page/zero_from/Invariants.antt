@@ -1,0 +1,15 @@
+-- The invariant: clearing the page from `i` on is clearing the first page from `n` on.
+use Prim.Native.Nat.{◌-◌}
+use mathlib.Core.Path.{refl, sym, ◌∙◌, ◌≡◌}
+use native.Mathlib.Omega.{arith}
+use lib.ListN.{length-set, length}
+use borrow.Author.Rules.{rules}
+use Rattle.tables.specs.PageSteps.{cleared}
+use Rattle.tables.proofs.PageLaws.{clear_more, clear_done}
+use Rattle.tables.proofs.page.zero_from.Given as goal
+
+abbrev pub invariant-loop-i : goal.invariant-loop-i
+invariant-loop-i l = (cleared l.page l.i ≡ cleared l.initial.page l.n) × (length l.page ≡ length l.initial.page)
+
+abbrev pub decreases-loop-i : goal.decreases-loop-i
+decreases-loop-i l = length l.initial.page - l.i

@@ -1,0 +1,15 @@
+-- The invariant: the first `x` is sought at the place `i`. A turn looks at four bytes.
+use Prim.Native.Nat.{◌+◌, ◌-◌, ◌≤◌}
+use mathlib.Core.Path.{◌∙◌, sym}
+use native.Mathlib.Omega.{arith}
+use lib.ListN.{length}
+use borrow.Author.Rules.{rules}
+use Rattle.tables.specs.Text.{before}
+use Rattle.tables.proofs.TextLaws.{Sought, sought_here, sought_next}
+use Rattle.tables.proofs.text.index_of.Given as goal
+
+abbrev pub invariant-loop-i : goal.invariant-loop-i
+invariant-loop-i l = Sought (length (before l.x l.s)) l.x l.s l.i × (l.i ≤ length l.s)
+
+abbrev pub decreases-loop-i : goal.decreases-loop-i
+decreases-loop-i l = length l.s - l.i

@@ -1,0 +1,11 @@
+use mathlib.Core.Path.{sym}
+use lib.Seq.{length-take-le}
+use borrow.Author.Rules.{rules}
+use Rattle.tables.proofs.TextLaws.{take_kept}
+use Rattle.tables.proofs.text.trim_end.Goals as goal
+
+pub slice_bounds-result-end : goal.slice_bounds-result-end
+slice_bounds-result-end c = sym (length-take-le _ _ c.kept_len-e.ensures.1)
+
+pub returns : goal.returns
+returns c = rw (c.kept_len-e.ensures.0, take_kept)

@@ -1,0 +1,27 @@
+use Prim.Native.Nat.{◌+◌, ◌-◌, ◌≤◌}
+use mathlib.Core.Path.{sym, ap, ◌∙◌, ◌≡◌}
+use mathlib.Core.Bool.{not}
+use native.Mathlib.Omega.{arith}
+use lib.ListN.{length, drop}
+use borrow.Author.Rules.{rules}
+use Rattle.tables.specs.Text.{is_word, word}
+use Rattle.tables.proofs.TextLaws.{front_more, front_stop, front_end}
+use Rattle.tables.proofs.text.word_len.Goals as goal
+
+pub loop-i-init : goal.loop-i-init
+loop-i-init c = (omega arith, omega arith)
+
+pub returns-then-is_white : goal.returns-then-is_white
+returns-then-is_white c =
+    let l = c.loop-i in
+    (sym (l.invariant.0 ∙ front_stop is_word c.args.s.now l.i c.loop-i-test.true (ap not (sym c.is_white.ensures ∙ c.if-is_white.true))), omega arith)
+
+pub loop-i-preserved : goal.loop-i-preserved
+loop-i-preserved c =
+    let l = c.loop-i in
+    (l.invariant.0 ∙ front_more is_word c.args.s.now l.i c.loop-i-test.true (ap not (sym c.is_white.ensures ∙ c.if-is_white.false)), omega arith)
+
+pub returns : goal.returns
+returns c =
+    let l = c.loop-i in
+    (sym (l.invariant.0 ∙ front_end is_word c.args.s.now l.i c.loop-i-test.false), omega arith)

@@ -1,0 +1,9 @@
+use Rattle.writer.specs.BoardTexts.{analysis_text}
+use Rattle.writer.proofs.PutLaws.{puts_then, puts_as, puts_nothing}
+use borrow.Author.Rules.{rules}
+use Rattle.writer.proofs.board.put_analysis.Goals as goal
+
+pub returns : goal.returns
+unfolding analysis_text
+returns c =
+    puts_then (puts_then c.put_table-d.ensures c.put_optional-e.ensures) c.put_optional.ensures

@@ -1,0 +1,16 @@
+use Rattle.writer.specs.BoardTexts.{dealer_text}
+use borrow.Author.Tests.{lt-ltb, le-ltb, eq-eqb, ne_eqb}
+use Rattle.writer.proofs.PutLaws.{puts_then, puts_as, puts_nothing}
+use borrow.Author.Rules.{rules}
+use borrow.Author.Tests.{lt-ltb, le-ltb}
+use Rattle.writer.proofs.board.put_dealer.Goals as goal
+
+pub returns-then-dealer-lt4 : goal.returns-then-dealer-lt4
+unfolding dealer_text
+returns-then-dealer-lt4 c =
+    rw (← c.card_word-dealer.ensures.0, lt-ltb _ _ c.if-dealer-lt4.true) c.put_seated.ensures
+
+pub returns : goal.returns
+unfolding dealer_text
+returns c =
+    rw (← c.card_word-dealer.ensures.0, le-ltb _ _ c.if-dealer-lt4.false) (puts_nothing _ _)

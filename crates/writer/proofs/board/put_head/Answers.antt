@@ -1,0 +1,9 @@
+use Rattle.writer.specs.BoardTexts.{head_text}
+use Rattle.writer.proofs.PutLaws.{puts_then, puts_as, puts_nothing}
+use borrow.Author.Rules.{rules}
+use Rattle.writer.proofs.board.put_head.Goals as goal
+
+pub returns : goal.returns
+unfolding head_text
+returns c =
+    puts_then (puts_then (puts_then c.put_title-d.ensures c.put_players-e.ensures) c.put_dealer-f.ensures) c.put_vulnerable.ensures

@@ -1,0 +1,15 @@
+use borrow.Author.Tests.{ne_eqb}
+use borrow.Author.Rules.{rules}
+use Rattle.reader.specs.Deals.{hand_text}
+use Rattle.writer.proofs.PutLaws.{puts_then}
+use Rattle.writer.proofs.deal.put_hand.Goals as goal
+
+pub returns-then-x-eq0 : goal.returns-then-x-eq0
+unfolding hand_text
+returns-then-x-eq0 c =
+    rw c.if-x-eq0.true c.put_byte.ensures
+
+pub returns : goal.returns
+unfolding hand_text
+returns c =
+    rw (ne_eqb _ _ c.if-x-eq0.false) (puts_then (puts_then (puts_then (puts_then (puts_then (puts_then c.put_suit-d.ensures c.put_byte-e.ensures) c.put_suit-f.ensures) c.put_byte-g.ensures) c.put_suit-h.ensures) c.put_byte-i.ensures) c.put_suit.ensures)

@@ -1,0 +1,6 @@
+use Rattle.writer.proofs.FinishSteps.{put_done}
+use borrow.Author.Rules.{rules}
+use Rattle.writer.proofs.finish.put_finished.Goals as goal
+
+pub returns : goal.returns
+returns c = put_done c.mark_given.ensures c.put_page-n.ensures c.clear_given.ensures

@@ -1,0 +1,14 @@
+use mathlib.Core.Path.{refl}
+use native.Mathlib.Omega.{arith}
+use Rattle.writer.proofs.GiveCells.{answers_none, cells_more, cells_answered}
+use Prim.Native.Nat.{◌-◌, ◌*◌, ◌≤◌}
+use mathlib.Core.Path.{◌≡◌}
+use lib.ListN.{length, take, drop, length-set}
+use borrow.Author.Rules.{rules}
+use Rattle.writer.proofs.give.answer_cells.Given as goal
+
+abbrev pub invariant-loop-i : goal.invariant-loop-i
+invariant-loop-i l = (l.i ≤ 20) × (take l.i l.cells ≡ take l.i (drop (20 * l.slip) l.answers)) × (length l.cells ≡ 20)
+
+abbrev pub decreases-loop-i : goal.decreases-loop-i
+decreases-loop-i l = 20 - l.i

@@ -1,0 +1,12 @@
+use Prim.Native.Nat.{◌-◌}
+use native.Mathlib.Omega.{arith}
+use Rattle.planning.specs.PlanSteps.{cards_in}
+use Rattle.writer.proofs.GiveLaws.{Giving, giving_first, giving_next, giving_few, giving_end}
+use borrow.Author.Rules.{rules}
+use Rattle.writer.proofs.give.give_tables.Given as goal
+
+abbrev pub invariant-loop-k : goal.invariant-loop-k
+invariant-loop-k l = Giving (cards_in l.olds l.old_cards) l.news l.initial.new_cards l.answers l.k l.slip l.new_cards
+
+abbrev pub decreases-loop-k : goal.decreases-loop-k
+decreases-loop-k l = l.news - l.k

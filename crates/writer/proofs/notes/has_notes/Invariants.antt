@@ -1,0 +1,14 @@
+use Prim.Native.Nat.{◌+◌}
+use native.Mathlib.Omega.{arith}
+use mathlib.Core.Path.{◌≡◌, sym, refl, ◌∙◌}
+use Rattle.writer.proofs.NotePlaces.{has_note, AnyNote, has_here, has_on, has_over}
+use Prim.Native.Nat.{◌-◌, ◌≤◌}
+use mathlib.Core.Path.{◌≡◌}
+use borrow.Author.Rules.{rules}
+use Rattle.writer.proofs.notes.has_notes.Given as goal
+
+abbrev pub invariant-loop-left : goal.invariant-loop-left
+invariant-loop-left l = (has_note l.text l.entries l.from l.count ≡ has_note l.text l.entries l.e l.left) × (l.e + l.left ≤ l.from + l.count)
+
+abbrev pub decreases-loop-left : goal.decreases-loop-left
+decreases-loop-left l = l.left

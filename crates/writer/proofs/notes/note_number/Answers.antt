@@ -1,0 +1,20 @@
+use Rattle.tables.specs.NumberSteps.{IsWithin}
+use Rattle.writer.specs.Items.{or_none}
+use Rattle.writer.proofs.NoteLaws.{number_of_lem, number_no}
+use mathlib.Core.Path.{◌≡◌, sym, refl, ap, ◌∙◌}
+use native.Mathlib.Omega.{arith}
+use borrow.Author.Rules.{rules}
+use borrow.Author.Tests.{lt-ltb, le-ltb}
+use Rattle.writer.proofs.notes.note_number.Goals as goal
+
+pub returns-in_default : goal.returns-in_default
+returns-in_default c =
+    (sym (number_of_lem c.args.value.now c.upto.result.now c.trim.result.now c.index_of-k.result c.parse_number.result c.index_of-k.ensures.0 c.if-k-value.true c.upto.ensures c.trim.ensures c.parse_number.ensures.0 ∙ ap or_none c.in_default.is), omega arith)
+
+pub returns-then-k-value : goal.returns-then-k-value
+returns-then-k-value c =
+    (sym (number_of_lem c.args.value.now c.upto.result.now c.trim.result.now c.index_of-k.result c.parse_number.result c.index_of-k.ensures.0 c.if-k-value.true c.upto.ensures c.trim.ensures c.parse_number.ensures.0 ∙ ap or_none c.in-Value.is), omega (arith, rw c.in-Value.is at c.parse_number.ensures.1))
+
+pub returns : goal.returns
+returns c =
+    (sym (number_no c.args.value.now c.index_of-k.result c.index_of-k.ensures.0 c.if-k-value.false), omega arith)

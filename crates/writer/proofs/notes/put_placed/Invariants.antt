@@ -1,0 +1,15 @@
+use native.Mathlib.Omega.{arith}
+use mathlib.Core.Path.{sym, ◌∙◌}
+use Rattle.writer.proofs.PutLaws.{PutsLeft, puts_first, puts_same, puts_next, puts_all}
+use Rattle.writer.proofs.NotePlaces.{full_none, full_note_lem, full_over}
+use Rattle.writer.specs.Held.{items_at}
+use Rattle.writer.specs.Items.{full_notes, all_notes}
+use Prim.Native.Nat.{◌-◌, ◌≤◌}
+use borrow.Author.Rules.{rules}
+use Rattle.writer.proofs.notes.put_placed.Given as goal
+
+abbrev pub invariant-loop-n : goal.invariant-loop-n
+invariant-loop-n l = PutsLeft l.initial.page l.at (all_notes l.text l.entries l.places (items_at l.text l.entries l.first l.scan)) l.page l.k (full_notes l.text l.entries l.places (256 - l.n) l.n l.fresh (items_at l.text l.entries l.first l.scan)) × (l.n ≤ 256)
+
+abbrev pub decreases-loop-n : goal.decreases-loop-n
+decreases-loop-n l = 256 - l.n

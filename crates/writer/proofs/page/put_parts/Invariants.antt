@@ -1,0 +1,17 @@
+use Rattle.writer.proofs.PutLaws.{PutsLeft, puts_first, puts_same, puts_next, puts_all}
+use Rattle.writer.proofs.PageLaws.{parts_step, parts_none}
+use Rattle.writer.specs.BoardTexts.{parts_held}
+use native.Mathlib.Omega.{arith}
+use Prim.Native.Nat.{◌-◌, ◌+◌, ◌≤◌, ◌<◌}
+use mathlib.Core.Path.{◌≡◌, sym, refl, ap, ◌∙◌}
+use Prim.Native.Nat.{◌-◌, ◌≤◌}
+use mathlib.Core.Path.{◌≡◌}
+use lib.ListN.{length, drop}
+use borrow.Author.Rules.{rules}
+use Rattle.writer.proofs.page.put_parts.Given as goal
+
+abbrev pub invariant-loop-b : goal.invariant-loop-b
+invariant-loop-b l = PutsLeft l.initial.page l.at (parts_held l.c l.text l.cards l.entries 1 (l.boards - 1)) l.page l.k (parts_held l.c l.text l.cards l.entries l.b (l.boards - l.b)) × (1 ≤ l.b)
+
+abbrev pub decreases-loop-b : goal.decreases-loop-b
+decreases-loop-b l = l.boards - l.b

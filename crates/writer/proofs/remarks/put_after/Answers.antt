@@ -1,0 +1,9 @@
+use Rattle.writer.specs.Items.{after_text}
+use Rattle.writer.proofs.PutLaws.{puts_then}
+use borrow.Author.Rules.{rules}
+use Rattle.writer.proofs.remarks.put_after.Goals as goal
+
+pub returns : goal.returns
+unfolding after_text
+returns c =
+    puts_then c.put_remarks-k.ensures c.put_remarks.ensures

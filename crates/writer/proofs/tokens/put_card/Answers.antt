@@ -1,0 +1,7 @@
+use borrow.Author.Rules.{rules}
+use Rattle.writer.proofs.PutLaws.{puts_then}
+use Rattle.writer.proofs.tokens.put_card.Goals as goal
+
+pub returns : goal.returns
+returns c =
+    puts_then (rw c.suit_letter.ensures at c.put_byte-a.ensures) (rw c.rank_letter.ensures at c.put_byte.ensures)

@@ -1,0 +1,11 @@
+use lib.ListN.{replicate}
+use borrow.Author.Rules.{rules}
+use Rattle.writer.proofs.TokenLaws.{repeat_step, repeat_none}
+use Rattle.writer.proofs.PutLaws.{PutsLeft, puts_first, puts_same, puts_next, puts_all}
+use Rattle.writer.proofs.tokens.put_underscores.Given as goal
+
+abbrev pub invariant-loop-left : goal.invariant-loop-left
+invariant-loop-left l = PutsLeft l.initial.page l.at (replicate l.n 95) l.page l.k (replicate l.left 95)
+
+abbrev pub decreases-loop-left : goal.decreases-loop-left
+decreases-loop-left l = l.left

@@ -1,0 +1,6 @@
+use borrow.Author.Rules.{rules}
+use Rattle.writer.proofs.write.write_pbn.Goals as goal
+
+pub returns : goal.returns
+returns c =
+    rw c.built_in.ensures at c.write_pbn_with.ensures
