@@ -3,4 +3,4 @@ use borrow.Author.Rules.{rules}
 use Rattle.listing_text.proofs.listing.write_refused.Goals as goal
 
 pub returns : goal.returns
-returns c = finished c.Put-refused.ensures c.finish.ensures
+returns c = finished c.put_refused-n.ensures c.finish.ensures

@@ -11,4 +11,4 @@ returns c = let a = c.args in
     let n = card_at_lem a.news (a.k + 1) a.k a.new-cards.now refl c.requires.2 in
     let b = rw n at c.behind_state-b.ensures in
     let s = c.state_of-s.ensures.0 in
-    rw (c.state_number.ensures, c.from_of.ensures, c.edition_of.ensures, c.start_of_lem.ensures, c.end_of_lem.ensures, ← behind_three c.behind_state-b.result, b, s)
+    rw (c.state_number.ensures, c.from_of.ensures, c.edition_of.ensures, c.start_of.ensures, c.end_of.ensures, ← behind_three c.behind_state-b.result, b, s)

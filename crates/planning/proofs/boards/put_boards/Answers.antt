@@ -13,7 +13,7 @@ pub board_numbers-requires : goal.board_numbers-requires
 board_numbers-requires c = (c.requires.0, c.requires.1, c.loop-k-test.true)
 
 pub overflow_add-k : goal.overflow_add-k
-overflow_add-k c = omega (arith, c.loop-k-test.true, c.requires.1, c.well-formed)
+overflow_add-k c = omega (arith, c.loop-k-test.true, c.requires.1, c.type_inv)
 
 pub loop-k-smaller : goal.loop-k-smaller
 loop-k-smaller c = omega (arith, c.loop-k-test.true)

@@ -14,10 +14,10 @@ pub put_slip-requires : goal.put_slip-requires
 put_slip-requires c = omega (arith, c.requires.1, c.loop-k-test.true)
 
 pub counted-t-requires : goal.counted-t-requires
-counted-t-requires c = turn_within c.loop-k.invariant (omega (arith, c.requires.1, c.well-formed))
+counted-t-requires c = turn_within c.loop-k.invariant (omega (arith, c.requires.1, c.type_inv))
 
 pub overflow_add-k : goal.overflow_add-k
-overflow_add-k c = omega (arith, c.loop-k-test.true, c.requires.1, c.well-formed)
+overflow_add-k c = omega (arith, c.loop-k-test.true, c.requires.1, c.type_inv)
 
 pub loop-k-smaller : goal.loop-k-smaller
 loop-k-smaller c = omega (arith, c.loop-k-test.true)

@@ -6,7 +6,7 @@ use borrow.Author.Rules.{rules}
 use Rattle.planning.proofs.plan.slip_of.Goals as goal
 
 pub overflow_add-result : goal.overflow_add-result
-overflow_add-result c = omega (arith, c.requires, c.well-formed)
+overflow_add-result c = omega (arith, c.requires, c.type_inv)
 
 pub returns : goal.returns
 unfolding slip_of

@@ -8,12 +8,12 @@ use Rattle.planning.proofs.search.may_fit.Goals as goal
 pub returns-then-tabled-has_table : goal.returns-then-tabled-has_table
 unfolding may_fit
 returns-then-tabled-has_table c =
-    let h = c.has_table_lem in
+    let h = c.has_table in
     rw (← h.ensures, there_sought c.args.tabled h.result, c.if-tabled-has_table.true)
 
 pub returns : goal.returns
 unfolding may_fit
 returns c =
     let a = c.args in
-    let h = c.has_table_lem in
+    let h = c.has_table in
     rw (← h.ensures, there_sought a.tabled h.result, c.if-tabled-has_table.false, word_here a.k 9 a.cards.now (omega arith))

@@ -14,7 +14,7 @@ loop-i-init c = (refl, record { low = search rules; suit_low = omega arith; room
 pub returns-then-is_white : goal.returns-then-is_white
 returns-then-is_white c =
     let l = c.loop-i in
-    (rw (l.invariant.0, word_stop _ _ c.loop-i-test.true (sym c.is_white.ensures ∙ c.if-is_white.true)) c.end_of_lem.ensures, rw c.end_of_lem.ensures (end_grown _ _ l.invariant.1.low l.invariant.2))
+    (rw (l.invariant.0, word_stop _ _ c.loop-i-test.true (sym c.is_white.ensures ∙ c.if-is_white.true)) c.end_of.ensures, rw c.end_of.ensures (end_grown _ _ l.invariant.1.low l.invariant.2))
 
 pub stepped-requires : goal.stepped-requires
 stepped-requires c = c.loop-i.invariant.1

@@ -4,4 +4,4 @@ use borrow.Author.Rules.{rules}
 use Rattle.reader.proofs.names.tag_number.Goals as goal
 
 pub returns : goal.returns
-returns c = (c.IsPlace-in.ensures.0 ∙ table_is c.args.name.now, search rules)
+returns c = (c.place_in.ensures.0 ∙ table_is c.args.name.now, search rules)

@@ -151,7 +151,7 @@ loop-p-preserved-in-Blank c =
     let a = c.args in
     let v = c.loop-p in
     lines_next v.invariant _ (line_of c) _ _
-    (line_quiet a.c a.r.now v.s v.p c.line_at-l.result.now a.a _ v.invariant.sound c.kind_in.ensures.0 c.in-Blank.is c.Quiet-line.ensures.0 c.Quiet-line.ensures.1)
+    (line_quiet a.c a.r.now v.s v.p c.line_at-l.result.now a.a _ v.invariant.sound c.kind_in.ensures.0 c.in-Blank.is c.quiet_line-s.ensures.0 c.quiet_line-s.ensures.1)
     (search rules)
 
 pub overflow_add-p-in-Bracket : goal.overflow_add-p-in-Bracket

@@ -15,7 +15,7 @@ pub loop-e-init : goal.loop-e-init
 loop-e-init c = scanning c.args.text.now c.args.a c.requires
 
 pub overflow_add-e : goal.overflow_add-e
-overflow_add-e c = omega (arith, (line_of c).inside, c.well-formed)
+overflow_add-e c = omega (arith, (line_of c).inside, c.type_inv)
 
 pub returns-then-closes_record : goal.returns-then-closes_record
 returns-then-closes_record c =

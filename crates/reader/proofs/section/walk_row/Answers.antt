@@ -6,7 +6,7 @@ returns-in-Blank c = rw (← c.read_row.ensures, c.in-Blank.is)
 
 pub returns-in-Cell : goal.returns-in-Cell
 returns-in-Cell c =
-    rw (← c.read_row.ensures, c.in-Cell.is, ← c.Stored-row.ensures)
+    rw (← c.read_row.ensures, c.in-Cell.is, ← c.stored_row-stored.ensures)
 
 pub returns-in-Fault : goal.returns-in-Fault
 returns-in-Fault c = rw (← c.read_row.ensures, c.in-Fault.is)

@@ -8,7 +8,7 @@ use Rattle.reader.proofs.section.walk_section.Goals as goal
 pub loop-next-init : goal.loop-next-init
 loop-next-init c =
     let a = c.args in
-    (walking a.c a.r.now a.o a.trump a.a a.base a.entries.now _ c.no_Walk.ensures c.requires.2 c.requires.3, refl)
+    (walking a.c a.r.now a.o a.trump a.a a.base a.entries.now _ c.no_walk-w.ensures c.requires.2 c.requires.3, refl)
 
 pub walk_span-w-requires : goal.walk_span-w-requires
 walk_span-w-requires c =

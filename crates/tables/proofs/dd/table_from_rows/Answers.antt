@@ -34,7 +34,7 @@ pub loop-at-preserved : goal.loop-at-preserved
 loop-at-preserved c =
     let a = c.args in
     let l = c.loop-at in
-    row_on a.c a.rows.now l.cells.tricks l.n l.at l.invariant c.loop-at-test.true c.from-rest.result.now c.index_of-len.result c.read_row-row.result c.from-rest.ensures c.index_of-len.ensures.0 (rw c.upto.ensures at c.read_row-row.ensures) _ (λ r. unless_passes c.read_row-row.result r (no-fault c.read_row-row.result c.in_default.in_default-own.keys2)) c.Stored-row.ensures c.index_of-len.ensures.1
+    row_on a.c a.rows.now l.cells.tricks l.n l.at l.invariant c.loop-at-test.true c.from-rest.result.now c.index_of-len.result c.read_row-row.result c.from-rest.ensures c.index_of-len.ensures.0 (rw c.upto.ensures at c.read_row-row.ensures) _ (λ r. unless_passes c.read_row-row.result r (no-fault c.read_row-row.result c.in_default.in_default-own.keys2)) c.stored_row-cells.ensures c.index_of-len.ensures.1
 
 pub returns : goal.returns
 unfolding table_of_rows

@@ -17,7 +17,7 @@ pub returns-then-answers-i-gt13 : goal.returns-then-answers-i-gt13
 returns-then-answers-i-gt13 c = sym (above_here c.args.answers.now c.loop-i.i c.loop-i-test.true c.if-answers-i-gt13.true) ∙ c.loop-i.invariant.1
 
 pub overflow_add-i : goal.overflow_add-i
-overflow_add-i c = omega (arith, c.loop-i-test.true, c.well-formed)
+overflow_add-i c = omega (arith, c.loop-i-test.true, c.type_inv)
 
 pub loop-i-smaller : goal.loop-i-smaller
 loop-i-smaller c = omega (arith, c.loop-i-test.true)

@@ -11,7 +11,7 @@ pub mark_card-requires : goal.mark_card-requires
 mark_card-requires c = omega (arith, c.requires, c.loop-k-test.true, c.loop-k.invariant.same_length)
 
 pub overflow_add-k : goal.overflow_add-k
-overflow_add-k c = omega (arith, c.loop-k-test.true, c.requires, c.well-formed)
+overflow_add-k c = omega (arith, c.loop-k-test.true, c.requires, c.type_inv)
 
 pub loop-k-smaller : goal.loop-k-smaller
 loop-k-smaller c = omega (arith, c.loop-k-test.true)

@@ -23,10 +23,10 @@ put_cells-requires c = omega (arith, c.requires.1, c.loop-k.invariant.box_length
 pub slip_after-slip-requires : goal.slip_after-slip-requires
 slip_after-slip-requires c =
     let a = c.args in
-    omega (arith, giving_few a.olds a.old-cards.now a.news a.new-cards.now a.answers.now c.requires.0 c.requires.1 c.loop-k.invariant, c.requires.1, c.well-formed)
+    omega (arith, giving_few a.olds a.old-cards.now a.news a.new-cards.now a.answers.now c.requires.0 c.requires.1 c.loop-k.invariant, c.requires.1, c.type_inv)
 
 pub overflow_add-k : goal.overflow_add-k
-overflow_add-k c = omega (arith, c.loop-k-test.true, c.requires.1, c.well-formed)
+overflow_add-k c = omega (arith, c.loop-k-test.true, c.requires.1, c.type_inv)
 
 pub loop-k-smaller : goal.loop-k-smaller
 loop-k-smaller c = omega (arith, c.loop-k-test.true)
