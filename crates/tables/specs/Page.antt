@@ -1,5 +1,5 @@
 -- What a public writer answers, and the page afterwards.
-use Rattle.std.specs.Prelude.{ℕ, ◌+◌, ◌-◌, ◌≡◌, cond, List, ◌++◌, leb, length, replicate}
+use Rattle.std.specs.Prelude.{ℕ, ◌-◌, ◌≡◌, cond, List, ◌++◌, leb, length, replicate}
 use Rattle.tables.specs.declared.page.Written.{Written}
 use Rattle.tables.specs.declared.page.Written.TheVariants.{Bytes, Refused}
 use Rattle.tables.specs.declared.refusal.Refusal.TheVariants.{PageFull}

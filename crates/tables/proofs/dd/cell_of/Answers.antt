@@ -1,4 +1,3 @@
-use borrow.Author.Rules.{rules}
 use Rattle.tables.specs.Tables.{cell_of}
 use Rattle.tables.proofs.dd.cell_of.Goals as goal
 

@@ -1,9 +1,5 @@
-use Prim.Native.Nat.{◌+◌, ◌-◌, ◌≤◌}
-use mathlib.Core.Path.{◌∙◌, ◌≡◌}
+use mathlib.Core.Path.{◌∙◌}
 use native.Mathlib.Omega.{arith}
-use lib.ListN.{length, drop}
-use borrow.Author.Rules.{rules}
-use Rattle.tables.specs.Tables.{missing}
 use Rattle.tables.proofs.Laws.{stop}
 use Rattle.tables.proofs.TableLaws.{missing_turn}
 use Rattle.tables.proofs.dd.count_missing.Goals as goal

@@ -1,12 +1,8 @@
 -- The invariant: the missing cells are the `n` counted and those among the cells that are left.
 use Prim.Native.Nat.{◌+◌, ◌-◌, ◌≤◌}
-use mathlib.Core.Path.{◌∙◌, ◌≡◌}
-use native.Mathlib.Omega.{arith}
+use mathlib.Core.Path.{◌≡◌}
 use lib.ListN.{length, drop}
-use borrow.Author.Rules.{rules}
 use Rattle.tables.specs.Tables.{missing}
-use Rattle.tables.proofs.Laws.{stop}
-use Rattle.tables.proofs.TableLaws.{missing_turn}
 use Rattle.tables.proofs.dd.count_missing.Given as goal
 
 abbrev pub invariant-loop-i : goal.invariant-loop-i

@@ -1,4 +1,3 @@
-use borrow.Author.Rules.{rules}
 use borrow.Author.Tests.{ne_eqb}
 use Rattle.tables.specs.Tables.{table_of_digits, digits_reading}
 use Rattle.tables.proofs.dd.dd_table_from_pbn.Goals as goal

@@ -1,4 +1,3 @@
-use borrow.Author.Rules.{rules}
 use Rattle.tables.proofs.PageLaws.{finished}
 use Rattle.tables.proofs.dd.dd_table_to_pbn.Goals as goal
 

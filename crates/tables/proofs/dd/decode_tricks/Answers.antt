@@ -1,5 +1,4 @@
 -- One answer for each range of the `match`, in the order of the definition.
-use borrow.Author.Rules.{rules}
 use borrow.Author.Tests.{lt-ltb, le-ltb}
 use Rattle.tables.specs.Tables.{digit_of}
 use Rattle.tables.proofs.dd.decode_tricks.Goals as goal

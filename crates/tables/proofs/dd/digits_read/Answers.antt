@@ -1,10 +1,8 @@
-use Prim.Native.Nat.{◌-◌}
 use mathlib.Core.Path.{refl, ap, ◌∙◌, ◌≡◌}
 use lib.ListN.{drop}
-use borrow.Author.Rules.{rules}
 use Rattle.tables.specs.Tables.{digit_of, table_read}
 use Rattle.tables.specs.Text.{first_character}
-use Rattle.tables.proofs.TableLaws.{Decoding, decoding, decoding_next, decoding_bad, decoding_done}
+use Rattle.tables.proofs.TableLaws.{decoding, decoding_next, decoding_bad, decoding_done}
 use Rattle.tables.proofs.dd.digits_read.Goals as goal
 
 pub loop-i-init : goal.loop-i-init

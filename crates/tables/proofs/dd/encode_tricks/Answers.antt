@@ -1,4 +1,3 @@
-use borrow.Author.Rules.{rules}
 use borrow.Author.Tests.{lt-ltb, le-ltb}
 use Rattle.tables.specs.Tables.{digit_byte}
 use Rattle.tables.proofs.dd.encode_tricks.Goals as goal

@@ -1,4 +1,3 @@
-use borrow.Author.Rules.{rules}
 use Rattle.tables.proofs.dd.optimum_result_table_from_rows.Goals as goal
 
 pub returns : goal.returns

@@ -1,5 +1,4 @@
 -- Three texts put one after the other, and the end of the page.
-use borrow.Author.Rules.{rules}
 use Rattle.tables.specs.Tables.{header_text}
 use Rattle.tables.proofs.PageLaws.{finished, put_then}
 use Rattle.tables.proofs.dd.optimum_result_table_header.Goals as goal

@@ -1,4 +1,3 @@
-use borrow.Author.Rules.{rules}
 use Rattle.tables.specs.Tables.{rows_text}
 use Rattle.tables.proofs.PageLaws.{finished}
 use Rattle.tables.proofs.dd.optimum_result_table_rows.Goals as goal

@@ -1,5 +1,4 @@
 use borrow.Author.Tests.{eq-eqb, ne_eqb}
-use borrow.Author.Rules.{rules}
 use Rattle.tables.specs.Tables.{column_text}
 use Rattle.tables.proofs.PageLaws.{put_then}
 use Rattle.tables.proofs.dd.put_column.Goals as goal

@@ -1,11 +1,8 @@
-use Prim.Native.Nat.{◌-◌, ◌≤◌}
 use mathlib.Core.List.{◌∷◌, []}
 use native.Mathlib.Omega.{arith}
-use lib.ListN.{length-map, length-drop, length, drop}
-use borrow.Author.Rules.{rules}
-use Rattle.tables.specs.Tables.{digits_text}
+use lib.ListN.{length-map, length-drop}
 use Rattle.tables.proofs.Laws.{step, stop}
-use Rattle.tables.proofs.PageLaws.{ToPut, to_put, putting, put_all_lem}
+use Rattle.tables.proofs.PageLaws.{to_put, putting, put_all_lem}
 use Rattle.tables.proofs.dd.put_digits.Goals as goal
 
 pub loop-i-init : goal.loop-i-init

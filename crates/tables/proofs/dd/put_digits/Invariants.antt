@@ -1,12 +1,8 @@
 -- The invariant: putting the digits of the cells that are left at `k` comes to putting all of them at `at`.
 use Prim.Native.Nat.{◌-◌, ◌≤◌}
-use mathlib.Core.List.{◌∷◌, []}
-use native.Mathlib.Omega.{arith}
-use lib.ListN.{length-map, length-drop, length, drop}
-use borrow.Author.Rules.{rules}
+use lib.ListN.{length, drop}
 use Rattle.tables.specs.Tables.{digits_text}
-use Rattle.tables.proofs.Laws.{step, stop}
-use Rattle.tables.proofs.PageLaws.{ToPut, to_put, putting, put_all_lem}
+use Rattle.tables.proofs.PageLaws.{ToPut}
 use Rattle.tables.proofs.dd.put_digits.Given as goal
 
 abbrev pub invariant-loop-i : goal.invariant-loop-i

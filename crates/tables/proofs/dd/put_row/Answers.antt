@@ -1,7 +1,6 @@
 -- Five texts put one after the other.
 use Prim.Native.Nat.{◌%◌}
 use native.Mathlib.Omega.{arith}
-use borrow.Author.Rules.{rules}
 use Rattle.tables.specs.Tables.{row_text}
 use Rattle.tables.proofs.PageLaws.{put_then}
 use Rattle.tables.proofs.TableLaws.{column_two}

@@ -1,10 +1,7 @@
-use Prim.Native.Nat.{◌-◌, ◌≤◌}
 use native.Mathlib.Omega.{arith}
-use lib.ListN.{get_or, length, drop}
-use borrow.Author.Rules.{rules}
-use Rattle.tables.specs.Tables.{rows_from}
+use lib.ListN.{get_or}
 use Rattle.tables.proofs.Laws.{step, stop}
-use Rattle.tables.proofs.PageLaws.{ToPut, to_put, putting, put_all_lem, put_then}
+use Rattle.tables.proofs.PageLaws.{to_put, putting, put_all_lem, put_then}
 use Rattle.tables.proofs.TableLaws.{rows_few, row_few}
 use Rattle.tables.proofs.dd.put_rows.Goals as goal
 

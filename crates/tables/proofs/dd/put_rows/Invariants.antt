@@ -1,12 +1,8 @@
 -- The invariant: putting the rows of the cells that are left at `k` comes to putting all of them at `at`.
 use Prim.Native.Nat.{◌-◌, ◌≤◌}
-use native.Mathlib.Omega.{arith}
-use lib.ListN.{get_or, length, drop}
-use borrow.Author.Rules.{rules}
+use lib.ListN.{length, drop}
 use Rattle.tables.specs.Tables.{rows_from}
-use Rattle.tables.proofs.Laws.{step, stop}
-use Rattle.tables.proofs.PageLaws.{ToPut, to_put, putting, put_all_lem, put_then}
-use Rattle.tables.proofs.TableLaws.{rows_few, row_few}
+use Rattle.tables.proofs.PageLaws.{ToPut}
 use Rattle.tables.proofs.dd.put_rows.Given as goal
 
 abbrev pub invariant-loop-i : goal.invariant-loop-i

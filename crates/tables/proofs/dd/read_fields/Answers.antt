@@ -1,4 +1,3 @@
-use borrow.Author.Rules.{rules}
 use borrow.Author.Tests.{lt-ltb, le-ltb}
 use Rattle.tables.specs.Tables.{fields_row}
 use Rattle.tables.proofs.dd.read_fields.Goals as goal

@@ -1,6 +1,5 @@
 -- Blank where no field is left at the start; else three fields exactly where a third begins and no fourth.
 use mathlib.Core.Path.{◌∙◌}
-use borrow.Author.Rules.{rules}
 use Rattle.tables.proofs.TableLaws.{row_blank, row_short, row_long, row_three}
 use Rattle.tables.proofs.dd.read_row.Goals as goal
 

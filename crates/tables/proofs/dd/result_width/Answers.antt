@@ -1,9 +1,5 @@
-use Prim.Native.Nat.{◌-◌}
-use mathlib.Core.Path.{◌≡◌}
-use lib.ListN.{length, drop}
 use borrow.Author.Rules.{rules}
 use borrow.Author.Tests.{lt-ltb, le-ltb}
-use Rattle.tables.specs.Tables.{width_of}
 use Rattle.tables.proofs.Laws.{step, stop}
 use Rattle.tables.proofs.dd.result_width.Goals as goal
 

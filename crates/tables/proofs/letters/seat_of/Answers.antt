@@ -1,7 +1,6 @@
 use mathlib.Core.Path.{ap}
 use native.Mathlib.Omega.{arith}
 use lib.ListN.{length, length-take}
-use borrow.Author.Rules.{rules}
 use Rattle.tables.specs.Letters.{seat_of}
 use Rattle.tables.proofs.letters.seat_of.Goals as goal
 

@@ -1,4 +1,3 @@
-use borrow.Author.Rules.{rules}
 use borrow.Author.Tests.{lt-ltb, le-ltb}
 use Rattle.tables.specs.Letters.{capital}
 use Rattle.tables.proofs.letters.to_capital.Goals as goal

@@ -1,9 +1,5 @@
-use Prim.Native.Nat.{◌-◌, ◌≤◌}
-use mathlib.Core.Path.{◌≡◌}
-use lib.ListN.{length, drop}
 use borrow.Author.Rules.{rules}
 use borrow.Author.Tests.{lt-ltb, le-ltb}
-use Rattle.tables.specs.Numbers.{digits_from}
 use Rattle.tables.proofs.Laws.{step, stop}
 use Rattle.tables.proofs.numbers.digits_value.Goals as goal
 

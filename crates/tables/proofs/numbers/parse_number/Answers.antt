@@ -1,5 +1,4 @@
 use borrow.Author.Tests.{eq-eqb, ne_eqb}
-use borrow.Author.Rules.{rules}
 use Rattle.tables.proofs.NumberLaws.{number_is}
 use Rattle.tables.proofs.numbers.parse_number.Goals as goal
 

@@ -1,7 +1,6 @@
 -- One answer for each way out: after `-` or not, a number or none.
 use native.Mathlib.Omega.{arith}
 use borrow.Author.Tests.{eq-eqb, ne_eqb}
-use borrow.Author.Rules.{rules}
 use Rattle.tables.proofs.NumberLaws.{signed_is}
 use Rattle.tables.proofs.numbers.parse_signed.Goals as goal
 

@@ -1,9 +1,5 @@
-use Prim.Native.Nat.{◌+◌, ◌≤◌}
-use mathlib.Core.Path.{◌≡◌}
 use native.Mathlib.Omega.{arith}
-use lib.ListN.{length-set, length, drop}
-use borrow.Author.Rules.{rules}
-use Rattle.tables.specs.Numbers.{digits, decimal}
+use lib.ListN.{length-set}
 use Rattle.tables.proofs.PageLaws.{digits_start, digits_found, digits_end, digits_on}
 use Rattle.tables.proofs.page.digits_into.Goals as goal
 

@@ -1,11 +1,8 @@
 -- The invariant: the digits of `m` before those that stand behind `k` are the number; at most `k + 1` of them are left.
 use Prim.Native.Nat.{◌+◌, ◌≤◌}
 use mathlib.Core.Path.{◌≡◌}
-use native.Mathlib.Omega.{arith}
-use lib.ListN.{length-set, length, drop}
-use borrow.Author.Rules.{rules}
+use lib.ListN.{length, drop}
 use Rattle.tables.specs.Numbers.{digits, decimal}
-use Rattle.tables.proofs.PageLaws.{digits_start, digits_found, digits_end, digits_on}
 use Rattle.tables.proofs.page.digits_into.Given as goal
 
 abbrev pub invariant-loop-k : goal.invariant-loop-k

@@ -1,6 +1,5 @@
 use mathlib.Core.Path.{sym, refl}
 use lib.Seq.{set_out}
-use borrow.Author.Rules.{rules}
 use Rattle.tables.proofs.page.put_byte.Goals as goal
 
 pub returns : goal.returns

@@ -1,4 +1,3 @@
-use borrow.Author.Rules.{rules}
 use Rattle.tables.proofs.PageLaws.{put_as}
 use Rattle.tables.proofs.page.put_decimal.Goals as goal
 

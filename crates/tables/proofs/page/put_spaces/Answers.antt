@@ -2,9 +2,8 @@ use Prim.Native.Nat.{◌<◌}
 use mathlib.Core.Path.{◌≡◌}
 use mathlib.Core.List.{◌∷◌, []}
 use native.Mathlib.Omega.{arith}
-use lib.ListN.{replicate, length-replicate}
-use borrow.Author.Rules.{rules}
-use Rattle.tables.proofs.PageLaws.{ToPut, to_put, putting, put_all_lem, spaces_more}
+use lib.ListN.{length-replicate}
+use Rattle.tables.proofs.PageLaws.{to_put, putting, put_all_lem, spaces_more}
 use Rattle.tables.proofs.page.put_spaces.Goals as goal
 
 pub loop-left-init : goal.loop-left-init

@@ -1,11 +1,6 @@
 -- The invariant: putting the spaces that are left at `k` comes to putting all of them at `at`.
-use Prim.Native.Nat.{◌<◌}
-use mathlib.Core.Path.{◌≡◌}
-use mathlib.Core.List.{◌∷◌, []}
-use native.Mathlib.Omega.{arith}
-use lib.ListN.{replicate, length-replicate}
-use borrow.Author.Rules.{rules}
-use Rattle.tables.proofs.PageLaws.{ToPut, to_put, putting, put_all_lem, spaces_more}
+use lib.ListN.{replicate}
+use Rattle.tables.proofs.PageLaws.{ToPut}
 use Rattle.tables.proofs.page.put_spaces.Given as goal
 
 abbrev pub invariant-loop-left : goal.invariant-loop-left

@@ -1,10 +1,8 @@
-use Prim.Native.Nat.{◌-◌}
 use mathlib.Core.List.{◌∷◌, []}
 use native.Mathlib.Omega.{arith}
-use lib.ListN.{length-drop, length, drop}
-use borrow.Author.Rules.{rules}
+use lib.ListN.{length-drop}
 use Rattle.tables.proofs.Laws.{step, stop}
-use Rattle.tables.proofs.PageLaws.{ToPut, to_put, putting, put_all_lem}
+use Rattle.tables.proofs.PageLaws.{to_put, putting, put_all_lem}
 use Rattle.tables.proofs.page.put_tail.Goals as goal
 
 pub loop-i-init : goal.loop-i-init

@@ -1,11 +1,7 @@
 -- The invariant: putting what is left of `s` at `k` comes to putting all of it at `at`.
 use Prim.Native.Nat.{◌-◌}
-use mathlib.Core.List.{◌∷◌, []}
-use native.Mathlib.Omega.{arith}
-use lib.ListN.{length-drop, length, drop}
-use borrow.Author.Rules.{rules}
-use Rattle.tables.proofs.Laws.{step, stop}
-use Rattle.tables.proofs.PageLaws.{ToPut, to_put, putting, put_all_lem}
+use lib.ListN.{length, drop}
+use Rattle.tables.proofs.PageLaws.{ToPut}
 use Rattle.tables.proofs.page.put_tail.Given as goal
 
 abbrev pub invariant-loop-i : goal.invariant-loop-i

@@ -1,9 +1,6 @@
-use Prim.Native.Nat.{◌-◌}
-use mathlib.Core.Path.{refl, sym, ◌∙◌, ◌≡◌}
+use mathlib.Core.Path.{refl, sym, ◌∙◌}
 use native.Mathlib.Omega.{arith}
-use lib.ListN.{length-set, length}
-use borrow.Author.Rules.{rules}
-use Rattle.tables.specs.PageSteps.{cleared}
+use lib.ListN.{length-set}
 use Rattle.tables.proofs.PageLaws.{clear_more, clear_done}
 use Rattle.tables.proofs.page.zero_from.Goals as goal
 

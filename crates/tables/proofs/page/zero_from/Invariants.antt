@@ -1,11 +1,8 @@
 -- The invariant: clearing the page from `i` on is clearing the first page from `n` on.
 use Prim.Native.Nat.{◌-◌}
-use mathlib.Core.Path.{refl, sym, ◌∙◌, ◌≡◌}
-use native.Mathlib.Omega.{arith}
-use lib.ListN.{length-set, length}
-use borrow.Author.Rules.{rules}
+use mathlib.Core.Path.{◌≡◌}
+use lib.ListN.{length}
 use Rattle.tables.specs.PageSteps.{cleared}
-use Rattle.tables.proofs.PageLaws.{clear_more, clear_done}
 use Rattle.tables.proofs.page.zero_from.Given as goal
 
 abbrev pub invariant-loop-i : goal.invariant-loop-i

@@ -1,4 +1,3 @@
-use borrow.Author.Rules.{rules}
 use Rattle.tables.proofs.TextLaws.{count_none, count_some}
 use Rattle.tables.proofs.Laws.{rest}
 use Rattle.tables.proofs.text.count_characters.Goals as goal

@@ -1,12 +1,8 @@
 -- The invariant: the characters are the `n` counted and those that start in what is left.
 use Prim.Native.Nat.{◌+◌, ◌-◌, ◌≤◌}
-use mathlib.Core.Path.{◌∙◌, ◌≡◌}
-use native.Mathlib.Omega.{arith}
+use mathlib.Core.Path.{◌≡◌}
 use lib.ListN.{length, drop}
-use borrow.Author.Rules.{rules}
 use Rattle.tables.specs.Text.{starts}
-use Rattle.tables.proofs.TextLaws.{starts_turn}
-use Rattle.tables.proofs.Laws.{stop}
 use Rattle.tables.proofs.text.count_starts.Given as goal
 
 abbrev pub invariant-loop-i : goal.invariant-loop-i

@@ -1,4 +1,3 @@
-use borrow.Author.Rules.{rules}
 use Rattle.tables.proofs.TextLaws.{first_is}
 use Rattle.tables.proofs.text.first_character.Goals as goal
 

@@ -1,6 +1,5 @@
 use mathlib.Core.Path.{sym}
 use lib.Seq.{length-take-le}
-use borrow.Author.Rules.{rules}
 use Rattle.tables.specs.Text.{is_word}
 use Rattle.tables.proofs.TextLaws.{take_front}
 use Rattle.tables.proofs.text.first_word.Goals as goal

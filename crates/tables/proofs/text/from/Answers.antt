@@ -1,6 +1,5 @@
 use mathlib.Core.Path.{sym}
 use native.Mathlib.Nat.{le_of_lt}
-use borrow.Author.Rules.{rules}
 use Rattle.tables.proofs.Laws.{rest, stop}
 use Rattle.tables.proofs.text.from.Goals as goal
 

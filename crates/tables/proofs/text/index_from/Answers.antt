@@ -1,10 +1,7 @@
-use Prim.Native.Nat.{◌+◌, ◌-◌, ◌≤◌}
+use Prim.Native.Nat.{◌+◌}
 use mathlib.Core.Path.{refl}
 use native.Mathlib.Omega.{arith}
-use lib.ListN.{length, drop}
-use borrow.Author.Rules.{rules}
-use Rattle.tables.specs.Text.{before}
-use Rattle.tables.proofs.TextLaws.{Sought, sought_here, sought_next, sought_end}
+use Rattle.tables.proofs.TextLaws.{sought_here, sought_next, sought_end}
 use Rattle.tables.proofs.text.index_from.Goals as goal
 
 pub loop-i-init : goal.loop-i-init

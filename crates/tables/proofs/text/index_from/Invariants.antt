@@ -1,11 +1,8 @@
 -- The invariant: the first `x` from `start` on is sought at the place `i`.
 use Prim.Native.Nat.{◌+◌, ◌-◌, ◌≤◌}
-use mathlib.Core.Path.{refl}
-use native.Mathlib.Omega.{arith}
 use lib.ListN.{length, drop}
-use borrow.Author.Rules.{rules}
 use Rattle.tables.specs.Text.{before}
-use Rattle.tables.proofs.TextLaws.{Sought, sought_here, sought_next, sought_end}
+use Rattle.tables.proofs.TextLaws.{Sought}
 use Rattle.tables.proofs.text.index_from.Given as goal
 
 abbrev pub invariant-loop-i : goal.invariant-loop-i

@@ -1,11 +1,8 @@
 -- The invariant: the first `x` is sought at the place `i`. A turn looks at four bytes.
-use Prim.Native.Nat.{◌+◌, ◌-◌, ◌≤◌}
-use mathlib.Core.Path.{◌∙◌, sym}
-use native.Mathlib.Omega.{arith}
+use Prim.Native.Nat.{◌-◌, ◌≤◌}
 use lib.ListN.{length}
-use borrow.Author.Rules.{rules}
 use Rattle.tables.specs.Text.{before}
-use Rattle.tables.proofs.TextLaws.{Sought, sought_here, sought_next}
+use Rattle.tables.proofs.TextLaws.{Sought}
 use Rattle.tables.proofs.text.index_of.Given as goal
 
 abbrev pub invariant-loop-i : goal.invariant-loop-i

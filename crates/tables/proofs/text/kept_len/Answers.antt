@@ -1,9 +1,7 @@
-use Prim.Native.Nat.{◌≤◌}
 use mathlib.Core.Path.{sym, ap, ◌∙◌, ◌≡◌}
 use native.Mathlib.Omega.{arith}
-use lib.ListN.{take, length}
+use lib.ListN.{length}
 use lib.Seq.{take-length, length-take-le}
-use borrow.Author.Rules.{rules}
 use Rattle.tables.specs.Text.{trim_end}
 use Rattle.tables.proofs.TextLaws.{kept_less, kept_stop}
 use Rattle.tables.proofs.text.kept_len.Goals as goal

@@ -1,12 +1,8 @@
 -- The invariant: the text and its first `e` bytes are the same without the white space at their ends.
 use Prim.Native.Nat.{◌≤◌}
-use mathlib.Core.Path.{sym, ap, ◌∙◌, ◌≡◌}
-use native.Mathlib.Omega.{arith}
+use mathlib.Core.Path.{◌≡◌}
 use lib.ListN.{take, length}
-use lib.Seq.{take-length, length-take-le}
-use borrow.Author.Rules.{rules}
 use Rattle.tables.specs.Text.{trim_end}
-use Rattle.tables.proofs.TextLaws.{kept_less, kept_stop}
 use Rattle.tables.proofs.text.kept_len.Given as goal
 
 abbrev pub invariant-loop-e : goal.invariant-loop-e

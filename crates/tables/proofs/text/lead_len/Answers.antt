@@ -1,9 +1,6 @@
-use Prim.Native.Nat.{◌+◌, ◌-◌, ◌≤◌}
-use mathlib.Core.Path.{sym, ◌∙◌, ◌≡◌}
+use mathlib.Core.Path.{sym, ◌∙◌}
 use native.Mathlib.Omega.{arith}
-use lib.ListN.{length, drop}
-use borrow.Author.Rules.{rules}
-use Rattle.tables.specs.Text.{is_white, lead}
+use Rattle.tables.specs.Text.{is_white}
 use Rattle.tables.proofs.TextLaws.{front_more, front_stop, front_end}
 use Rattle.tables.proofs.text.lead_len.Goals as goal
 

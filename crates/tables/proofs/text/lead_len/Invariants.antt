@@ -1,11 +1,8 @@
 -- The invariant: the white space in front is the `i` bytes passed and that of what is left.
 use Prim.Native.Nat.{◌+◌, ◌-◌, ◌≤◌}
-use mathlib.Core.Path.{sym, ◌∙◌, ◌≡◌}
-use native.Mathlib.Omega.{arith}
+use mathlib.Core.Path.{◌≡◌}
 use lib.ListN.{length, drop}
-use borrow.Author.Rules.{rules}
-use Rattle.tables.specs.Text.{is_white, lead}
-use Rattle.tables.proofs.TextLaws.{front_more, front_stop, front_end}
+use Rattle.tables.specs.Text.{lead}
 use Rattle.tables.proofs.text.lead_len.Given as goal
 
 abbrev pub invariant-loop-i : goal.invariant-loop-i

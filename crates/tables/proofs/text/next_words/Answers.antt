@@ -2,7 +2,6 @@ use Prim.Native.Nat.{ℕ}
 use mathlib.Core.Path.{ap, ◌∙◌}
 use mathlib.Core.List.{List}
 use lib.ListN.{drop}
-use borrow.Author.Rules.{rules}
 use Rattle.tables.specs.Text.{trim_start, is_word}
 use Rattle.tables.proofs.Laws.{rest}
 use Rattle.tables.proofs.TextLaws.{drop_front}

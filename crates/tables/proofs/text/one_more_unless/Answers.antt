@@ -1,5 +1,4 @@
 use native.Mathlib.Omega.{arith}
-use borrow.Author.Rules.{rules}
 use Rattle.tables.proofs.text.one_more_unless.Goals as goal
 
 pub returns-else-not_counted : goal.returns-else-not_counted

@@ -1,4 +1,3 @@
-use borrow.Author.Rules.{rules}
 use Rattle.tables.specs.Text.{trimmed}
 use Rattle.tables.proofs.text.trim.Goals as goal
 

@@ -1,6 +1,5 @@
 use mathlib.Core.Path.{sym}
 use lib.Seq.{length-take-le}
-use borrow.Author.Rules.{rules}
 use Rattle.tables.proofs.TextLaws.{take_kept}
 use Rattle.tables.proofs.text.trim_end.Goals as goal
 

@@ -1,4 +1,3 @@
-use borrow.Author.Rules.{rules}
 use Rattle.tables.specs.Text.{is_white}
 use Rattle.tables.proofs.Laws.{rest}
 use Rattle.tables.proofs.TextLaws.{drop_front}

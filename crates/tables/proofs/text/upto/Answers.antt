@@ -1,7 +1,6 @@
 use mathlib.Core.Path.{sym}
 use native.Mathlib.Nat.{le_of_lt}
 use lib.Seq.{length-take-le, take_all}
-use borrow.Author.Rules.{rules}
 use Rattle.tables.proofs.text.upto.Goals as goal
 
 pub slice_bounds-result-end : goal.slice_bounds-result-end

@@ -1,10 +1,7 @@
-use Prim.Native.Nat.{◌+◌, ◌-◌, ◌≤◌}
-use mathlib.Core.Path.{sym, ap, ◌∙◌, ◌≡◌}
+use mathlib.Core.Path.{sym, ap, ◌∙◌}
 use mathlib.Core.Bool.{not}
 use native.Mathlib.Omega.{arith}
-use lib.ListN.{length, drop}
-use borrow.Author.Rules.{rules}
-use Rattle.tables.specs.Text.{is_word, word}
+use Rattle.tables.specs.Text.{is_word}
 use Rattle.tables.proofs.TextLaws.{front_more, front_stop, front_end}
 use Rattle.tables.proofs.text.word_len.Goals as goal
 
