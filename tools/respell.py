@@ -15,7 +15,7 @@ import sys
 
 TOKEN = re.compile(r"[\w'·-]+")
 NAME = r"[\w'·-]+"
-HEAD = re.compile(r"^(?:(?:pub|unfoldable|abbrev|opaque)\s+)*(?:(data|record)\s+)?(" + NAME + r")\s+:\s")
+HEAD = re.compile(r"^(?:(?:pub|unfoldable|abbrev|opaque)\s+)*(?:(data|record)\s+)?(" + NAME + r")\s+:(?:\s|$)")
 
 # Facts that were spelled as functions.
 FACTS = {
@@ -100,7 +100,7 @@ def declared(files):
                 fact = re.search(r"Type( \d+| \{\d\})?\s*$", signature(lines, i))
                 kinds[m.group(2)].add("type" if m.group(1) else "fact" if fact else "def")
                 continue
-            m = re.match(r"^\s+(?:pub\s+)?(" + NAME + r")\s+:\s", line)
+            m = re.match(r"^\s+(?:pub\s+)?(" + NAME + r")\s+:(?:\s|$)", line)
             if m:
                 kinds[m.group(1)].add("part")
     return kinds

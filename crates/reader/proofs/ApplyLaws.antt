@@ -62,35 +62,35 @@ unfolding applied identity_by deal_by table_by values_by is_kept contract_by
 applied_opening_rows c value place b = same_values b b.table (is_kept_value 19 value)
 
 -- A Deal that parsed, one that did not, and a blank one.
-pub applied-dealt :
+pub applied_dealt :
     (c : Conventions) (value : List ℕ) (place : ℕ) (b : Board) (h : Hands) →
     deal_of c value ≡ Dealt h →
     applied c 4 value place b ≡ with_parts b b.id (parsed_deal h b.deal) b.table b.values b.contract
 unfolding applied identity_by deal_by table_by values_by is_kept contract_by
-applied-dealt c value place b h e = rw e
+applied_dealt c value place b h e = rw e
 
-pub applied-unparsed :
+pub applied_unparsed :
     (c : Conventions) (value : List ℕ) (place : ℕ) (b : Board) →
     deal_of c value ≡ NoDeal →
     eqb (length (trimmed value)) 0 ≡ false →
     applied c 4 value place b ≡ with_parts b b.id (record { kind = 2; words = b.deal.words }) b.table (value_put 4 place b.values) b.contract
 unfolding applied identity_by deal_by table_by values_by is_kept contract_by
-applied-unparsed c value place b e t = rw (e, t)
+applied_unparsed c value place b e t = rw (e, t)
 
-pub applied-blank :
+pub applied_blank :
     (c : Conventions) (value : List ℕ) (place : ℕ) (b : Board) →
     deal_of c value ≡ NoDeal →
     eqb (length (trimmed value)) 0 ≡ true →
     applied c 4 value place b ≡ b
 unfolding applied identity_by deal_by table_by values_by is_kept contract_by
-applied-blank c value place b e t = rw (e, t)
+applied_blank c value place b e t = rw (e, t)
 
 -- DoubleDummyTricks touches the table alone.
-pub applied-digits :
+pub applied_digits :
     (c : Conventions) (value : List ℕ) (place : ℕ) (b : Board) →
     applied c 18 value place b ≡ with_parts b b.id b.deal (table_by 18 value b.table) b.values b.contract
 unfolding applied identity_by deal_by values_by is_kept contract_by
-applied-digits c value place b = same_values b (table_by 18 value b.table) (is_kept_value 18 value)
+applied_digits c value place b = same_values b (table_by 18 value b.table) (is_kept_value 18 value)
 
 -- Every other tag leaves deal and table.
 pub applied_plain :
@@ -118,12 +118,12 @@ applied_trump c k value place b = refl
 -- ---- the deal
 
 -- Only a Deal tag changes it.
-pub deal-stays :
+pub deal_stays :
     (c : Conventions) (k : ℕ) (value : List ℕ) (place : ℕ) (b : Board) →
     eqb k 4 ≡ false →
     (applied c k value place b).deal ≡ b.deal
 unfolding applied deal_by
-deal-stays c k value place b e = rw e
+deal_stays c k value place b e = rw e
 
 -- After one that parses, where none was kept unparsed.
 pub deal_parsed :
@@ -135,12 +135,12 @@ unfolding applied deal_by
 deal_parsed c value place b h e t = rw (e, t)
 
 -- One that was kept unparsed wins for good.
-pub deal-unparsed-stays :
+pub deal_unparsed_stays :
     (c : Conventions) (k : ℕ) (value : List ℕ) (place : ℕ) (b : Board) →
     b.deal.kind ≡ 2 →
     (applied c k value place b).deal.kind ≡ 2
 unfolding applied deal_by
-deal-unparsed-stays c k value place b e = go (eqb k 4) (deal_of c value)
+deal_unparsed_stays c k value place b e = go (eqb k 4) (deal_of c value)
   where
     blank : (t : Bool) → cond t b.deal.kind 2 ≡ 2
     blank true = e
@@ -162,29 +162,29 @@ unfolding applied table_by
 table_stays c k value place b e = rw e
 
 -- After good digits, and after bad ones, where no table of rows is there.
-pub table-read :
+pub table_read_lem :
     (c : Conventions) (value : List ℕ) (place : ℕ) (b : Board) (cells : List ℕ) →
     table_of_digits value ≡ holds cells →
     eqb b.table.kind 2 ≡ false →
     (applied c 18 value place b).table ≡ record { kind = 1; cells = cells }
 unfolding applied table_by
-table-read c value place b cells e t = rw (t, e)
+table_read_lem c value place b cells e t = rw (t, e)
 
-pub table-refused :
+pub table_refused :
     (c : Conventions) (value : List ℕ) (place : ℕ) (b : Board) (f : Refusal) →
     table_of_digits value ≡ refuses f →
     eqb b.table.kind 2 ≡ false →
     (applied c 18 value place b).table ≡ record { kind = 0; cells = replicate 20 0 }
 unfolding applied table_by
-table-refused c value place b f e t = rw (t, e)
+table_refused c value place b f e t = rw (t, e)
 
 -- A table of rows wins for good.
-pub table-rows-stay :
+pub table_rows_stay :
     (c : Conventions) (k : ℕ) (value : List ℕ) (place : ℕ) (b : Board) →
     b.table.kind ≡ 2 →
     (applied c k value place b).table ≡ b.table
 unfolding applied table_by
-table-rows-stay c k value place b e =
+table_rows_stay c k value place b e =
     let two : eqb b.table.kind 2 ≡ true = rw e in
     rw two (go (eqb k 18))
   where
@@ -291,12 +291,12 @@ all_from P place v w p a f =
       par_place = either P place v.par w.par p a.par_place f.par_from;
     }
 
-pub applied-places :
+pub applied_places :
     (P : ℕ → Type 0) (c : Conventions) (k : ℕ) (value : List ℕ) (place : ℕ) (b : Board) →
     P place →
     AllPlaces P b.values →
     AllPlaces P (applied c k value place b).values
-applied-places P c k value place b p a =
+applied_places P c k value place b p a =
     all_from P place b.values (applied c k value place b).values p a (applied_from c k value place b)
 
 -- ---- the digits of a table, as they are answered

@@ -37,7 +37,7 @@ use Rattle.reader.specs.Fellows.{Stands}
 use Rattle.reader.proofs.EntryLaws.{All, none, one, all_append, all_map, Inside, out_all_lem, out_count}
 use Rattle.reader.proofs.AuctionLaws.{CallsInside, calls_counted}
 use Rattle.reader.proofs.PlayLaws.{TricksOnly, LastTrickOnly, tricks_counted, last_counted}
-use Rattle.reader.proofs.ApplyLaws.{AllPlaces, applied-places}
+use Rattle.reader.proofs.ApplyLaws.{AllPlaces, applied_places}
 use Rattle.reader.proofs.Counts.{any, chosen}
 use Rattle.reader.proofs.StandLaws.{stands_left, stands_right, stands_fit}
 
@@ -220,7 +220,7 @@ closed_keeps c r s =
 applied_placed : (c : Conventions) (k : ℕ) (value : List ℕ) (place : ℕ) (b : Board) (es : List Entry) → Points IsValueKind es place 1 → BoardPlaced es b → BoardPlaced es (applied c k value place b)
 unfolding applied
 applied_placed c k value place b es p h =
-    record { values = applied-places (λ v. Points IsValueKind es v 1) c k value place b p h.values; auction = h.auction; play = h.play }
+    record { values = applied_places (λ v. Points IsValueKind es v 1) c k value place b p h.values; auction = h.auction; play = h.play }
 
 tagged_keeps : (c : Conventions) (s : State) (p : ℕ) (l : List ℕ) (q : ℕ) (t : TagPlaces) (split : Span) → Keeps s (tagged c s p l q t split)
 unfolding tagged

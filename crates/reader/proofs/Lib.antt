@@ -17,7 +17,6 @@ pub mod EditionLaws
 pub mod EntryLaws
 pub mod Fellows
 pub mod Folds
-pub mod HeldLines
 pub mod Inside
 pub mod LineLaws
 pub mod LinePins

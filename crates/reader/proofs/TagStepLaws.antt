@@ -80,7 +80,7 @@ opened_sound c k value p q split s t h pq sq e b =
     }
 
 -- A tag's step from its parts: its two entries, its board and its section.
-pub tag-stepped :
+pub tag_stepped :
     (c : Conventions) (l : List ℕ) (t : Tag) (split : Span) {s : State} {p q a n k : ℕ} {name value e e' e'' : List ℕ} {board : Board} {section : Open} →
     Sound p s →
     p ≤ q →
@@ -94,7 +94,7 @@ pub tag-stepped :
     section ≡ open_by c k value q split →
     Stepped a n q e e'' (record { board = board; section = section; tags = s.tags + 1; n = s.n + 2; commentary = false; block = s.block }) (tagged c s p l q t split)
 unfolding tagged
-tag-stepped c l t split {s} {p} {q} {a} {n} {k} {name} {value} {e} {e'} {e''} {board} {section} h pq sq e1 e2 en ek ev eb es =
+tag_stepped c l t split {s} {p} {q} {a} {n} {k} {name} {value} {e} {e'} {e''} {board} {section} h pq sq e1 e2 en ek ev eb es =
     record {
       emits = record { answer = rw (eb, es, ek, en, ev); words = rw (e2, e1) };
       sound = opened_sound c k value p q split s _ h pq sq es refl;
@@ -138,7 +138,7 @@ read_comment c base s p l {a} {q} {r} {e = e} {e' = e'} {x = x} {d = d} et eg es
     let k : Stepped a (base + s.n) q e e' r (tagged c s p l q x no_span) = rw (← ap tag_in et, ← ap (split_in p) et, ← eg, ← es) h in
     rw et (stepped_then base s (λ (y : State). entry 3 (p + d.start) d.len y.tags ∷ []) k (tagged_counts c s p l q x no_span) f)
 
-pub read-data :
+pub read_data :
     (c : Conventions) (base : ℕ) (s : State) (p : ℕ) (l : List ℕ) {a q : ℕ} {r r' : State} {e e' e'' : List ℕ} {t : TagReading} {tag x : Tag} {split d : Span} →
     t ≡ WithData x d →
     tag ≡ tag_in t →
@@ -146,7 +146,7 @@ pub read-data :
     Stepped a (base + s.n) q e e' r (tagged c s p l q tag split) →
     Emits a (base + r.n) e' e'' r' (data_added r p d) →
     Stepped a (base + s.n) q e e'' r' (read_by c s p l q t)
-read-data c base s p l {a} {q} {r} {e = e} {e' = e'} {x = x} {d = d} et eg es h f =
+read_data c base s p l {a} {q} {r} {e = e} {e' = e'} {x = x} {d = d} et eg es h f =
     let k : Stepped a (base + s.n) q e e' r (tagged c s p l q x (at p d)) = rw (← ap tag_in et, ← ap (split_in p) et, ← eg, ← es) h in
     rw et (stepped_then base s (λ (x : State). data_entries x.section.kind p d) k (tagged_counts c s p l q x (at p d)) f)
 
@@ -176,13 +176,13 @@ closed_sound {p} c r s h = go (eqb s.section.kind 0) (walked_all c r s.section s
           block_before = h.block_before;
         }
 
-pub read-closed :
+pub read_closed_lem :
     (c : Conventions) (base : ℕ) (s : State) (p : ℕ) (w l : List ℕ) (t : TagReading) {a : ℕ} {r r' : State} {e e' e'' : List ℕ} →
     Emits a (base + s.n) e e' r (closed c w s) →
     Stepped a (base + r.n) (p + length l) e' e'' r' (read_by c r p l (p + length l) t) →
     Stepped a (base + s.n) (p + length l) e e'' r' (tag_line_out c w s p l t)
 unfolding tag_line_out
-read-closed c base s p w l t {r = r} h k =
+read_closed_lem c base s p w l t {r = r} h k =
     let n : r.n ≡ s.n + length (closed c w s).entries = rw h.answer (closed_counts c w s) in
     record {
       emits = emits_then {m = base + r.n} h (omega (arith, n)) (rw (← h.answer) k.emits);

@@ -1,4 +1,4 @@
-use Rattle.reader.proofs.ApplyLaws.{applied_note, applied_other, applied-digits, applied_plain}
+use Rattle.reader.proofs.ApplyLaws.{applied_note, applied_other, applied_digits, applied_plain}
 use mathlib.Core.Logic.{inl, inr}
 use borrow.Author.Tests.{ne_eqb}
 use mathlib.Core.Path.{sym}
@@ -20,7 +20,7 @@ returns-in-4 c =
 pub returns-in-18 : goal.returns-in-18
 returns-in-18 c =
     let a = c.args in
-    rw (c.in-18.is, applied-digits a.c a.value.now a.place a.b, ← c.table_by-t.ensures)
+    rw (c.in-18.is, applied_digits a.c a.value.now a.place a.b, ← c.table_by-t.ensures)
 
 pub returns-in_default : goal.returns-in_default
 returns-in_default c =

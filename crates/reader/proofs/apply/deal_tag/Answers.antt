@@ -1,4 +1,4 @@
-use Rattle.reader.proofs.ApplyLaws.{applied-dealt, applied-unparsed, applied-blank}
+use Rattle.reader.proofs.ApplyLaws.{applied_dealt, applied_unparsed, applied_blank}
 use mathlib.Core.Path.{sym, ◌∙◌}
 use borrow.Author.Rules.{rules}
 use borrow.Author.Tests.{eq-eqb, ne_eqb}
@@ -8,16 +8,16 @@ pub returns-then-trim-eq0 : goal.returns-then-trim-eq0
 returns-then-trim-eq0 c =
     let a = c.args in
     let e = sym c.read_deal.ensures.0 ∙ c.in_default.is in
-    sym (applied-blank a.c a.value.now a.place a.b e (rw (← c.trim.ensures) (eq-eqb _ _ c.if-trim-eq0.true)))
+    sym (applied_blank a.c a.value.now a.place a.b e (rw (← c.trim.ensures) (eq-eqb _ _ c.if-trim-eq0.true)))
 
 pub returns-in_default : goal.returns-in_default
 returns-in_default c =
     let a = c.args in
     let e = sym c.read_deal.ensures.0 ∙ c.in_default.is in
-    sym (applied-unparsed a.c a.value.now a.place a.b e (rw (← c.trim.ensures) (ne_eqb _ _ c.if-trim-eq0.false)))
+    sym (applied_unparsed a.c a.value.now a.place a.b e (rw (← c.trim.ensures) (ne_eqb _ _ c.if-trim-eq0.false)))
 
 pub returns : goal.returns
 returns c =
     let a = c.args in
     let e = sym c.read_deal.ensures.0 ∙ c.in-Dealt.is in
-    rw (applied-dealt a.c a.value.now a.place a.b _ e, ← c.parsed_deal-d.ensures)
+    rw (applied_dealt a.c a.value.now a.place a.b _ e, ← c.parsed_deal-d.ensures)

@@ -11,4 +11,4 @@ returns c =
     let z₂ = c.zero-2 in
     let a = c.read_records-t in
     let f = c.finish_reading in
-    read_all a.new.1.1.0 a.new.1.1.1.0 f.new.0 f.new.1.0 c.if-length-gt16777215.false z.ensures z₂.ensures a.auto.1.1.0 a.auto.1.1.1.0 a.ensures f.ensures
+    read_all a.new.cards a.new.entries f.new.cards f.new.entries c.if-length-gt16777215.false z.ensures z₂.ensures a.auto.cards a.auto.entries a.ensures f.ensures

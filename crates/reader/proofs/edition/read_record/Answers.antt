@@ -6,24 +6,22 @@ use Rattle.reader.proofs.EditionLaws.{own_length, record_few, record_in}
 use borrow.Author.Rules.{rules}
 use Rattle.reader.proofs.edition.read_record.Goals as goal
 
-own_is : (c : tie.After-upto) → c.upto.result.now ≡ take (c.before.before.before.before.before.args.e - c.before.before.before.before.before.args.a) (drop c.before.before.before.before.before.args.a c.before.before.before.before.before.args.text.now)
-own_is c = c.upto.ensures ∙ rw c.before.from.ensures
-
 pub read_board-s-requires : goal.read_board-s-requires
 read_board-s-requires c =
+    let o : c.upto-own.result.now ≡ take (c.args.e - c.args.a) (drop c.args.a c.args.text.now) = c.upto-own.ensures ∙ rw c.from.ensures in
     let l = own_length c.args.text.now c.args.a c.args.e c.requires.0 c.requires.1 in
-    (rw (own_is c) (omega (arith, l, c.requires.1, c.requires.2)), c.requires.3)
+    (rw o (omega (arith, l, c.requires.1, c.requires.2)), c.requires.3)
 
 pub overflow_add-result : goal.overflow_add-result
 overflow_add-result c =
-    let o = own_is c in
+    let o : c.upto-own.result.now ≡ take (c.args.e - c.args.a) (drop c.args.a c.args.text.now) = c.upto-own.ensures ∙ rw c.from.ensures in
     let l = own_length c.args.text.now c.args.a c.args.e c.requires.0 c.requires.1 in
     let few = rw o at (record_few c.args.c _ c.read_board-s.ensures.answer) in
     omega (arith, l, few, c.requires.1, c.requires.2, c.requires.3)
 
 pub returns : goal.returns
 returns c =
-    let o = own_is c in
+    let o : c.upto-own.result.now ≡ take (c.args.e - c.args.a) (drop c.args.a c.args.text.now) = c.upto-own.ensures ∙ rw c.from.ensures in
     let r = c.read_board-s in
     record_in _ _ _ (sym (own_length c.args.text.now c.args.a c.args.e c.requires.0 c.requires.1))
     (rw o at r.ensures) c.put_card.ensures refl

@@ -1,6 +1,7 @@
 use Prim.Native.Nat.{◌-◌}
 use native.Mathlib.Omega.{arith}
 use lib.ListN.{length}
+use Rattle.std.proofs.lemmas.Bool.{not_from_false, not_from_true}
 use Rattle.reader.proofs.EditionLaws.{Turn, turn_first, turn_few, turn_next, turn_stop, turn_end}
 use Rattle.reader.proofs.edition.read_records.Goals as goal
 
@@ -13,7 +14,7 @@ pub record_end-r-requires : goal.record_end-r-requires
 record_end-r-requires c = c.loop-a-test.true
 
 pub returns-then-not-met : goal.returns-then-not-met
-returns-then-not-met c = turn_stop c.loop-a.invariant c.record_end-r.ensures c.if-not-met.true
+returns-then-not-met c = turn_stop c.loop-a.invariant c.record_end-r.ensures (not_from_false _ c.if-not-met.true)
 
 pub read_record-n-requires : goal.read_record-n-requires
 read_record-n-requires c =
@@ -35,8 +36,8 @@ loop-a-smaller c =
 pub loop-a-preserved : goal.loop-a-preserved
 loop-a-preserved c =
     let d = c.read_record-n in
-    turn_next c.loop-a.invariant d.result d.new.1.1.1.1.0 d.new.1.1.1.1.1.1.0 c.record_end-r.ensures c.if-not-met.false
-    d.auto.1.1.1.1.0 d.auto.1.1.1.1.1.1.0 d.ensures
+    turn_next c.loop-a.invariant d.result d.new.cards d.new.entries c.record_end-r.ensures (not_from_true _ c.if-not-met.false)
+    d.auto.cards d.auto.entries d.ensures
 
 pub returns : goal.returns
 returns c = turn_end c.loop-a.invariant c.loop-a-test.false

@@ -1,6 +1,6 @@
 use Rattle.reader.proofs.LinesLaws.{LinesLeft, lines_start, left_few, lines_next, lines_done}
 use Rattle.reader.proofs.ReadingLaws.{section_none, kind_data, kind_directive, kind_tag, kind_brace, kind_bracket, line_bracket, line_directed, line_data, line_tag, line_braced, line_quiet}
-use Rattle.reader.proofs.TagStepLaws.{sound_later, closed_tags, closed_sound, read-closed}
+use Rattle.reader.proofs.TagStepLaws.{sound_later, closed_tags, closed_sound, read_closed_lem}
 use Rattle.reader.proofs.SectionLaws.{LineAt, line_at_lem}
 use Rattle.reader.specs.Boards.{counted_state, closed}
 use Rattle.reader.specs.PieceSteps.{Emits}
@@ -12,81 +12,59 @@ use Prim.Native.Nat.{◌+◌, ◌-◌, ◌*◌, ◌^◌, ◌≤◌}
 use lib.ListN.{length}
 use borrow.Author.Rules.{rules}
 use Rattle.reader.proofs.reading.read_board.Goals as goal
-
--- The line at hand, its place in the edition, and room for entries.
-line_of :
-    (c : tie.After-line-at invariant-loop decreases-loop) →
-    LineAt c.before.before.before.before.before.before.args.r.now c.before.before.loop.p c.line-at.result.now
-line_of c = line_at_lem c.before.before.before.before.before.before.args.r.now c.before.before.loop.p c.line-at.result.now c.before.loop-test.true c.line-at.ensures
-
-placed :
-    (c : tie.After-line-at invariant-loop decreases-loop) →
-    c.before.before.before.before.before.before.args.a + c.before.before.loop.p + length c.line-at.result.now ≤ 16777215
-placed c = omega (arith, (line_of c).inside, c.before.before.before.before.before.before.requires.0)
-
-room : (c : tie.At-loop invariant-loop decreases-loop) → c.before.before.before.before.args.base + c.loop.s.n ≤ 2 ^ 57
-room c = omega (arith, left_few c.loop.invariant, c.before.before.before.before.requires.0, c.before.before.before.before.requires.1)
-
--- Before a tag's own step its section is closed, if one was open.
-met :
-    (c : tie.Joined1 invariant-loop decreases-loop) →
-    let a = c.before.before.before.before.before.before.before.before.before.before.before.before.before.args in
-    let v = c.before.before.before.before.before.before.before.before.before.loop in
-    Emits a.a (a.base + v.s.n) v.entries c.if1.entries c.if1.s (closed a.c a.r.now v.s) × (c.if1.s.n ≤ v.s.n + 6 * length a.r.now + 1) × (length c.if1.entries ≡ length v.entries)
-met c =
-    let a = c.before.before.before.before.before.before.before.before.before.before.before.before.before.args in
-    let v = c.before.before.before.before.before.before.before.before.before.loop in
-    elim c.if1.branch [
-      | inl w ↦ rw (w.5, w.6) (w.2.ensures.0, w.2.ensures.1, w.3.given)
-      | inr w ↦ rw (w.1, w.2) (section_none a.c a.r.now v.s _ _ _ (eq-eqb _ _ w.0.left), omega arith, refl)
-    ]
+use Rattle.reader.proofs.reading.read_board.Goals.{then-o-ne0, else-o-ne0}
 
 pub loop-p-init : goal.loop-p-init
 loop-p-init c = lines_start _ _ _ _ _ _ c.no_state-s.ensures
 
 pub overflow_add-base : goal.overflow_add-base
-overflow_add-base c = omega (arith, room c)
+overflow_add-base c = omega (arith, left_few c.loop-p.invariant, c.requires.0, c.requires.1)
 
 pub put_data-n-requires : goal.put_data-n-requires
 put_data-n-requires c =
     let k = rw c.in-Data.is at c.kind_in.ensures.1 in
-    omega (arith, placed c, k)
+    omega (arith, (line_at_lem c.args.r.now c.loop-p.p c.line_at-l.result.now c.loop-p-test.true c.line_at-l.ensures).inside, c.requires.0, k)
 
 pub overflow_add-s : goal.overflow_add-s
-overflow_add-s c = omega (arith, c.put_data-n.ensures.1, room c)
+overflow_add-s c = omega (arith, c.put_data-n.ensures.1, left_few c.loop-p.invariant, c.requires.0, c.requires.1)
 
 pub overflow_add-p : goal.overflow_add-p
-overflow_add-p c = omega (arith, placed c)
+overflow_add-p c = omega (arith, (line_at_lem c.args.r.now c.loop-p.p c.line_at-l.result.now c.loop-p-test.true c.line_at-l.ensures).inside, c.requires.0)
 
 pub loop-p-smaller-in-Data : goal.loop-p-smaller-in-Data
-loop-p-smaller-in-Data c = let x = line_of c in omega (arith, x.inside, x.filled)
+loop-p-smaller-in-Data c = let x = line_at_lem c.args.r.now c.loop-p.p c.line_at-l.result.now c.loop-p-test.true c.line_at-l.ensures in omega (arith, x.inside, x.filled)
 
 pub loop-p-preserved-in-Data : goal.loop-p-preserved-in-Data
 loop-p-preserved-in-Data c =
     let a = c.args in
     let v = c.loop-p in
     let k = kind_data c.kind_in.ensures.0 c.in-Data.is in
-    lines_next v.invariant _ (line_of c) _ _
+    lines_next v.invariant _ (line_at_lem c.args.r.now c.loop-p.p c.line_at-l.result.now c.loop-p-test.true c.line_at-l.ensures) _ _
     (line_data a.c a.r.now v.s v.p c.line_at-l.result.now a.a _ v.invariant.sound _ k.0 k.1 (record { answer = ap (counted_state v.s) c.put_data-n.ensures.0.answer; words = c.put_data-n.ensures.0.words }))
     (search rules)
 
 pub close_sections-s-requires : goal.close_sections-s-requires
 close_sections-s-requires c =
     let v = c.loop-p.invariant in
-    (c.requires.0, room c, sound_later v.inside v.sound)
+    (c.requires.0, omega (arith, left_few c.loop-p.invariant, c.requires.0, c.requires.1), sound_later v.inside v.sound)
 
 pub tag_read-s-requires : goal.tag_read-s-requires
 tag_read-s-requires c =
     let a = c.args in
     let v = c.loop-p in
-    let m = met c in
-    (placed c, omega (arith, m.1, room c, c.requires.0), rw m.0.answer (closed_sound a.c a.r.now v.s v.invariant.sound), rw (m.0.answer, closed_tags a.c a.r.now v.s) (omega (arith, v.invariant.tags_few, v.invariant.inside, c.requires.0)), rw c.in-Tag.is at c.kind_in.ensures.1)
+    let m : Emits a.a (a.base + v.s.n) v.entries c.if-o-ne0.entries c.if-o-ne0.s (closed a.c a.r.now v.s) × (c.if-o-ne0.s.n ≤ v.s.n + 6 * length a.r.now + 1) =
+      elim c.if-o-ne0.branch [
+        | then-o-ne0 w ↦ rw (w.entries-is, w.s-is) (w.close_sections-s.ensures.0, w.close_sections-s.ensures.1)
+        | else-o-ne0 w ↦ rw (w.entries-is, w.s-is) (section_none a.c a.r.now v.s _ _ _ (eq-eqb _ _ w.if-o-ne0.false), omega arith)
+      ] in
+    let l = line_at_lem c.args.r.now c.loop-p.p c.line_at-l.result.now c.loop-p-test.true c.line_at-l.ensures in
+    (omega (arith, l.inside, c.requires.0), omega (arith, m.1, left_few c.loop-p.invariant, c.requires.0, c.requires.1), rw m.0.answer (closed_sound a.c a.r.now v.s v.invariant.sound), rw (m.0.answer, closed_tags a.c a.r.now v.s) (omega (arith, v.invariant.tags_few, v.invariant.inside, c.requires.0)), rw c.in-Tag.is at c.kind_in.ensures.1)
 
 pub overflow_add-p-in-Tag : goal.overflow_add-p-in-Tag
-overflow_add-p-in-Tag c = omega (arith, placed c)
+overflow_add-p-in-Tag c = omega (arith, (line_at_lem c.args.r.now c.loop-p.p c.line_at-l.result.now c.loop-p-test.true c.line_at-l.ensures).inside, c.requires.0)
 
 pub loop-p-smaller-in-Tag : goal.loop-p-smaller-in-Tag
-loop-p-smaller-in-Tag c = let x = line_of c in omega (arith, x.inside, x.filled)
+loop-p-smaller-in-Tag c = let x = line_at_lem c.args.r.now c.loop-p.p c.line_at-l.result.now c.loop-p-test.true c.line_at-l.ensures in omega (arith, x.inside, x.filled)
 
 pub loop-p-preserved-in-Tag : goal.loop-p-preserved-in-Tag
 loop-p-preserved-in-Tag c =
@@ -94,85 +72,89 @@ loop-p-preserved-in-Tag c =
     let v = c.loop-p in
     let l = c.line_at-l.result.now in
     let k = kind_tag c.kind_in.ensures.0 c.in-Tag.is in
-    let m = met c in
-    lines_next v.invariant _ (line_of c) _ _
-    (line_tag a.c a.r.now v.s v.p l a.a _ v.invariant.sound _ k.0 k.1 (read-closed a.c a.base v.s v.p a.r.now l _ m.0 c.tag_read-s.ensures))
-    (c.entries-in-Tag-1.given ∙ m.2)
+    let m : Emits a.a (a.base + v.s.n) v.entries c.if-o-ne0.entries c.if-o-ne0.s (closed a.c a.r.now v.s) × (c.if-o-ne0.s.n ≤ v.s.n + 6 * length a.r.now + 1) =
+      elim c.if-o-ne0.branch [
+        | then-o-ne0 w ↦ rw (w.entries-is, w.s-is) (w.close_sections-s.ensures.0, w.close_sections-s.ensures.1)
+        | else-o-ne0 w ↦ rw (w.entries-is, w.s-is) (section_none a.c a.r.now v.s _ _ _ (eq-eqb _ _ w.if-o-ne0.false), omega arith)
+      ] in
+    lines_next v.invariant _ (line_at_lem c.args.r.now c.loop-p.p c.line_at-l.result.now c.loop-p-test.true c.line_at-l.ensures) _ _
+    (line_tag a.c a.r.now v.s v.p l a.a _ v.invariant.sound _ k.0 k.1 (read_closed_lem a.c a.base v.s v.p a.r.now l _ m.0 c.tag_read-s.ensures))
+    (search rules)
 
 pub directive_step-s-requires : goal.directive_step-s-requires
 directive_step-s-requires c =
     let k = rw c.in-Directive.is at c.kind_in.ensures.1 in
-    (omega (arith, placed c, k), omega (arith, room c))
+    (omega (arith, (line_at_lem c.args.r.now c.loop-p.p c.line_at-l.result.now c.loop-p-test.true c.line_at-l.ensures).inside, c.requires.0, k), omega (arith, left_few c.loop-p.invariant, c.requires.0, c.requires.1))
 
 pub overflow_add-p-in-Directive : goal.overflow_add-p-in-Directive
-overflow_add-p-in-Directive c = omega (arith, placed c)
+overflow_add-p-in-Directive c = omega (arith, (line_at_lem c.args.r.now c.loop-p.p c.line_at-l.result.now c.loop-p-test.true c.line_at-l.ensures).inside, c.requires.0)
 
 pub loop-p-smaller-in-Directive : goal.loop-p-smaller-in-Directive
-loop-p-smaller-in-Directive c = let x = line_of c in omega (arith, x.inside, x.filled)
+loop-p-smaller-in-Directive c = let x = line_at_lem c.args.r.now c.loop-p.p c.line_at-l.result.now c.loop-p-test.true c.line_at-l.ensures in omega (arith, x.inside, x.filled)
 
 pub loop-p-preserved-in-Directive : goal.loop-p-preserved-in-Directive
 loop-p-preserved-in-Directive c =
     let a = c.args in
     let v = c.loop-p in
     let k = kind_directive c.kind_in.ensures.0 c.in-Directive.is in
-    lines_next v.invariant _ (line_of c) _ _
+    lines_next v.invariant _ (line_at_lem c.args.r.now c.loop-p.p c.line_at-l.result.now c.loop-p-test.true c.line_at-l.ensures) _ _
     (line_directed a.c a.r.now v.s v.p c.line_at-l.result.now a.a _ v.invariant.sound _ k.0 k.1 c.directive_step-s.ensures)
     (search rules)
 
 pub brace_line-s-requires : goal.brace_line-s-requires
-brace_line-s-requires c = (placed c, room c)
+brace_line-s-requires c = (omega (arith, (line_at_lem c.args.r.now c.loop-p.p c.line_at-l.result.now c.loop-p-test.true c.line_at-l.ensures).inside, c.requires.0), omega (arith, left_few c.loop-p.invariant, c.requires.0, c.requires.1))
 
 pub overflow_add-p-in-Brace : goal.overflow_add-p-in-Brace
-overflow_add-p-in-Brace c = omega (arith, placed c)
+overflow_add-p-in-Brace c = omega (arith, (line_at_lem c.args.r.now c.loop-p.p c.line_at-l.result.now c.loop-p-test.true c.line_at-l.ensures).inside, c.requires.0)
 
 pub loop-p-smaller-in-Brace : goal.loop-p-smaller-in-Brace
-loop-p-smaller-in-Brace c = let x = line_of c in omega (arith, x.inside, x.filled)
+loop-p-smaller-in-Brace c = let x = line_at_lem c.args.r.now c.loop-p.p c.line_at-l.result.now c.loop-p-test.true c.line_at-l.ensures in omega (arith, x.inside, x.filled)
 
 pub loop-p-preserved-in-Brace : goal.loop-p-preserved-in-Brace
 loop-p-preserved-in-Brace c =
     let a = c.args in
     let v = c.loop-p in
     let k = kind_brace c.kind_in.ensures.0 c.in-Brace.is in
-    lines_next v.invariant _ (line_of c) _ _
+    lines_next v.invariant _ (line_at_lem c.args.r.now c.loop-p.p c.line_at-l.result.now c.loop-p-test.true c.line_at-l.ensures) _ _
     (line_braced a.c a.r.now v.s v.p c.line_at-l.result.now a.a _ v.invariant.sound k.0 k.1 c.brace_line-s.ensures.0 c.brace_line-s.ensures.1)
     (search rules)
 
 pub quiet_line-s-requires : goal.quiet_line-s-requires
-quiet_line-s-requires c = (placed c, room c, c.loop-p.invariant.sound.block_before)
+quiet_line-s-requires c = (omega (arith, (line_at_lem c.args.r.now c.loop-p.p c.line_at-l.result.now c.loop-p-test.true c.line_at-l.ensures).inside, c.requires.0), omega (arith, left_few c.loop-p.invariant, c.requires.0, c.requires.1), c.loop-p.invariant.sound.block_before)
 
 pub overflow_add-p-in-Blank : goal.overflow_add-p-in-Blank
-overflow_add-p-in-Blank c = omega (arith, placed c)
+overflow_add-p-in-Blank c = omega (arith, (line_at_lem c.args.r.now c.loop-p.p c.line_at-l.result.now c.loop-p-test.true c.line_at-l.ensures).inside, c.requires.0)
 
 pub loop-p-smaller-in-Blank : goal.loop-p-smaller-in-Blank
-loop-p-smaller-in-Blank c = let x = line_of c in omega (arith, x.inside, x.filled)
+loop-p-smaller-in-Blank c = let x = line_at_lem c.args.r.now c.loop-p.p c.line_at-l.result.now c.loop-p-test.true c.line_at-l.ensures in omega (arith, x.inside, x.filled)
 
 pub loop-p-preserved-in-Blank : goal.loop-p-preserved-in-Blank
 loop-p-preserved-in-Blank c =
     let a = c.args in
     let v = c.loop-p in
-    lines_next v.invariant _ (line_of c) _ _
+    lines_next v.invariant _ (line_at_lem c.args.r.now c.loop-p.p c.line_at-l.result.now c.loop-p-test.true c.line_at-l.ensures) _ _
     (line_quiet a.c a.r.now v.s v.p c.line_at-l.result.now a.a _ v.invariant.sound c.kind_in.ensures.0 c.in-Blank.is c.quiet_line-s.ensures.0 c.quiet_line-s.ensures.1)
     (search rules)
 
 pub overflow_add-p-in-Bracket : goal.overflow_add-p-in-Bracket
-overflow_add-p-in-Bracket c = omega (arith, placed c)
+overflow_add-p-in-Bracket c = omega (arith, (line_at_lem c.args.r.now c.loop-p.p c.line_at-l.result.now c.loop-p-test.true c.line_at-l.ensures).inside, c.requires.0)
 
 pub loop-p-smaller : goal.loop-p-smaller
-loop-p-smaller c = let x = line_of c in omega (arith, x.inside, x.filled)
+loop-p-smaller c = let x = line_at_lem c.args.r.now c.loop-p.p c.line_at-l.result.now c.loop-p-test.true c.line_at-l.ensures in omega (arith, x.inside, x.filled)
 
 pub loop-p-preserved : goal.loop-p-preserved
 loop-p-preserved c =
     let a = c.args in
     let v = c.loop-p in
     let k = kind_bracket c.kind_in.ensures.0 c.in-Bracket.is in
-    lines_next v.invariant _ (line_of c) _ _
+    lines_next v.invariant _ (line_at_lem c.args.r.now c.loop-p.p c.line_at-l.result.now c.loop-p-test.true c.line_at-l.ensures) _ _
     (line_bracket a.c a.r.now v.s v.p c.line_at-l.result.now a.a _ v.invariant.sound k.0 k.1)
     (search rules)
 
 pub close_sections-requires : goal.close_sections-requires
 close_sections-requires c =
     let v = c.loop-p.invariant in
-    (c.requires.0, room c, sound_later v.inside v.sound)
+    (c.requires.0, omega (arith, left_few c.loop-p.invariant, c.requires.0, c.requires.1), sound_later v.inside v.sound)
 
 pub returns : goal.returns
 returns c = lines_done c.loop-p.invariant c.loop-p-test.false _ _ c.close_sections.ensures.0

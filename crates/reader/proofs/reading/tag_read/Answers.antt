@@ -1,4 +1,4 @@
-use Rattle.reader.proofs.TagStepLaws.{tag_inside, read_plain, read_comment, read-data}
+use Rattle.reader.proofs.TagStepLaws.{tag_inside, read_plain, read_comment, read_data}
 use Rattle.reader.specs.declared.board.State.{State}
 use Rattle.reader.specs.Boards.{tagged}
 use mathlib.Core.Path.{ap}
@@ -40,4 +40,4 @@ returns-in-WithComment c =
 pub returns-in-WithData : goal.returns-in-WithData
 returns-in-WithData c =
     let a = c.args in
-    read-data a.c a.base a.s a.p a.l.now c.in-WithData.is c.tag_of-tag.ensures c.split_of-split.ensures.0 c.tag_step-next.ensures c.data_step.ensures
+    read_data a.c a.base a.s a.p a.l.now c.in-WithData.is c.tag_of-tag.ensures c.split_of-split.ensures.0 c.tag_step-next.ensures c.data_step.ensures

@@ -1,6 +1,6 @@
 use mathlib.Core.Path.{◌∙◌}
 use native.Mathlib.Omega.{arith}
-use Rattle.reader.proofs.TagStepLaws.{tag-stepped}
+use Rattle.reader.proofs.TagStepLaws.{tag_stepped}
 use borrow.Author.Rules.{rules}
 use Rattle.reader.proofs.reading.tag_step.Goals as goal
 
@@ -15,5 +15,5 @@ overflow_add-result c = omega (arith, c.requires.1)
 
 pub returns : goal.returns
 returns c =
-    tag-stepped c.args.c c.args.l.now c.args.tag c.args.split c.requires.2 (omega arith) c.requires.5
+    tag_stepped c.args.c c.args.l.now c.args.tag c.args.split c.requires.2 (omega arith) c.requires.5
     c.put_part.ensures c.put_part-2.ensures c.cut_span.ensures c.tag_number-k.ensures.0 c.cut_span-v.ensures c.apply_tag.ensures c.open_by.ensures.0
