@@ -42,6 +42,8 @@ among_right [] a = a
 among_right (x ∷ xs) a = there (among_right xs a)
 
 pub among_take : {x : List ℕ} (n : ℕ) (xs : List (List ℕ)) → Among x (take n xs) → Among x xs
+among_take zero xs a = elim a [ ]
+among_take (suc n) [] a = elim a [ ]
 among_take (suc n) (y ∷ ys) here = here
 among_take (suc n) (y ∷ ys) (there a) = there (among_take n ys a)
 
@@ -81,6 +83,7 @@ found test k m (x ∷ xs) e n =
     before i g t (suc j) h = g j (omega arith)
 
 pub found_none : (test : List ℕ → Bool) (k : ℕ) (xs : List (List ℕ)) → 0 < k → first_from test k xs ≡ 0 → (x : List ℕ) → Among x xs → test x ≡ false
+found_none test k [] h e y a = elim a [ ]
 found_none test k (x ∷ xs) h e y a =
     by_cases (test x)
     (λ t. let z = rw t at e in absurd (omega arith))

@@ -52,8 +52,8 @@ module _ (R : RattleType) {M : Type 1} {𝓤 : Ura M} (𝓛 : Logic 𝓤) where
         (H.⇛ (ex 𝓤 (λ (δ : GName). sep 𝓤 (sem 𝓛 ((MutSlice ℓ' κ' R).own_val (named_as δ x) (mut_slice_vals x))) (sem 𝓛 (kept_f R κ q κ' x.ghost_name δ x.now x.ref_ptr.0 x.ref_ptr.1)))))
     lends κ' =
         qed 𝓛 (‵ ((MutSlice ℓ κ R).own_val x (mut_slice_vals x)) ∷ ‵ (flft κ q) ∷ []) ∵ updating ! $
-        use1 𝓛 (‵ ((O.MutSlice ℓ κ R).own x)) (bare x (held κ x)) $
-        use2 𝓛 (later (some (λ (δ : GName). ‵ ((O.MutSlice ℓ' κ' R).own (named_as δ x)) ⊛ ‵ (kept_f R κ q κ' x.ghost_name δ x.now x.ref_ptr.0 x.ref_ptr.1)))) (sl_relend 𝓛 R κ q κ' x.ref_ptr.0 x.ref_ptr.1 x.ghost_name x.now) $
+        use1 𝓛 (‵ ((O.MutSlice ℓ κ R).own_val x)) (bare x (held κ x)) $
+        use2 𝓛 (later (some (λ (δ : GName). ‵ ((O.MutSlice ℓ' κ' R).own_val (named_as δ x)) ⊛ ‵ (kept_f R κ q κ' x.ghost_name δ x.now x.ref_ptr.0 x.ref_ptr.1)))) (sl_relend 𝓛 R κ q κ' x.ref_ptr.0 x.ref_ptr.1 x.ghost_name x.now) $
         await ! tt $ pick ! (λ δ. split ! $
         use1 𝓛 (‵ ((MutSlice ℓ' κ' R).own_val (named_as δ x) (mut_slice_vals x))) (full (named_as δ x) (mut_slice_vals x) refl (held κ' (named_as δ x))) $
         at_once ! $
@@ -66,9 +66,9 @@ module _ (R : RattleType) {M : Type 1} {𝓤 : Ura M} (𝓛 : Logic 𝓤) where
         (H.⇛ (ex 𝓤 (λ (ε : GName). sep 𝓤 (sem 𝓛 ((ShrSlice ℓ' κ R).own_val (record { ref_ptr = x.ptr; ghost_name = ε; now = ys }) (shr_slice_vals x))) (sep 𝓤 (sem 𝓛 (finally R x.name ys)) (A.lft κ q)))))
     shares κ' δ ys e =
         qed 𝓛 (‵ (fdead κ') ∷ ‵ (kept_f R κ q κ' x.ghost_name δ x.now x.ref_ptr.0 x.ref_ptr.1) ∷ ‵ (finally R δ ys) ∷ []) ∵ updating ! $
-        use3 𝓛 (later (given (length ys ≡ length x.now) (‵ ((O.MutSlice ℓ κ R).own (record { ref_ptr = x.ref_ptr; ghost_name = x.ghost_name; now = ys })) ⊛ ‵ (flft κ q)))) (sl_relent_backˡ 𝓛 R κ q κ' x.ref_ptr.0 x.ref_ptr.1 x.ghost_name δ x.now ys) $
+        use3 𝓛 (later (given (length ys ≡ length x.now) (‵ ((O.MutSlice ℓ κ R).own_val (record { ref_ptr = x.ref_ptr; ghost_name = x.ghost_name; now = ys })) ⊛ ‵ (flft κ q)))) (sl_relent_backˡ 𝓛 R κ q κ' x.ref_ptr.0 x.ref_ptr.1 x.ghost_name δ x.now ys) $
         await ! tt $ learn ! (λ _. split ! $
-        use2 𝓛 (later (some (λ (ε : GName). ‵ ((O.ShrSlice ℓ' κ R).own (record { ref_ptr = x.ptr; ghost_name = ε; now = ys })) ⊛ (‵ (finally R x.name ys) ⊛ ‵ (flft κ q))))) (sl_Share 𝓛 R x.ptr.0 x.ptr.1 x.name ys κ q) $
+        use2 𝓛 (later (some (λ (ε : GName). ‵ ((O.ShrSlice ℓ' κ R).own_val (record { ref_ptr = x.ptr; ghost_name = ε; now = ys })) ⊛ (‵ (finally R x.name ys) ⊛ ‵ (flft κ q))))) (sl_Share 𝓛 R x.ptr.0 x.ptr.1 x.name ys κ q) $
         await ! tt $ pick ! (λ ε. split ! $
         use1 𝓛 (‵ ((ShrSlice ℓ' κ R).own_val (record { ref_ptr = x.ptr; ghost_name = ε; now = ys }) (shr_slice_vals x))) (full (record { ref_ptr = x.ptr; ghost_name = ε; now = ys }) (shr_slice_vals x) (ap (λ (n : ℕ). slice_val x.ptr n ∷ []) (sym e)) (shared κ (record { ref_ptr = x.ptr; ghost_name = ε; now = ys }))) $
         at_once ! $
