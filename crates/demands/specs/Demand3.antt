@@ -71,7 +71,7 @@ RestZero =
 -- read alike.
 pub record HasFellow (board : Board) (place boards : ℕ) (cards entries : List ℕ) : Type 0 where
   pub fellow : ℕ
-  pub is_there_lem : fellow < boards
+  pub is_there : fellow < boards
   pub starts : record_start (card_here fellow cards) ≡ place
   pub only : (j : ℕ) → j < boards → record_start (card_here j cards) ≡ place → j ≡ fellow
   pub alike : ReadAlike board (board_here fellow cards entries)
@@ -167,7 +167,7 @@ pub record FinishedAt (c : Conventions) (old new old_cards new_cards : List ℕ)
   pub no_deal : is_whole card ≡ false → is_whole finished ≡ false
   pub no_deal_table : is_whole card ≡ false → has_table finished ≡ has_table card
   pub no_deal_cells : is_whole card ≡ false → has_table card ≡ true → cells finished ≡ cells card
-  pub with_table_lem : (h : Hands) → WithDeal h card → Tabled h finished
+  pub with_table : (h : Hands) → WithDeal h card → Tabled h finished
   pub own_cells : (h : Hands) → Tabled h card → cells finished ≡ cells card
   pub cells_from : (h : Hands) → WithDeal h card → (boxes boxes' : Boxes) (answer' : List ℕ) → StateOut c old new boxes boxes' (k + 1) answer' 0
       → CellsFrom h card old_cards new_cards listed slips answers (get_or answer' 3 0) (get_or answer' 4 0) (cells finished)

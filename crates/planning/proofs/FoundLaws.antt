@@ -125,7 +125,7 @@ module _ (test : List ℕ → Bool) (P : List ℕ → Type 0) (xs : List (List �
       let b : k < length xs = omega (arith, f.below) in
       record {
         from_one = omega arith;
-        is_there_lem = omega arith;
+        is_there = omega arith;
         holds = (tells (card_from xs k) (card_among xs k b)).0 (rw i at f.passes);
         none_before = before (rw i at f.fails_before) b;
       }
@@ -137,7 +137,7 @@ module _ (test : List ℕ → Bool) (P : List ℕ → Type 0) (xs : List (List �
   pub first_is_found : (k : ℕ) → First P xs k → first_from test 1 xs ≡ k
   first_is_found zero f = absurd (omega (arith, f.from_one))
   first_is_found (suc k) f =
-      let b : k < length xs = omega (arith, f.is_there_lem) in
+      let b : k < length xs = omega (arith, f.is_there) in
       found_first test 1 k xs b ((tells (card_from xs k) (card_among xs k b)).1 f.holds)
       (λ j l. no_pass (card_from xs j) (card_among xs j (omega arith)) (f.none_before (suc j) (omega arith) (omega arith)))
       ∙ omega arith
