@@ -120,12 +120,12 @@ module _ (c : Conventions) (old new answers : List ℕ) (k : ℕ) (below : k < l
     cells_of_lem (Old zero) q e w = absurd (omega (arith, e.1.from_one))
     cells_of_lem (Old (suc j)) q e w =
         let m : suc j - 1 ≡ j = omega arith in
-        let l : j < boards_in c old = omega (arith, e.1.is_there_lem) in
+        let l : j < boards_in c old = omega (arith, e.1.is_there) in
         cells.old refl (record { from_one = e.1.from_one; tabled = rw (m, olds-are j l) e.1.holds; cells_are = rw (m, olds-are j l) })
     cells_of_lem (Near zero) q e w = absurd (omega (arith, e.2.from_one))
     cells_of_lem (Near (suc j)) q e w =
         let m : suc j - 1 ≡ j = omega arith in
-        let l : j < boards_in c new = omega (arith, e.2.is_there_lem) in
+        let l : j < boards_in c new = omega (arith, e.2.is_there) in
         cells.near refl (record { from_one = e.2.from_one; tabled = rw (m, news-are j l) e.2.holds; cells_are = rw (m, news-are j l) })
     cells_of_lem (Twin zero) q e w = absurd (omega (arith, e.3.from_one))
     cells_of_lem (Twin (suc j)) q e w =

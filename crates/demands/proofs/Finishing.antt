@@ -202,7 +202,7 @@ module _ (c : Conventions) (old new answers finished : List ℕ) (e : FinishedEd
         no_deal = λ w. f.whole ∙ w;
         no_deal_table = λ w. f.table ∙ blank_has c old new answers k l w;
         no_deal_cells = λ w t. f.cells (blank_kind c old new answers k l w t) ∙ blank_cells c old new answers k l w;
-        with_table_lem = tabled k l;
+        with_table = tabled k l;
         own_cells = λ h t.
             f.cells (whole_kind c old new answers k l t.deal.whole) ∙ own_cells c old new answers k l t.deal.whole t.table;
         cells_from = λ h d boxes boxes' answer' o.

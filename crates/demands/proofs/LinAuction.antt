@@ -36,15 +36,21 @@ pub data CallEntries : List ℕ → List Entry → Type 0 where
 
 unannotated : (r : List ℕ) (ks : List ℕ) (es : List Entry) → CallEntries ks es → annotations_first (items_of r es) ≡ []
 unfolding item_of
+unannotated r [] (e ∷ es) a = elim a [ ]
+unannotated r (k ∷ ks) [] a = elim a [ ]
 unannotated r [] [] no_call = refl
 unannotated r (k ∷ ks) (e ∷ es) (a_call h) = refl
 
 pub calls_inside : (r : List ℕ) (ks : List ℕ) (es : List Entry) → CallEntries ks es → calls_in (items_of r es) ≡ map plain_call ks
 unfolding item_of
+calls_inside r [] (e ∷ es) a = elim a [ ]
+calls_inside r (k ∷ ks) [] a = elim a [ ]
 calls_inside r [] [] no_call = refl
 calls_inside r (k ∷ ks) (e ∷ es) (a_call h) = rw (unannotated r ks es h) (ap (λ (x : List PlainCall). plain_call k ∷ x) (calls_inside r ks es h))
 
 pub calls_length : (ks : List ℕ) (es : List Entry) → CallEntries ks es → length es ≡ length ks
+calls_length [] (e ∷ es) a = elim a [ ]
+calls_length (k ∷ ks) [] a = elim a [ ]
 calls_length [] [] no_call = refl
 calls_length (k ∷ ks) (e ∷ es) (a_call h) = ap suc (calls_length ks es h)
 

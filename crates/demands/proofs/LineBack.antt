@@ -224,11 +224,14 @@ inside_line x n =
 -- A byte that is no `}` in front.
 inside_byte : (b : ℕ) (v : List ℕ) (ls : List (List ℕ)) → eqb b 125 ≡ false → Inside v ls → Inside (b ∷ v) (join_line false b ls)
 unfolding has_brace
+inside_byte b v [] n a = elim a [ ]
+inside_byte b v (l ∷ []) n (inside (more h s) u) = elim s [ ]
 inside_byte b v (l ∷ []) n (inside (last h) u) = inside (last {l = b ∷ l} (rw (n, h))) (rw n (ap (λ (x : List ℕ). b ∷ x) u))
 inside_byte b v (l ∷ m ∷ ms) n (inside (more h s) u) = inside (more {l = b ∷ l} (rw (n, h)) s) (ap (λ (x : List ℕ). b ∷ x) u)
 
 inside_feed : (v : List ℕ) (ls : List (List ℕ)) → Inside v ls → Inside (10 ∷ v) ((10 ∷ []) ∷ ls)
 unfolding has_brace
+inside_feed v [] a = elim a [ ]
 inside_feed v (l ∷ ls) (inside s u) = inside (more {l = 10 ∷ []} refl s) (ap (λ (x : List ℕ). 10 ∷ x) u)
 
 -- The lines of what follows a block's `{`.
@@ -246,6 +249,7 @@ inside_lines (b ∷ bs) e =
     (λ u. rw t (inside_byte b bs (raw_lines (bs ++ 125 ∷ 10 ∷ [])) u (inside_lines bs h.1))))
 
 block_by : (i : ℕ) (v : List ℕ) (ls : List (List ℕ)) → Inside v ls → ReadsAs (block_line i v) (join_line false 123 ls)
+block_by i v [] a = elim a [ ]
 block_by i v (l ∷ ls) (inside s u) = block (brace_kind l) s u
 
 -- THEOREM. Each line that can be written, with its LF, reads as what it was written as.

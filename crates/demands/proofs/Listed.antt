@@ -145,7 +145,7 @@ module _ (olds news : List (List ℕ)) (so : Handed olds) (sn : Handed news) whe
       let d = u.some_new.holds in
       let f = rw d.hands at (first_deal x u.some_new.among d.whole) in
       let j = f.index in
-      let l : j < length news = omega (arith, f.is.is_there_lem) in
+      let l : j < length news = omega (arith, f.is.is_there) in
       let e = first_solves olds news so sn h j l f.is.holds u.none_old u.none_new (λ m n w. f.is.none_before (suc m) (omega arith) (omega arith) w) in
       let s = board_slip olds news 1 [] news j l (sym (state_here_lem olds news j l) ∙ e) in
       record { slip = s.index; below = s.below; holds = rw (s.is, ← f.is.holds.hands) (slip_holds (1 + j) (card_from news j)) }
@@ -220,7 +220,7 @@ module _ (olds news : List (List ℕ)) (so : Handed olds) (sn : Handed news) whe
             record {
               position = suc s.index;
               from_one = omega arith;
-              is_there_lem = omega (arith, s.below);
+              is_there = omega (arith, s.below);
               is = at k l ∙ s.is ∙ ap (λ (m : ℕ). slip_of m (card_from news s.index)) n;
               state = state_here_lem olds news s.index s.below ∙ s.solves;
             };
@@ -293,8 +293,8 @@ at_among xs (suc i) o l = card_among xs i (omega arith)
 pub no_solve : (c : Conventions) (old new slip : List ℕ) → ((x : List ℕ) → Among x (cards_of c new) → is_whole x ≡ true → has_table x ≡ true)
     → OfSolve (plans_of c old new) (cards_of c new) slip → ⊥
 no_solve c old new slip all s =
-    let f = ((states_mean c old new s.position s.from_one s.is_there_lem Solve).0 s.state).0 in
-    clash (sym f.no_table ∙ all (card_at (cards_of c new) s.position) (at_among (cards_of c new) s.position s.from_one s.is_there_lem) f.whole)
+    let f = ((states_mean c old new s.position s.from_one s.is_there Solve).0 s.state).0 in
+    clash (sym f.no_table ∙ all (card_at (cards_of c new) s.position) (at_among (cards_of c new) s.position s.from_one s.is_there) f.whole)
 
 pub nothing_listed : NothingListed
 nothing_listed c old new boxes slips boxes' slips' t p all =

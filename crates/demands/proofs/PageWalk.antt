@@ -112,6 +112,7 @@ record Ends (m : Bool) (ls : List (List ℕ)) : Type 0 where
 
 shut_ends : (m : Bool) (ls : List (List ℕ)) → Shut ls → Ends m ls
 unfolding scanned commentary_after closes_record
+shut_ends m [] a = elim a [ ]
 shut_ends m (l ∷ []) (last h) = record { calmly = refl; lands = rw h }
 shut_ends m (l ∷ ls) (more h s) = let i = shut_ends m ls s in record { calmly = rw h i.calmly; lands = rw h i.lands }
 
@@ -129,6 +130,13 @@ or_false false = refl
 
 reads_pass : (m : Bool) (l : WrittenLine) (ls : List (List ℕ)) → ReadsAs l ls → Passes m (is_tag_line l) ls
 unfolding scanned commentary_after has_brace
+reads_pass m (tag_line n v) [] a = elim a [ ]
+reads_pass m (tag_line n v) (l ∷ (_ ∷ _)) a = elim a [ ]
+reads_pass m (data_line d) [] a = elim a [ ]
+reads_pass m (data_line d) (l ∷ (_ ∷ _)) a = elim a [ ]
+reads_pass m (directive_line i d) [] a = elim a [ ]
+reads_pass m (directive_line i d) (l ∷ (_ ∷ _)) a = elim a [ ]
+reads_pass m (block_line i v) [] a = elim a [ ]
 reads_pass m (tag_line n v) (l ∷ []) (tag {t = t} k x y) = one_passes m l _ k refl refl
 reads_pass m (data_line d) (l ∷ []) (section k x) = one_passes m l _ k refl refl
 reads_pass m (directive_line i d) (l ∷ []) (directive g k x) = one_passes m l _ k refl refl

@@ -252,7 +252,7 @@ has_fellow c text text' cards entries cards' entries' h h' k a n a' r l b f =
     ∙ starts_at c d m q (omega (arith, RecordEnds y.record_told, h'.short)) in
     record {
       fellow = k';
-      is_there_lem = l';
+      is_there = l';
       starts = at k' r a' n' l' f.is;
       only = λ j i e.
           let y = EveryBoard c text' j i in

@@ -70,22 +70,22 @@ none_given (f ∷ fs) B answer n e k s b h =
       none_given fs (B × (f.when → ⊥)) answer n e k s (λ p. b p.0) a.1,
     )
 
-not_begun : (fs : List Refusal) (answer : List ℕ) (f : Refusal) → Met answer fs → is_apart f.number f.edition fs ≡ true → Begins answer f → ⊥
-not_begun fs answer f (nothing s) h g = clash (rw (eq-eqb f.number 0 (sym g.number_is ∙ s.number_said)) at h)
-not_begun fs answer f (this {f = x} {fs = xs} w s) h g =
+not_begun : (answer : List ℕ) (fs : List Refusal) (f : Refusal) → Met answer fs → is_apart f.number f.edition fs ≡ true → Begins answer f → ⊥
+not_begun answer fs f (nothing s) h g = clash (rw (eq-eqb f.number 0 (sym g.number_is ∙ s.number_said)) at h)
+not_begun answer fs f (this {f = x} {fs = xs} w s) h g =
     let a = both (not (eqb f.number x.number && eqb f.edition x.edition)) (is_apart f.number f.edition xs) h in
     apart_not f.number f.edition x.number x.edition a.0 (sym g.number_is ∙ s.number_said) (sym g.edition_is ∙ s.edition_said)
-not_begun fs answer f (later {f = x} {fs = xs} w m) h g =
+not_begun answer fs f (later {f = x} {fs = xs} w m) h g =
     let a = both (not (eqb f.number x.number && eqb f.edition x.edition)) (is_apart f.number f.edition xs) h in
-    not_begun xs answer f m a.1 g
+    not_begun answer xs f m a.1 g
 
-given_from : (fs : List Refusal) (B : Type 0) (answer : List ℕ) → are_apart fs ≡ true → B → Met answer fs → GivenFrom B fs answer
-given_from fs B answer d b (nothing s) =
+given_from : (answer : List ℕ) (fs : List Refusal) (B : Type 0) → are_apart fs ≡ true → B → Met answer fs → GivenFrom B fs answer
+given_from answer fs B d b (nothing s) =
     record {
       exactly = (λ g. (b, tt), λ p. record { number_is = s.number_said; edition_is = s.edition_said });
       carried = λ g. s.carried_said;
     }
-given_from fs B answer d b (this {f = f} {fs = xs} w s) =
+given_from answer fs B d b (this {f = f} {fs = xs} w s) =
     let a = both (is_apart f.number f.edition xs) (are_apart xs) d in (
       record {
         exactly = (λ g. (b, w), λ p. record { number_is = s.number_said; edition_is = s.edition_said });
@@ -93,15 +93,15 @@ given_from fs B answer d b (this {f = f} {fs = xs} w s) =
       },
       none_given xs (B × (f.when → ⊥)) answer f.number f.edition f.carries s (λ p. p.1 w) a.0,
     )
-given_from fs B answer d b (later {f = f} {fs = xs} w m) =
+given_from answer fs B d b (later {f = f} {fs = xs} w m) =
     let a = both (is_apart f.number f.edition xs) (are_apart xs) d in
-    let z = not_begun xs answer f m a.0 in (
+    let z = not_begun answer xs f m a.0 in (
       record { exactly = (λ g. absurd (z g), λ p. absurd (w p.1)); carried = λ g. absurd (z g) },
-      given_from xs (B × (f.when → ⊥)) answer a.1 (b, w) m,
+      given_from answer xs (B × (f.when → ⊥)) a.1 (b, w) m,
     )
 
 pub first_that_holds : (fs : List Refusal) (answer : List ℕ) → are_apart fs ≡ true → Met answer fs → FirstThatHolds fs answer
-first_that_holds fs answer d m = given_from fs (Unit {0}) answer d tt m
+first_that_holds fs answer d m = given_from answer fs (Unit {0}) d tt m
 
 -- A case for each value of a test.
 pub met_by : {answer : List ℕ} {fs : List Refusal} (b : Bool) → (b ≡ true → Met answer fs) → (b ≡ false → Met answer fs) → Met answer fs

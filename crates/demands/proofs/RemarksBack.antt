@@ -72,11 +72,19 @@ record Reads (t : Texts) (read : ℕ → List (List ℕ) → List Remark) : Type
 
 shut_directives : (n : ℕ) (ls r : List (List ℕ)) → Shut ls → directives_of_lines true n (ls ++ r) ≡ directives_of_lines false n r
 unfolding line_tags line_directives commentary_after
+shut_directives n [] r a = elim a [ ]
 shut_directives n (l ∷ []) r (last h) = rw (h, add-zero n)
 shut_directives n (l ∷ ls) r (more h s) = rw (h, add-zero n) (shut_directives n ls r s)
 
 line_directives_lem : (n : ℕ) (l : WrittenLine) (ls r : List (List ℕ)) → ReadsAs l ls → directives_of_lines false n (ls ++ r) ≡ remarked n (texts_on as_directives l) ++ directives_of_lines false (tags_after n l) r
 unfolding line_tags line_directives commentary_after has_brace
+line_directives_lem n (tag_line m v) [] r a = elim a [ ]
+line_directives_lem n (tag_line m v) (l ∷ (_ ∷ _)) r a = elim a [ ]
+line_directives_lem n (data_line d) [] r a = elim a [ ]
+line_directives_lem n (data_line d) (l ∷ (_ ∷ _)) r a = elim a [ ]
+line_directives_lem n (directive_line i d) [] r a = elim a [ ]
+line_directives_lem n (directive_line i d) (l ∷ (_ ∷ _)) r a = elim a [ ]
+line_directives_lem n (block_line i v) [] r a = elim a [ ]
 line_directives_lem n (tag_line m v) (l ∷ []) r (tag k x y) = rw k
 line_directives_lem n (data_line d) (l ∷ []) r (section k x) = rw (k, add-zero n)
 line_directives_lem n (directive_line i d) (l ∷ []) r (directive g k x) = rw (k, add-zero n, g, x)
@@ -105,6 +113,7 @@ any_text g h n (l ∷ ls) = refl
 
 shut_blocks : (g : List ℕ) (n : ℕ) (l : List ℕ) (ls r : List (List ℕ)) → Shut (l ∷ ls) → blocks_of_lines true g n ((l ∷ ls) ++ r) ≡ block_on (g ++ up_to_brace l ls) n ++ blocks_of_lines false [] n r
 unfolding line_tags line_blocks block_after commentary_after
+shut_blocks g n l [] r (more h s) = elim s [ ]
 shut_blocks g n l [] r (last h) = rw (h, add-zero n, any_text (g ++ l) [] n r)
 shut_blocks g n l (m ∷ ms) r (more h s) = rw (h, add-zero n, shut_blocks (g ++ l) n m ms r s, append_assoc g l (up_to_brace m ms))
 
@@ -142,6 +151,14 @@ value_then n v ks = map-append block_value (block_on v n) ks ∙ rw (block_value
 
 line_blocks_lem : (n : ℕ) (l : WrittenLine) (ls r : List (List ℕ)) → ReadsAs l ls → blocks_read n (ls ++ r) ≡ remarked n (texts_on as_blocks l) ++ blocks_read (tags_after n l) r
 unfolding line_tags line_blocks block_after commentary_after has_brace is_white
+line_blocks_lem n (tag_line m v) [] r a = elim a [ ]
+line_blocks_lem n (tag_line m v) (l ∷ (_ ∷ ms)) r a = elim a [ ]
+line_blocks_lem n (data_line d) [] r a = elim a [ ]
+line_blocks_lem n (data_line d) (l ∷ (m ∷ ms)) r a = elim a [ ]
+line_blocks_lem n (directive_line i d) [] r a = elim a [ ]
+line_blocks_lem n (directive_line i d) (l ∷ (m ∷ ms)) r a = elim a [ ]
+line_blocks_lem n (block_line i v) [] r a = elim a [ ]
+line_blocks_lem n (block_line i v) (_ ∷ []) r (block {l = l} k (more h s) u) = elim s [ ]
 line_blocks_lem n (tag_line m v) (l ∷ []) r (tag k x y) = rw (k, any_text (drop (length (lead l) + 1) l) [] (n + 1) r)
 line_blocks_lem n (data_line d) (l ∷ []) r (section k x) = rw (k, add-zero n, any_text (drop (length (lead l) + 1) l) [] n r)
 line_blocks_lem n (directive_line i d) (l ∷ []) r (directive g k x) = rw (k, add-zero n, any_text (drop (length (lead l) + 1) l) [] n r, g)

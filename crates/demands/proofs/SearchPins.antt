@@ -46,12 +46,12 @@ t = hands 8191 67100672 824566611968 4502774993649664
 abbrev without : Hands → List ℕ
 without h = card 1 h 0 0 10
 
-abbrev with_table_lem : Hands → List ℕ
-with_table_lem h = card 1 h 1 0 10
+abbrev with_table : Hands → List ℕ
+with_table h = card 1 h 1 0 10
 
 -- Boards with a table and no whole deal: a without C2, a with a later deal that does not parse, and a board without a deal.
 abbrev part : List ℕ
-part = with_table_lem (hands 4503049871556608 549688705024 67100672 8190)
+part = with_table (hands 4503049871556608 549688705024 67100672 8190)
 
 abbrev unparsed : List ℕ
 unparsed = card 2 a 1 0 10
@@ -75,7 +75,7 @@ unfolding search
 pin_nothing = refl
 
 -- All 8 words of the board found are compared.
-pin_found : search true a (with_table_lem a ∷ []) ≡ found 1 8
+pin_found : search true a (with_table a ∷ []) ≡ found 1 8
 unfolding search
 pin_found = refl
 
@@ -85,22 +85,22 @@ unfolding search
 pin_no_table = refl
 
 -- The first word of b differs.
-pin_first_word : search true a (with_table_lem b ∷ with_table_lem a ∷ []) ≡ found 2 9
+pin_first_word : search true a (with_table b ∷ with_table a ∷ []) ≡ found 2 9
 unfolding search
 pin_first_word = refl
 
 -- c differs in the third word, d in the fifth; the board behind the one found is not looked at.
-pin_third_fifth : search true a (with_table_lem c ∷ with_table_lem d ∷ with_table_lem a ∷ with_table_lem a ∷ []) ≡ found 3 16
+pin_third_fifth : search true a (with_table c ∷ with_table d ∷ with_table a ∷ with_table a ∷ []) ≡ found 3 16
 unfolding search
 pin_third_fifth = refl
 
 -- Two boards lack a table.
-pin_two_without : search true a (without a ∷ without b ∷ with_table_lem a ∷ []) ≡ found 3 8
+pin_two_without : search true a (without a ∷ without b ∷ with_table a ∷ []) ≡ found 3 8
 unfolding search
 pin_two_without = refl
 
 -- A deal that is not whole is passed over, though 7 of its words are equal.
-pin_part : search true a (part ∷ with_table_lem a ∷ []) ≡ found 2 8
+pin_part : search true a (part ∷ with_table a ∷ []) ≡ found 2 8
 unfolding search
 pin_part = refl
 
@@ -110,17 +110,17 @@ unfolding search
 pin_not_whole = refl
 
 -- e differs in the second word, the high one of North.
-pin_second_word : search true a (with_table_lem e ∷ []) ≡ found 0 2
+pin_second_word : search true a (with_table e ∷ []) ≡ found 0 2
 unfolding search
 pin_second_word = refl
 
 -- q differs from p in the fourth word.
-pin_fourth_word : search true p (with_table_lem q ∷ with_table_lem p ∷ []) ≡ found 2 12
+pin_fourth_word : search true p (with_table q ∷ with_table p ∷ []) ≡ found 2 12
 unfolding search
 pin_fourth_word = refl
 
 -- t differs from r in the sixth word.
-pin_sixth_word : search true r (with_table_lem t ∷ with_table_lem r ∷ []) ≡ found 2 14
+pin_sixth_word : search true r (with_table t ∷ with_table r ∷ []) ≡ found 2 14
 unfolding search
 pin_sixth_word = refl
 
@@ -130,7 +130,7 @@ unfolding search
 pin_any_board = refl
 
 -- No table is sought and none is found: a table does no harm, and the deal that is not whole is passed over.
-pin_any_none : search false a (with_table_lem b ∷ without d ∷ part ∷ []) ≡ found 0 6
+pin_any_none : search false a (with_table b ∷ without d ∷ part ∷ []) ≡ found 0 6
 unfolding search
 pin_any_none = refl
 
@@ -149,17 +149,17 @@ abbrev listed : List (List ℕ)
 listed = without a ∷ without b ∷ without b ∷ card 0 (hands 0 0 0 0) 0 0 10 ∷ []
 
 -- Old, and no search behind that for old; solve; twin; blank, and no search.
-pin_listed : numbers (with_table_lem a ∷ []) listed ≡ (2 ∷ 1 ∷ 8 ∷ 0 ∷ 0 ∷ []) ∷ (5 ∷ 0 ∷ 1 ∷ 0 ∷ 1 ∷ []) ∷ (4 ∷ 2 ∷ 1 ∷ 0 ∷ 9 ∷ []) ∷ (0 ∷ 0 ∷ 0 ∷ 0 ∷ 0 ∷ []) ∷ []
+pin_listed : numbers (with_table a ∷ []) listed ≡ (2 ∷ 1 ∷ 8 ∷ 0 ∷ 0 ∷ []) ∷ (5 ∷ 0 ∷ 1 ∷ 0 ∷ 1 ∷ []) ∷ (4 ∷ 2 ∷ 1 ∷ 0 ∷ 9 ∷ []) ∷ (0 ∷ 0 ∷ 0 ∷ 0 ∷ 0 ∷ []) ∷ []
 unfolding numbers
 pin_listed = refl
 
-pin_listed_all : all (with_table_lem a ∷ []) listed ≡ 20
+pin_listed_all : all (with_table a ∷ []) listed ≡ 20
 unfolding all
 pin_listed_all = refl
 
 -- No old board. The search for near goes over all new boards; that for twin over those before.
 abbrev alone : List (List ℕ)
-alone = without a ∷ without b ∷ without a ∷ with_table_lem c ∷ without c ∷ with_table_lem b ∷ without b ∷ []
+alone = without a ∷ without b ∷ without a ∷ with_table c ∷ without c ∷ with_table b ∷ without b ∷ []
 
 -- Solve; near; twin; own, and no search; near; own; near.
 pin_alone : numbers [] alone ≡ (5 ∷ 0 ∷ 0 ∷ 4 ∷ 0 ∷ []) ∷ (3 ∷ 6 ∷ 0 ∷ 9 ∷ 0 ∷ []) ∷ (4 ∷ 1 ∷ 0 ∷ 4 ∷ 8 ∷ []) ∷ (1 ∷ 0 ∷ 0 ∷ 0 ∷ 0 ∷ []) ∷ (3 ∷ 4 ∷ 0 ∷ 8 ∷ 0 ∷ []) ∷ (1 ∷ 0 ∷ 0 ∷ 0 ∷ 0 ∷ []) ∷ (3 ∷ 6 ∷ 0 ∷ 9 ∷ 0 ∷ []) ∷ []

@@ -82,7 +82,7 @@ found_eight tabled d card l e =
 
 first_not_none : (P : List ℕ → Type 0) (cards : List (List ℕ)) (k : ℕ) → First P cards k → None P cards → ⊥
 first_not_none P cards zero f n = omega (arith, f.from_one)
-first_not_none P cards (suc k) f n = n (card_at cards (suc k)) (card_among cards k (omega (arith, f.is_there_lem))) f.holds
+first_not_none P cards (suc k) f n = n (card_at cards (suc k)) (card_among cards k (omega (arith, f.is_there))) f.holds
 
 -- Both sides hold, or neither.
 yes : {b : Bool} {A : Type 0} → b ≡ true → A → (b ≡ true) ↔ A

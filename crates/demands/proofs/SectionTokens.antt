@@ -196,6 +196,8 @@ nothing_stops = record { no_data = λ p. refl }
 -- A line that reads as data.
 one_data : (d : List ℕ) (ds ls ms : List (List ℕ)) (p : ℕ) → ReadsAs (data_line d) ls → ((q : ℕ) → texts (data_in false q ms) ≡ ds) → texts (data_in false p (ls ++ ms)) ≡ d ∷ ds
 unfolding stops_at piece_of commentary_after
+one_data d ds [] ms p a h = elim a [ ]
+one_data d ds (l ∷ (_ ∷ _)) ms p a h = elim a [ ]
 one_data d ds (l ∷ []) ms p (section k x) h = rw (k, x) (ap (λ (y : List (List ℕ)). d ∷ y) (h (p + length l)))
 
 -- THEOREM. The data of a section whose data lines were written are those lines.

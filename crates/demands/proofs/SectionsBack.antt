@@ -187,6 +187,8 @@ pub record TagRead (c : Conventions) (r n v rest : List ℕ) (a : Option Calls) 
 module _ (c : Conventions) (r : List ℕ) {a : Option Calls} {p : Option PlainPlay} {trump : ℕ} where
   tag_by : (n v rest : List ℕ) (ls : List (List ℕ)) → raw_lines (line_text (tag_line n v)) ≡ ls → ReadsAs (tag_line n v) ls → At c r (line_text (tag_line n v) ++ rest) a p trump → TagRead c r n v rest a p trump
   unfolding tag_line_out tagged
+  tag_by n v rest [] e a h = elim a [ ]
+  tag_by n v rest (m ∷ (_ ∷ _)) e a h = elim a [ ]
   tag_by n v rest (m ∷ []) e (tag {t = t} k x y) h =
       let s = h.state in
       let es = h.entries in
@@ -224,6 +226,8 @@ module _ (c : Conventions) (r : List ℕ) {a : Option Calls} {p : Option PlainPl
   -- ---- its data lines
 
   data_by : (o : Open) (d rest : List ℕ) (ls : List (List ℕ)) → raw_lines (line_text (data_line d)) ≡ ls → ReadsAs (data_line d) ls → InSection c r o (line_text (data_line d) ++ rest) a p trump → InSection c r o rest a p trump
+  data_by o d rest [] e a h = elim a [ ]
+  data_by o d rest (m ∷ (_ ∷ _)) e a h = elim a [ ]
   data_by o d rest (m ∷ []) e (section {s = t} k x) h =
       let s = h.state in
       let es = h.entries in
@@ -365,6 +369,8 @@ blank_stops rest = record { no_data = λ p. refl }
 
 tag_stops_by : (n v rest : List ℕ) (ls : List (List ℕ)) → raw_lines (line_text (tag_line n v)) ≡ ls → ReadsAs (tag_line n v) ls → Stops (line_text (tag_line n v) ++ rest)
 unfolding stops_at
+tag_stops_by n v rest [] e a = elim a [ ]
+tag_stops_by n v rest (m ∷ (_ ∷ _)) e a = elim a [ ]
 tag_stops_by n v rest (m ∷ []) e (tag k x y) = record { no_data = λ p. ap (data_in false p) (one_line (tag_line n v) m rest e).0 ∙ rw k }
 
 pub tag_stops : (n v rest : List ℕ) → good_line (tag_line n v) ≡ true → Stops (line_text (tag_line n v) ++ rest)

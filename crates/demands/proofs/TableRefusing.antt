@@ -250,7 +250,7 @@ why_met : (c : Conventions) (rows : List (List ℕ)) (n : ℕ) (answer : List �
 why_met c rows n answer f e h w s = rw (← e) (go f w s)
   where
     at : {P : List ℕ → Type 0} → P (get_or rows n []) → InRow rows n P
-    at p = record { is_there_lem = h; holds = p }
+    at p = record { is_there = h; holds = p }
 
     not_at : {P : List ℕ → Type 0} → (P (get_or rows n []) → ⊥) → InRow rows n P → ⊥
     not_at q i = q i.holds
@@ -295,7 +295,7 @@ rows_met c text answer e =
     (λ u. this (positive m (eqb-false m 0 u)) (refused_says (table_of_rows c text) answer (Missing m) e (g ∙ rw u)))))))))
   where
     outside : {rows : List (List ℕ)} {k : ℕ} {P : List ℕ → Type 0} → length rows ≤ k → InRow rows k P → ⊥
-    outside h i = let y = i.is_there_lem in omega arith
+    outside h i = let y = i.is_there in omega arith
 
     positive : (m : ℕ) → (m ≡ 0 → ⊥) → 0 < m
     positive zero h = absurd (h refl)

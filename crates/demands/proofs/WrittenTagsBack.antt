@@ -39,11 +39,19 @@ pairs_in (l ∷ ls) = pairs_on l ++ pairs_in ls
 
 shut_tags : (ls r : List (List ℕ)) → Shut ls → tags_of_lines true (ls ++ r) ≡ tags_of_lines false r
 unfolding line_tags commentary_after
+shut_tags [] r a = elim a [ ]
 shut_tags (l ∷ []) r (last h) = rw h
 shut_tags (l ∷ ls) r (more h s) = rw h (shut_tags ls r s)
 
 reads_tags : (l : WrittenLine) (ls r : List (List ℕ)) → ReadsAs l ls → tags_of_lines false (ls ++ r) ≡ pairs_on l ++ tags_of_lines false r
 unfolding line_tags commentary_after has_brace
+reads_tags (tag_line n v) [] r a = elim a [ ]
+reads_tags (tag_line n v) (l ∷ (_ ∷ _)) r a = elim a [ ]
+reads_tags (data_line d) [] r a = elim a [ ]
+reads_tags (data_line d) (l ∷ (_ ∷ _)) r a = elim a [ ]
+reads_tags (directive_line i d) [] r a = elim a [ ]
+reads_tags (directive_line i d) (l ∷ (_ ∷ _)) r a = elim a [ ]
+reads_tags (block_line i v) [] r a = elim a [ ]
 reads_tags (tag_line n v) (l ∷ []) r (tag k x y) = rw (k, x, y)
 reads_tags (data_line d) (l ∷ []) r (section k x) = rw k
 reads_tags (directive_line i d) (l ∷ []) r (directive g k x) = rw k

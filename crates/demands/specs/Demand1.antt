@@ -181,7 +181,7 @@ pub record Above (row : List ℕ) : Type 0 where
 
 -- It is the first row that is refused, the row number n, of which P holds.
 pub record InRow (rows : List (List ℕ)) (n : ℕ) (P : List ℕ → Type 0) : Type 0 where
-  pub is_there_lem : n < length rows
+  pub is_there : n < length rows
   pub holds : P (get_or rows n [])
 
 -- The cells once all rows are read, 255 where no row gave one.

@@ -71,7 +71,7 @@ RestZero =
 -- read alike.
 pub record HasFellow (board : Board) (place boards : ℕ) (cards entries : List ℕ) : Type 0 where
   pub fellow : ℕ
-  pub is_there_lem : fellow < boards
+  pub is_there : fellow < boards
   pub starts : record_start (card_here fellow cards) ≡ place
   pub only : (j : ℕ) → j < boards → record_start (card_here j cards) ≡ place → j ≡ fellow
   pub alike : ReadAlike board (board_here fellow cards entries)
@@ -167,15 +167,15 @@ pub record FinishedAt (c : Conventions) (old new old_cards new_cards : List ℕ)
   pub no_deal : is_whole card ≡ false → is_whole finished ≡ false
   pub no_deal_table : is_whole card ≡ false → has_table finished ≡ has_table card
   pub no_deal_cells : is_whole card ≡ false → has_table card ≡ true → cells finished ≡ cells card
-  pub with_table_lem : (h : Hands) → WithDeal h card → Tabled h finished
+  pub with_table : (h : Hands) → WithDeal h card → Tabled h finished
   pub own_cells : (h : Hands) → Tabled h card → cells finished ≡ cells card
   pub cells_from : (h : Hands) → WithDeal h card → (boxes boxes' : Boxes) (answer' : List ℕ) → StateOut c old new boxes boxes' (k + 1) answer' 0
       → CellsFrom h card old_cards new_cards listed slips answers (get_or answer' 3 0) (get_or answer' 4 0) (cells finished)
 
--- The finished edition page-text beside the new one: as many boards, and each finished. old-cards and new-cards are the cards of both
--- editions as handed back, cards those of page-text.
-pub record AllFinished (c : Conventions) (old new old_cards new_cards : List ℕ) (listed : ℕ) (slips answers page-text cards : List ℕ) : Type 0 where
-  pub as_many : boards_in c page-text ≡ boards_in c new
+-- The finished edition page_text beside the new one: as many boards, and each finished. old_cards and new_cards are the cards of both
+-- editions as handed back, cards those of page_text.
+pub record AllFinished (c : Conventions) (old new old_cards new_cards : List ℕ) (listed : ℕ) (slips answers page_text cards : List ℕ) : Type 0 where
+  pub as_many : boards_in c page_text ≡ boards_in c new
   pub each : (k : ℕ) → k < boards_in c new → FinishedAt c old new old_cards new_cards listed slips answers k (card_here k new_cards) (card_here k cards)
 
 -- THEOREM (proofs/Finishing.antt). golavimes_finish and golavimes_plan returned 0 for the same editions, each with any boxes, and slips were
@@ -184,13 +184,13 @@ abbrev pub FinishedRight : Type 0
 FinishedRight =
     (c : Conventions) → Accepted c → (old new : List ℕ) (boxes : Boxes) (answers page : List ℕ) (boxes' : Boxes) (page' answer' : List ℕ)
     → FinishOut c old new boxes answers page boxes' page' answer' 0
-    → (plan-boxes : Boxes) (slips : List ℕ) (plan-boxes' : Boxes) (slips' plan-answer' : List ℕ)
-    → PlanOut c old new plan-boxes slips plan-boxes' slips' plan-answer' 0
+    → (plan_boxes : Boxes) (slips : List ℕ) (plan_boxes' : Boxes) (slips' plan_answer' : List ℕ)
+    → PlanOut c old new plan_boxes slips plan_boxes' slips' plan_answer' 0
     → (old_cards old_entries new_cards new_entries cards entries : List ℕ)
     → HandedBack c old old_cards old_entries
     → HandedBack c new new_cards new_entries
     → HandedBack c (finished_part page' answer') cards entries
-    → AllFinished c old new old_cards new_cards (get_or plan-answer' 9 0) slips' answers (finished_part page' answer') cards
+    → AllFinished c old new old_cards new_cards (get_or plan_answer' 9 0) slips' answers (finished_part page' answer') cards
 
 -- Both editions are read without refusal, every listed deal has its answer, 20 bytes for each board to solve and none above 13, and the page
 -- is long enough.
@@ -215,11 +215,11 @@ abbrev pub NothingLeft : Type 0
 NothingLeft =
     (c : Conventions) → Accepted c → (old new : List ℕ) (boxes : Boxes) (answers page : List ℕ) (boxes' : Boxes) (page' answer' : List ℕ)
     → FinishOut c old new boxes answers page boxes' page' answer' 0
-    → (other : List ℕ) (other-boxes : Boxes) (slips : List ℕ) (other-boxes' : Boxes) (slips' other-answer' : List ℕ) (r : ℕ)
-    → PlanOut c other (finished_part page' answer') other-boxes slips other-boxes' slips' other-answer' r
-    → IsTaken c other other-boxes.old_cards other-boxes.old_entries
-    → IsTaken c (finished_part page' answer') other-boxes.new_cards other-boxes.new_entries
-    → (r ≡ 0) × (get_or other-answer' 9 0 ≡ 0) × (slips' ≡ replicate (length slips) 0)
+    → (other : List ℕ) (other_boxes : Boxes) (slips : List ℕ) (other_boxes' : Boxes) (slips' other_answer' : List ℕ) (r : ℕ)
+    → PlanOut c other (finished_part page' answer') other_boxes slips other_boxes' slips' other_answer' r
+    → IsTaken c other other_boxes.old_cards other_boxes.old_entries
+    → IsTaken c (finished_part page' answer') other_boxes.new_cards other_boxes.new_entries
+    → (r ≡ 0) × (get_or other_answer' 9 0 ≡ 0) × (slips' ≡ replicate (length slips) 0)
 
 -- ---- The manual's promise: "an unchanged deal is never solved twice."
 
@@ -229,9 +229,9 @@ abbrev pub NeverTwice : Type 0
 NeverTwice =
     (c : Conventions) → Accepted c → (old new : List ℕ) (boxes : Boxes) (answers page : List ℕ) (boxes' : Boxes) (page' answer' : List ℕ)
     → FinishOut c old new boxes answers page boxes' page' answer' 0
-    → (later : List ℕ) (later-boxes : Boxes) (slips : List ℕ) (later-boxes' : Boxes) (slips' later-answer' : List ℕ)
-    → PlanOut c (finished_part page' answer') later later-boxes slips later-boxes' slips' later-answer' 0
-    → (h : Hands) → Some (WithDeal h) (cards_of c new) → ListedIn h (get_or later-answer' 9 0) slips' → ⊥
+    → (later : List ℕ) (later_boxes : Boxes) (slips : List ℕ) (later_boxes' : Boxes) (slips' later_answer' : List ℕ)
+    → PlanOut c (finished_part page' answer') later later_boxes slips later_boxes' slips' later_answer' 0
+    → (h : Hands) → Some (WithDeal h) (cards_of c new) → ListedIn h (get_or later_answer' 9 0) slips' → ⊥
 
 -- ---- Document 01's Finishing: "the edition is then what `write_pbn` writes."
 
@@ -241,8 +241,8 @@ abbrev pub WrittenWhenNoneWanted : Type 0
 WrittenWhenNoneWanted =
     (c : Conventions) (old new : List ℕ) (boxes : Boxes) (answers page : List ℕ) (boxes' : Boxes) (page' answer' : List ℕ)
     → FinishOut c old new boxes answers page boxes' page' answer' 0
-    → (cards entries write-page cards' entries' write-page' write-answer' : List ℕ)
-    → WritingOut c new cards entries write-page cards' entries' write-page' write-answer' 0
-    → ((p : ℕ) (state-boxes state-boxes' : Boxes) (state-answer' : List ℕ) → StateOut c old new state-boxes state-boxes' p state-answer' 0
-    → get_or state-answer' 3 0 < 2)
-    → finished_part page' answer' ≡ finished_part write-page' write-answer'
+    → (cards entries write_page cards' entries' write_page' write_answer' : List ℕ)
+    → WritingOut c new cards entries write_page cards' entries' write_page' write_answer' 0
+    → ((p : ℕ) (state_boxes state_boxes' : Boxes) (state_answer' : List ℕ) → StateOut c old new state_boxes state_boxes' p state_answer' 0
+    → get_or state_answer' 3 0 < 2)
+    → finished_part page' answer' ≡ finished_part write_page' write_answer'

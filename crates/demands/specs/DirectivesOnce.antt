@@ -1,7 +1,7 @@
 -- Directives are written once: how often, where, in which order, where that is as it was before, and that saving does not multiply them.
 --
 -- Before, a directive with a tag before it was written after every written tag of that tag's name. Only Note is written more than once
--- (`only-notes` of specs/NothingLost.antt), so only directives after a Note moved.
+-- (`only_notes` of specs/NothingLost.antt), so only directives after a Note moved.
 use Rattle.std.specs.Prelude.{ℕ, ◌+◌, ◌≤◌, ◌≡◌, Bool, true, cond, not, List, [], ◌∷◌, ◌++◌, map, eqb, length}
 use Rattle.std.proofs.Math.Option.{Option, none, some}
 use Rattle.std.proofs.Math.ListN.{get_elem?}

@@ -117,9 +117,9 @@ abbrev pub no_lin_board : LinBoard
 no_lin_board = record { dealing = no_dealing; vulnerability = 0; calls = []; cards = [] }
 
 -- The page holds the boards bs, as many as golavimes_lin_to_pbn told, and so do the words handed back for it.
-pub record AllKept (c : Conventions) (bs : List LinBoard) (told : ℕ) (page-text cards entries : List ℕ) : Type 0 where
+pub record AllKept (c : Conventions) (bs : List LinBoard) (told : ℕ) (page_text cards entries : List ℕ) : Type 0 where
   pub as_many_told : told ≡ length bs
-  pub as_many_read : boards_in c page-text ≡ length bs
+  pub as_many_read : boards_in c page_text ≡ length bs
   pub each : (k : ℕ) → k < length bs → BoardKept (get_or bs k no_lin_board) cards entries k
 
 -- THEOREM (proofs/LinKept.antt). golavimes_lin_to_pbn returned 0, and its page was read without refusal.
@@ -161,7 +161,7 @@ LinWhole =
 abbrev pub LinListed : Type 0
 LinListed =
     (c : Conventions) → Accepted c → (text page page' answer' : List ℕ) → LinOut c text page page' answer' 0
-    → (old : List ℕ) (boxes : Boxes) (slips : List ℕ) (boxes' : Boxes) (slips' plan-answer' : List ℕ)
-    → PlanOut c old (finished_part page' answer') boxes slips boxes' slips' plan-answer' 0
+    → (old : List ℕ) (boxes : Boxes) (slips : List ℕ) (boxes' : Boxes) (slips' plan_answer' : List ℕ)
+    → PlanOut c old (finished_part page' answer') boxes slips boxes' slips' plan_answer' 0
     → (k : ℕ) → k < length (lin_boards c text) → Thirteen (dealing_at c text k)
-    → ListedIn (dealt_hands (dealing_at c text k)) (get_or plan-answer' 9 0) slips' ↔ None (Tabled (dealt_hands (dealing_at c text k))) (cards_of c old)
+    → ListedIn (dealt_hands (dealing_at c text k)) (get_or plan_answer' 9 0) slips' ↔ None (Tabled (dealt_hands (dealing_at c text k))) (cards_of c old)

@@ -1,7 +1,7 @@
 -- What planning reads of a card does not depend on where the board's record stands, and boards with the same hands have the same words.
 use Prim.Native.Nat.{ℕ, ◌+◌}
 use mathlib.Core.Path.{◌≡◌, sym, ◌∙◌, ap}
-use mathlib.Core.List.{List, ◌∷◌}
+use mathlib.Core.List.{List, [], ◌∷◌}
 use lib.ListN.{length}
 use Rattle.tables.specs.declared.letters.Conventions.{Conventions}
 use Rattle.reader.specs.Boards.{record_out}
@@ -46,6 +46,7 @@ card_handed : (c : Conventions) (a n : ℕ) (r : List ℕ) → OfHands (card_of 
 card_handed c a n r = rw (deal_words_lem c a n r) (PlainDealKept c r).words_back
 
 cards_handed : (c : Conventions) (a n : ℕ) (rs : List (List ℕ)) → Handed (cards_from c a n rs)
+cards_handed c a n [] x i = elim i [ ]
 cards_handed c a n (r ∷ rs) x i = among_cases OfHands i (card_handed c a n r) (cards_handed c (a + length r) (n + length (record_out c r).entries) rs x)
 
 -- THEOREM. So it is on every card of an edition.

@@ -42,6 +42,8 @@ among_right [] a = a
 among_right (x ∷ xs) a = there (among_right xs a)
 
 pub among_take : {x : List ℕ} (n : ℕ) (xs : List (List ℕ)) → Among x (take n xs) → Among x xs
+among_take zero xs a = elim a [ ]
+among_take (suc n) [] a = elim a [ ]
 among_take (suc n) (y ∷ ys) here = here
 among_take (suc n) (y ∷ ys) (there a) = there (among_take n ys a)
 
@@ -81,6 +83,7 @@ found test k m (x ∷ xs) e n =
     before i g t (suc j) h = g j (omega arith)
 
 pub found_none : (test : List ℕ → Bool) (k : ℕ) (xs : List (List ℕ)) → 0 < k → first_from test k xs ≡ 0 → (x : List ℕ) → Among x xs → test x ≡ false
+found_none test k [] h e y a = elim a [ ]
 found_none test k (x ∷ xs) h e y a =
     by_cases (test x)
     (λ t. let z = rw t at e in absurd (omega arith))
@@ -122,7 +125,7 @@ module _ (test : List ℕ → Bool) (P : List ℕ → Type 0) (xs : List (List �
       let b : k < length xs = omega (arith, f.below) in
       record {
         from_one = omega arith;
-        is_there_lem = omega arith;
+        is_there = omega arith;
         holds = (tells (card_from xs k) (card_among xs k b)).0 (rw i at f.passes);
         none_before = before (rw i at f.fails_before) b;
       }
@@ -134,7 +137,7 @@ module _ (test : List ℕ → Bool) (P : List ℕ → Type 0) (xs : List (List �
   pub first_is_found : (k : ℕ) → First P xs k → first_from test 1 xs ≡ k
   first_is_found zero f = absurd (omega (arith, f.from_one))
   first_is_found (suc k) f =
-      let b : k < length xs = omega (arith, f.is_there_lem) in
+      let b : k < length xs = omega (arith, f.is_there) in
       found_first test 1 k xs b ((tells (card_from xs k) (card_among xs k b)).1 f.holds)
       (λ j l. no_pass (card_from xs j) (card_among xs j (omega arith)) (f.none_before (suc j) (omega arith) (omega arith)))
       ∙ omega arith

@@ -5,7 +5,6 @@ pub mod BoxLaws
 pub mod CardLaws
 pub mod FillLaws
 pub mod FoundLaws
-pub mod Lending
 pub mod PlanLaws
 pub mod CardWords
 pub mod SearchLaws

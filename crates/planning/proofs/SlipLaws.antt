@@ -23,6 +23,7 @@ fives_length (one {x} {xs} e f) = length-append x (flat xs) ∙ omega (arith, e,
 
 -- The k-th block, and what stands behind the blocks.
 pub fives_here : (ss : List (List ℕ)) (zs : List ℕ) (k : ℕ) → Blocks 5 ss → k < length ss → slip_here k (flat ss ++ zs) ≡ get_or ss k []
+fives_here [] zs k _ h = absurd (omega arith)
 fives_here (x ∷ xs) zs zero (one e f) h = ap (λ (l : List ℕ). take 5 l) (append_assoc x (flat xs) zs) ∙ take_at x (flat xs ++ zs) 5 e
 fives_here (x ∷ xs) zs (suc k) (one e f) h =
     let n : 5 * suc k ≡ length x + 5 * k = omega arith in

@@ -50,7 +50,7 @@ None P cards = (x : List ℕ) → Among x cards → P x → ⊥
 -- The card number k, from 1, is the first of the cards that P holds of.
 pub record First (P : List ℕ → Type 0) (cards : List (List ℕ)) (k : ℕ) : Type 0 where
   pub from_one : 1 ≤ k
-  pub is_there_lem : k ≤ length cards
+  pub is_there : k ≤ length cards
   pub holds : P (card_at cards k)
   pub none_before : (i : ℕ) → 1 ≤ i → i < k → P (card_at cards i) → ⊥
 
@@ -83,7 +83,7 @@ pub record Unsolved (h : Hands) (olds news : List (List ℕ)) : Type 0 where
 pub record OfSolve (js : List BoardPlan) (news : List (List ℕ)) (slip : List ℕ) : Type 0 where
   pub position : ℕ
   pub from_one : 1 ≤ position
-  pub is_there_lem : position ≤ length news
+  pub is_there : position ≤ length news
   pub is : slip ≡ slip_of position (card_at news position)
   pub state : state_at js position ≡ Solve
 

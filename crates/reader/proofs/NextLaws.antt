@@ -159,7 +159,7 @@ module _ (r : List ℕ) (p : ℕ) where
   seek_pass commentary e l k q h = record { lines = seek_line commentary e l Pass k q h; from_p = omega (arith, k.from_p); inside = q.inside }
 
   no_next : (e : ℕ) → data_in false p (raw_lines (drop p r)) ≡ [] → p ≤ e → e ≤ length r → NextPiece r p (no_piece e)
-  no_next e d h i = record { data_lines_lem = d; piece_inside = omega arith; inside = i; past = omega (arith, h); later = clash }
+  no_next e d h i = record { data_lines = d; piece_inside = omega arith; inside = i; past = omega (arith, h); later = clash }
 
   pub seek_stop : (commentary : Bool) (e : ℕ) (l : List ℕ) → Seeking r p commentary e → LineAt r e l → visit_of commentary l ≡ Stop → NextPiece r p (no_piece e)
   seek_stop commentary e l k q h = no_next e (seek_line commentary e l Stop k q h) k.from_p k.inside
@@ -172,7 +172,7 @@ module _ (r : List ℕ) (p : ℕ) where
   seek_piece commentary e l s k q h =
       let i = piece_placed commentary l s h in
       record {
-        data_lines_lem = rw (piece_some commentary l s h, ← line_cut r e l s q i) (seek_line commentary e l (PieceOn s) k q h);
+        data_lines = rw (piece_some commentary l s h, ← line_cut r e l s q i) (seek_line commentary e l (PieceOn s) k q h);
         piece_inside = omega (arith, q.inside, i);
         inside = q.inside;
         past = omega (arith, k.from_p, i);

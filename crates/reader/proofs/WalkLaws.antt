@@ -170,7 +170,7 @@ module _ (c : Conventions) (r : List ℕ) (o : Open) (trump a base : ℕ) (l₀ 
       let t : ToEmit (walked c o trump) a base l₀ (walked_all c r o trump) l w (base + walk_count w) (ps ++ rest) = rw e at v.left in
       let u : ToEmit (walked c o trump) a base l₀ (walked_all c r o trump) l' w' (base + walk_count w') rest = emitting_run (walked c o trump) a base l₀ (walked_all c r o trump) l w (base + walk_count w) ps rest l' w' (base + walk_count w') t k.emits d in
       record {
-        left = rw q.data_lines_lem at u;
+        left = rw q.data_lines at u;
         seated = k.seated;
         few = omega (arith, k.few, v.few, v.from_at, q.past);
         from_at = omega (arith, v.from_at, q.past);

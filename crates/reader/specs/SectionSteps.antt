@@ -36,7 +36,7 @@ next_data r n = cond n.more (split_piece r n.piece ++ data_in false n.at (raw_li
 -- The contract of a function that looks for the next data line from the place p on: its piece and the lines after it are the data
 -- lines from p on; the piece and the place after it lie in the record, and that place is after p by the piece's length or more.
 pub record NextPiece (r : List ℕ) (p : ℕ) (n : Next) : Type 0 where
-  pub data_lines_lem : data_in false p (raw_lines (drop p r)) ≡ next_data r n
+  pub data_lines : data_in false p (raw_lines (drop p r)) ≡ next_data r n
   pub piece_inside : n.piece.start + n.piece.len ≤ length r
   pub inside : n.at ≤ length r
   pub past : p + n.piece.len ≤ n.at
