@@ -2,7 +2,7 @@
 use Prim.Native.Nat.{ℕ, zero, suc, ◌+◌, ◌*◌, ◌-◌, ◌≤◌, ◌<◌}
 use mathlib.Core.Path.{◌≡◌, refl, sym, ap, ◌∙◌}
 use mathlib.Core.List.{List, [], ◌∷◌, ◌++◌}
-use mathlib.Core.Option.{Option, none, some}
+use mathlib.Core.Option.{none, some}
 use native.Mathlib.Omega.{arith}
 use lib.ListN.{length, drop, get_or, get_or-eq_default}
 use lib.Seq.{drop-drop}
@@ -13,7 +13,7 @@ use Rattle.planning.specs.declared.behind.Behind.TheVariants.{InOld, InNew, Noth
 use Rattle.planning.specs.Cards.{card_here}
 use Rattle.planning.specs.PlanSteps.{cards_in, plan_here}
 use Rattle.planning.specs.States.{BoardPlan, state_of, board_plans_from, board_plans, plan_from, plan_at, state_in, state_at}
-use Rattle.planning.specs.Slips.{card_from, card_at, behind_state, behind_in, behind_at, behind_numbers}
+use Rattle.planning.specs.Slips.{card_at, behind_state, behind_in, behind_at, behind_numbers}
 use Rattle.planning.proofs.BoxLaws.{cards_count, card_nth, card_step, cards_split}
 
 -- ---- the cards at positions

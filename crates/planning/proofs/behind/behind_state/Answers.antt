@@ -1,4 +1,3 @@
-use borrow.Author.Rules.{rules}
 use Rattle.planning.proofs.behind.behind_state.Goals as goal
 
 pub returns-in-Blank : goal.returns-in-Blank

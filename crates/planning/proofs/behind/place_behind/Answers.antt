@@ -1,4 +1,3 @@
-use borrow.Author.Rules.{rules}
 use Rattle.planning.proofs.behind.place_behind.Goals as goal
 
 pub returns : goal.returns

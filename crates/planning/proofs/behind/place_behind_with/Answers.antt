@@ -1,5 +1,4 @@
 use Rattle.planning.proofs.AnswerLaws.{there, behind_told, behind_none}
-use borrow.Author.Rules.{rules}
 use Rattle.planning.proofs.behind.place_behind_with.Goals as goal
 
 pub behind_at-behind-requires : goal.behind_at-behind-requires

@@ -1,7 +1,6 @@
 use Rattle.planning.specs.Slips.{part_of}
 use mathlib.Core.Path.{sym, ap, ◌∙◌}
 use Rattle.planning.proofs.AnswerLaws.{part_told}
-use borrow.Author.Rules.{rules}
 use Rattle.planning.proofs.behind.record_behind.Goals as goal
 
 pub returns-in-InOld : goal.returns-in-InOld

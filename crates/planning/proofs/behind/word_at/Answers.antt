@@ -2,7 +2,6 @@ use Prim.Native.Nat.{◌+◌, ◌-◌}
 use native.Mathlib.Omega.{arith}
 use mathlib.Core.Path.{◌≡◌}
 use Rattle.planning.proofs.BoardLaws.{card_at_lem, card_past}
-use borrow.Author.Rules.{rules}
 use Rattle.planning.proofs.behind.word_at.Goals as goal
 
 pub returns-then-p-eq0 : goal.returns-then-p-eq0

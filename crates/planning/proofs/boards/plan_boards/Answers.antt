@@ -1,4 +1,3 @@
-use borrow.Author.Rules.{rules}
 use Rattle.planning.proofs.boards.plan_boards.Goals as goal
 
 pub returns : goal.returns

@@ -1,5 +1,4 @@
 use Rattle.planning.proofs.AnswerLaws.{there, boards_told, boards_none}
-use borrow.Author.Rules.{rules}
 use Rattle.planning.proofs.boards.plan_boards_with.Goals as goal
 
 pub put_boards-requires : goal.put_boards-requires

@@ -1,9 +1,7 @@
 use Prim.Native.Nat.{◌-◌}
-use native.Mathlib.Omega.{arith}
 use Rattle.planning.specs.PlanSteps.{cards_in}
 use Rattle.planning.specs.Slips.{board_numbers}
-use Rattle.planning.proofs.PlanLaws.{Rows, rows_first, rows_next, rows_end}
-use borrow.Author.Rules.{rules}
+use Rattle.planning.proofs.PlanLaws.{Rows}
 use Rattle.planning.proofs.boards.put_boards.Given as goal
 
 abbrev pub invariant-loop-k : goal.invariant-loop-k

@@ -1,7 +1,6 @@
 use mathlib.Core.Path.{sym}
 use native.Mathlib.Omega.{arith}
 use Rattle.planning.proofs.CardWords.{deal_words_lem}
-use borrow.Author.Rules.{rules}
 use Rattle.planning.proofs.cards.deal_at.Goals as goal
 
 pub returns : goal.returns

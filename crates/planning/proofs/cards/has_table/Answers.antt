@@ -1,7 +1,6 @@
 use native.Mathlib.Omega.{arith}
 use Rattle.planning.specs.Cards.{has_table}
 use Rattle.planning.proofs.CardWords.{word_here}
-use borrow.Author.Rules.{rules}
 use Rattle.planning.proofs.cards.has_table.Goals as goal
 
 pub returns : goal.returns

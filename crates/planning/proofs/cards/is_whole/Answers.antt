@@ -2,7 +2,6 @@ use native.Mathlib.Omega.{arith}
 use borrow.Author.Tests.{eq-eqb, ne_eqb}
 use Rattle.planning.specs.Cards.{is_whole}
 use Rattle.planning.proofs.CardWords.{word_here}
-use borrow.Author.Rules.{rules}
 use Rattle.planning.proofs.cards.is_whole.Goals as goal
 
 pub returns-then-cards-k-ne1 : goal.returns-then-cards-k-ne1

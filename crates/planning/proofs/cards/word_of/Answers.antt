@@ -1,7 +1,6 @@
 use mathlib.Core.Path.{sym}
 use native.Mathlib.Omega.{arith}
 use Rattle.planning.proofs.CardWords.{word_here}
-use borrow.Author.Rules.{rules}
 use Rattle.planning.proofs.cards.word_of.Goals as goal
 
 pub returns : goal.returns

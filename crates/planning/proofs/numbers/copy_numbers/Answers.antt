@@ -1,10 +1,10 @@
-use Prim.Native.Nat.{suc, ◌<◌, ◌≤◌, ◌+◌, ◌-◌}
+use Prim.Native.Nat.{suc, ◌<◌, ◌+◌}
 use mathlib.Core.Path.{◌≡◌, refl}
 use native.Mathlib.Omega.{arith}
 use native.Mathlib.Numerals.{add-one}
 use native.Mathlib.Nat.{add-zero}
-use lib.ListN.{length, drop, length-set}
-use lib.Seq.{sets, drop-cons, drop-length}
+use lib.ListN.{length, length-set}
+use lib.Seq.{drop-cons, drop-length}
 use Rattle.planning.proofs.numbers.copy_numbers.Goals as goal
 
 pub loop-i-init : goal.loop-i-init

@@ -3,7 +3,6 @@ use native.Mathlib.Omega.{arith}
 use lib.ListN.{length}
 use borrow.Author.Tests.{le-leb, lt-leb}
 use Rattle.reader.specs.Store.{put}
-use borrow.Author.Rules.{rules}
 use Rattle.planning.proofs.numbers.put_five.Goals as goal
 
 pub returns-then-n-numbers : goal.returns-then-n-numbers

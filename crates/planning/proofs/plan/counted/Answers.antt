@@ -1,6 +1,5 @@
 use native.Mathlib.Omega.{arith}
 use Rattle.planning.specs.PlanSteps.{counted}
-use borrow.Author.Rules.{rules}
 use Rattle.planning.proofs.plan.counted.Goals as goal
 
 pub overflow_add-t : goal.overflow_add-t

@@ -1,4 +1,3 @@
-use borrow.Author.Rules.{rules}
 use Rattle.planning.proofs.plan.finish_plan.Goals as goal
 
 pub returns-in-Planned : goal.returns-in-Planned

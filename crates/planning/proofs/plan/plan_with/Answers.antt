@@ -1,6 +1,4 @@
-use mathlib.Core.Path.{◌∙◌}
 use Rattle.planning.proofs.AnswerLaws.{there, plan_refused, plan_listed}
-use borrow.Author.Rules.{rules}
 use Rattle.planning.proofs.plan.plan_with.Goals as goal
 
 pub put_slips-t-requires : goal.put_slips-t-requires
@@ -12,5 +10,5 @@ returns-in-Refused c = plan_refused c.read_both.ensures c.in-Refused.is c.zero_n
 pub returns-in-Both : goal.returns-in-Both
 returns-in-Both c = let b = c.read_both in
     let p = c.put_slips-t in
-    plan_listed b.ensures c.in-Both.is (record { old_cards = b.auto.1.1.1.0; old_entries = b.auto.1.1.1.1.0; new_cards = b.auto.1.1.1.1.1.0; new_entries = b.auto.1.1.1.1.1.1.0 })
-    c.zero_numbers.ensures p.auto.1.1.1.1.0 p.ensures c.finish_plan.ensures
+    plan_listed b.ensures c.in-Both.is (record { old_cards = b.auto.old_cards; old_entries = b.auto.old_entries; new_cards = b.auto.new_cards; new_entries = b.auto.new_entries })
+    c.zero_numbers.ensures p.auto.slips p.ensures c.finish_plan.ensures

@@ -1,7 +1,6 @@
 use Prim.Native.Nat.{◌-◌}
-use native.Mathlib.Omega.{arith}
 use Rattle.planning.specs.PlanSteps.{cards_in}
-use Rattle.planning.proofs.PlanLaws.{Turn, turn_first, turn_next, turn_end, turn_within}
+use Rattle.planning.proofs.PlanLaws.{Turn}
 use Rattle.planning.proofs.plan.put_slips.Given as goal
 
 abbrev pub invariant-loop-k : goal.invariant-loop-k

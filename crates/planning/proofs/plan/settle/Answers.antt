@@ -1,6 +1,5 @@
 use mathlib.Core.Path.{refl}
 use borrow.Author.Tests.{lt-ltb, le-ltb}
-use borrow.Author.Rules.{rules}
 use Rattle.planning.proofs.plan.settle.Goals as goal
 
 pub returns-then-room-solve : goal.returns-then-room-solve

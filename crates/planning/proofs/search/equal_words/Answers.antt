@@ -1,6 +1,6 @@
 use Rattle.planning.proofs.CardWords.{deal_length, deal_word}
 use Rattle.tables.proofs.Laws.{step, stop}
-use Prim.Native.Nat.{◌+◌, ◌<◌, ◌-◌, ◌≤◌}
+use Prim.Native.Nat.{◌+◌, ◌<◌}
 use mathlib.Core.Path.{◌≡◌}
 use native.Mathlib.Omega.{arith}
 use borrow.Author.Tests.{eq-eqb, ne_eqb}

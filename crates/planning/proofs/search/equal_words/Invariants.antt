@@ -1,12 +1,8 @@
-use Rattle.planning.proofs.CardWords.{deal_length, deal_word}
-use Rattle.tables.proofs.Laws.{step, stop}
-use Prim.Native.Nat.{◌+◌, ◌<◌, ◌-◌, ◌≤◌}
+use Prim.Native.Nat.{◌+◌, ◌-◌, ◌≤◌}
 use mathlib.Core.Path.{◌≡◌}
-use native.Mathlib.Omega.{arith}
-use borrow.Author.Tests.{eq-eqb, ne_eqb}
 use Rattle.planning.specs.Cards.{card_deal, card_here}
 use Rattle.planning.specs.PlanSteps.{equal_front}
-use lib.ListN.{length, drop}
+use lib.ListN.{drop}
 use Rattle.planning.proofs.search.equal_words.Given as goal
 
 abbrev pub invariant-loop-i : goal.invariant-loop-i

@@ -1,7 +1,6 @@
 use Rattle.planning.proofs.SearchLaws.{found_same}
 use Rattle.planning.specs.declared.search.Found.{Found}
 use mathlib.Core.Path.{ap, ◌∙◌}
-use borrow.Author.Rules.{rules}
 use Rattle.planning.proofs.search.first_with.Goals as goal
 
 pub returns : goal.returns

@@ -2,7 +2,6 @@ use Rattle.planning.proofs.CardWords.{word_here}
 use Rattle.planning.proofs.SearchLaws.{there_sought}
 use Rattle.planning.specs.PlanSteps.{may_fit}
 use native.Mathlib.Omega.{arith}
-use borrow.Author.Rules.{rules}
 use Rattle.planning.proofs.search.may_fit.Goals as goal
 
 pub returns-then-tabled-has_table : goal.returns-then-tabled-has_table

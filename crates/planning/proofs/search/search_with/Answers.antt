@@ -1,10 +1,6 @@
-use Prim.Native.Nat.{◌*◌, ◌-◌, ◌≤◌}
-use mathlib.Core.Path.{◌≡◌, ◌∙◌}
+use mathlib.Core.Path.{◌∙◌}
 use native.Mathlib.Omega.{arith}
-use Rattle.planning.specs.PlanSteps.{cards_in}
-use Rattle.planning.specs.Searches.{searched}
-use Rattle.planning.proofs.SearchLaws.{searchLeft, search_first, search_found, search_past, search_stop}
-use borrow.Author.Rules.{rules}
+use Rattle.planning.proofs.SearchLaws.{search_first, search_found, search_past, search_stop}
 use Rattle.planning.proofs.search.search_with.Goals as goal
 
 pub loop-k-init : goal.loop-k-init

@@ -1,10 +1,8 @@
 use Prim.Native.Nat.{◌*◌, ◌-◌, ◌≤◌}
-use mathlib.Core.Path.{◌≡◌, ◌∙◌}
-use native.Mathlib.Omega.{arith}
+use mathlib.Core.Path.{◌≡◌}
 use Rattle.planning.specs.PlanSteps.{cards_in}
 use Rattle.planning.specs.Searches.{searched}
-use Rattle.planning.proofs.SearchLaws.{searchLeft, search_first, search_found, search_past, search_stop}
-use borrow.Author.Rules.{rules}
+use Rattle.planning.proofs.SearchLaws.{searchLeft}
 use Rattle.planning.proofs.search.search_with.Given as goal
 
 abbrev pub invariant-loop-k : goal.invariant-loop-k

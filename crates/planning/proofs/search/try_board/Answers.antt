@@ -5,20 +5,19 @@ use Prim.Native.Nat.{ℕ, ◌+◌}
 use mathlib.Core.Path.{sym, ap, ◌∙◌}
 use mathlib.Core.Bool.{cond}
 use native.Mathlib.Omega.{arith}
-use borrow.Author.Tests.{not-true, not-false}
 use borrow.Author.Rules.{rules}
 use Rattle.planning.proofs.search.try_board.Goals as goal
 
 pub returns-then-not-may_fit : goal.returns-then-not-may_fit
 returns-then-not-may_fit c =
     let a = c.args in
-    let t = tried_over a.tabled a.deal.now (card_here a.k a.cards.now) (sym c.may_fit.ensures ∙ not-true _ c.if-not-may_fit.true) in
+    let t = tried_over a.tabled a.deal.now (card_here a.k a.cards.now) (sym c.may_fit.ensures ∙ c.if-not-may_fit.true) in
     (t.0, t.1, omega arith)
 
 pub returns-then-equal-eq8 : goal.returns-then-equal-eq8
 returns-then-equal-eq8 c =
     let a = c.args in
-    let m = sym c.may_fit.ensures ∙ not-false _ c.if-not-may_fit.false in
+    let m = sym c.may_fit.ensures ∙ c.if-not-may_fit.false in
     let e = c.equal_words-equal.ensures.0 in
     let t = tried_found a.tabled a.deal.now (card_here a.k a.cards.now) m c.requires.1 (deal_length a.k a.cards.now c.requires.0) c.requires.2 (sym e ∙ c.if-equal-eq8.true) in
     (t.0, t.1, omega arith)
@@ -29,7 +28,7 @@ words_counted-requires c = (search rules, omega (arith, c.if-equal-eq8.false, c.
 pub returns : goal.returns
 returns c =
     let a = c.args in
-    let m = sym c.may_fit.ensures ∙ not-false _ c.if-not-may_fit.false in
+    let m = sym c.may_fit.ensures ∙ c.if-not-may_fit.false in
     let e = c.equal_words-equal.ensures.0 in
     let card = card_here a.k a.cards.now in
     let t =

@@ -1,5 +1,4 @@
 use native.Mathlib.Omega.{arith}
-use borrow.Author.Rules.{rules}
 use Rattle.planning.proofs.search.words_counted.Goals as goal
 
 pub returns-then-is_whole : goal.returns-then-is_whole

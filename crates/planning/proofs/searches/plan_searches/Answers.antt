@@ -1,4 +1,3 @@
-use borrow.Author.Rules.{rules}
 use Rattle.planning.proofs.searches.plan_searches.Goals as goal
 
 pub returns : goal.returns

@@ -1,5 +1,4 @@
 use Rattle.planning.proofs.AnswerLaws.{there, boards_low, searches_told, searches_none}
-use borrow.Author.Rules.{rules}
 use Rattle.planning.proofs.searches.plan_searches_with.Goals as goal
 
 pub put_searches-words-requires : goal.put_searches-words-requires

@@ -1,10 +1,6 @@
 use Rattle.planning.specs.PlanSteps.{cards_in}
-use Rattle.planning.proofs.BoxLaws.{cards_count}
-use Rattle.planning.proofs.PlanLaws.{rows_end}
-use Rattle.planning.proofs.SearchesLaws.{SearchRows, search_rows_first, search_rows_next, search_rows_fit, search_rows_end}
+use Rattle.planning.proofs.SearchesLaws.{SearchRows}
 use Prim.Native.Nat.{◌-◌}
-use native.Mathlib.Omega.{arith}
-use borrow.Author.Rules.{rules}
 use Rattle.planning.proofs.searches.put_searches.Given as goal
 
 abbrev pub invariant-loop-k : goal.invariant-loop-k

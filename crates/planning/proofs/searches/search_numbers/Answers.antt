@@ -9,60 +9,59 @@ use mathlib.Core.Path.{ap, ◌≡◌, ◌∙◌}
 use mathlib.Core.Bool.{false}
 use lib.ListN.{take}
 use native.Mathlib.Omega.{arith}
-use borrow.Author.Rules.{rules}
 use Rattle.planning.proofs.searches.search_numbers.Goals as goal
 
 pub returns-then-state-lt2 : goal.returns-then-state-lt2
 returns-then-state-lt2 c =
     let a = c.args in
-    let olds = cards_in a.olds a.old-cards.now in
-    let news = cards_in a.news a.new-cards.now in
-    let j = plan_here olds news a.k a.new-cards.now in
+    let olds = cards_in a.olds a.old_cards.now in
+    let news = cards_in a.news a.new_cards.now in
+    let j = plan_here olds news a.k a.new_cards.now in
     none_made olds news j c.state_of-s.ensures.0 c.state_number-state.ensures c.from_of-from.ensures c.if-state-lt2.true
 
 pub search_with-old-requires : goal.search_with-old-requires
 search_with-old-requires c =
     let a = c.args in
-    let olds = cards_in a.olds a.old-cards.now in
-    let news = cards_in a.news a.new-cards.now in
-    (omega arith, deal_whole _ (card_here a.k a.new-cards.now) (searched_whole olds news (cards_in a.k a.new-cards.now) (card_here a.k a.new-cards.now) c.state_of-s.ensures.0 c.state_number-state.ensures c.if-state-lt2.false) c.deal_at-d.ensures)
+    let olds = cards_in a.olds a.old_cards.now in
+    let news = cards_in a.news a.new_cards.now in
+    (omega arith, deal_whole _ (card_here a.k a.new_cards.now) (searched_whole olds news (cards_in a.k a.new_cards.now) (card_here a.k a.new_cards.now) c.state_of-s.ensures.0 c.state_number-state.ensures c.if-state-lt2.false) c.deal_at-d.ensures)
 
 pub returns-then-state-lt3 : goal.returns-then-state-lt3
 returns-then-state-lt3 c =
     let a = c.args in
-    let olds = cards_in a.olds a.old-cards.now in
-    let news = cards_in a.news a.new-cards.now in
-    let j = plan_here olds news a.k a.new-cards.now in
+    let olds = cards_in a.olds a.old_cards.now in
+    let news = cards_in a.news a.new_cards.now in
+    let j = plan_here olds news a.k a.new_cards.now in
     old_made olds news j c.state_of-s.ensures.0 c.state_number-state.ensures c.from_of-from.ensures c.deal_at-d.ensures c.search_with-old.ensures.0 c.if-state-lt2.false c.if-state-lt3.true
 
 pub search_with-near-requires : goal.search_with-near-requires
 search_with-near-requires c =
     let a = c.args in
-    let olds = cards_in a.olds a.old-cards.now in
-    let news = cards_in a.news a.new-cards.now in
-    (omega arith, deal_whole _ (card_here a.k a.new-cards.now) (searched_whole olds news (cards_in a.k a.new-cards.now) (card_here a.k a.new-cards.now) c.state_of-s.ensures.0 c.state_number-state.ensures c.if-state-lt2.false) c.deal_at-d.ensures)
+    let olds = cards_in a.olds a.old_cards.now in
+    let news = cards_in a.news a.new_cards.now in
+    (omega arith, deal_whole _ (card_here a.k a.new_cards.now) (searched_whole olds news (cards_in a.k a.new_cards.now) (card_here a.k a.new_cards.now) c.state_of-s.ensures.0 c.state_number-state.ensures c.if-state-lt2.false) c.deal_at-d.ensures)
 
 pub returns-then-state-lt4 : goal.returns-then-state-lt4
 returns-then-state-lt4 c =
     let a = c.args in
-    let olds = cards_in a.olds a.old-cards.now in
-    let news = cards_in a.news a.new-cards.now in
-    let j = plan_here olds news a.k a.new-cards.now in
+    let olds = cards_in a.olds a.old_cards.now in
+    let news = cards_in a.news a.new_cards.now in
+    let j = plan_here olds news a.k a.new_cards.now in
     near_made olds news j c.state_of-s.ensures.0 c.state_number-state.ensures c.from_of-from.ensures c.deal_at-d.ensures c.search_with-old.ensures.0 c.search_with-near.ensures.0 c.if-state-lt3.false c.if-state-lt4.true
 
 pub search_with-twin-requires : goal.search_with-twin-requires
 search_with-twin-requires c =
     let a = c.args in
-    let olds = cards_in a.olds a.old-cards.now in
-    let news = cards_in a.news a.new-cards.now in
-    (omega arith, deal_whole _ (card_here a.k a.new-cards.now) (searched_whole olds news (cards_in a.k a.new-cards.now) (card_here a.k a.new-cards.now) c.state_of-s.ensures.0 c.state_number-state.ensures c.if-state-lt2.false) c.deal_at-d.ensures)
+    let olds = cards_in a.olds a.old_cards.now in
+    let news = cards_in a.news a.new_cards.now in
+    (omega arith, deal_whole _ (card_here a.k a.new_cards.now) (searched_whole olds news (cards_in a.k a.new_cards.now) (card_here a.k a.new_cards.now) c.state_of-s.ensures.0 c.state_number-state.ensures c.if-state-lt2.false) c.deal_at-d.ensures)
 
 pub returns : goal.returns
 returns c =
     let a = c.args in
-    let olds = cards_in a.olds a.old-cards.now in
-    let news = cards_in a.news a.new-cards.now in
-    let j = plan_here olds news a.k a.new-cards.now in
+    let olds = cards_in a.olds a.old_cards.now in
+    let news = cards_in a.news a.new_cards.now in
+    let j = plan_here olds news a.k a.new_cards.now in
     let z : a.k + 1 - 1 ≡ a.k = omega arith in
-    let e : cards_in a.k a.new-cards.now ≡ take (a.k + 1 - 1) news = rw z (cards_take a.k a.news a.new-cards.now (omega arith)) in
+    let e : cards_in a.k a.new_cards.now ≡ take (a.k + 1 - 1) news = rw z (cards_take a.k a.news a.new_cards.now (omega arith)) in
     twin_made olds news j c.state_of-s.ensures.0 c.state_number-state.ensures c.from_of-from.ensures c.deal_at-d.ensures c.search_with-old.ensures.0 c.search_with-near.ensures.0 (c.search_with-twin.ensures.0 ∙ ap (searched false _) e) c.if-state-lt4.false

@@ -1,8 +1,5 @@
 use Prim.Native.Nat.{◌-◌}
-use mathlib.Core.Path.{refl}
-use native.Mathlib.Omega.{arith}
-use Rattle.planning.proofs.FillLaws.{Sought, next_here, next_more, next_none}
-use borrow.Author.Rules.{rules}
+use Rattle.planning.proofs.FillLaws.{Sought}
 use Rattle.planning.proofs.slips.next_slip.Given as goal
 
 abbrev pub invariant-loop-i : goal.invariant-loop-i

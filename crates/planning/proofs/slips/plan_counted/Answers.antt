@@ -1,7 +1,5 @@
 use Rattle.planning.proofs.AnswerLaws.{there}
 use Rattle.planning.proofs.StructLaws.{counted_refused, counted_short, counted_listed}
-use mathlib.Core.Path.{◌∙◌}
-use borrow.Author.Rules.{rules}
 use Rattle.planning.proofs.slips.plan_counted.Goals as goal
 
 pub count_boards-t-requires : goal.count_boards-t-requires
@@ -11,7 +9,7 @@ pub returns-in-Refused : goal.returns-in-Refused
 returns-in-Refused c = rw c.refused.ensures (counted_refused c.read_both.ensures c.args.room c.in-Refused.is)
 
 pub returns-in-Refused-answer : goal.returns-in-Refused-answer
-returns-in-Refused-answer c = rw c.refused-in-Refused-answer.ensures (counted_short c.read_both.ensures c.args.room c.in-Both.is (let b = c.read_both in record { old_cards = b.auto.1.1.1.0; old_entries = b.auto.1.1.1.1.0; new_cards = b.auto.1.1.1.1.1.0; new_entries = b.auto.1.1.1.1.1.1.0 }) c.count_boards-t.ensures c.settle-answer.ensures c.in-Refused-answer.is)
+returns-in-Refused-answer c = rw c.refused-in-Refused-answer.ensures (counted_short c.read_both.ensures c.args.room c.in-Both.is (let b = c.read_both in record { old_cards = b.auto.old_cards; old_entries = b.auto.old_entries; new_cards = b.auto.new_cards; new_entries = b.auto.new_entries }) c.count_boards-t.ensures c.settle-answer.ensures c.in-Refused-answer.is)
 
 pub returns-in-Planned : goal.returns-in-Planned
-returns-in-Planned c = counted_listed c.read_both.ensures c.args.room c.in-Both.is (let b = c.read_both in record { old_cards = b.auto.1.1.1.0; old_entries = b.auto.1.1.1.1.0; new_cards = b.auto.1.1.1.1.1.0; new_entries = b.auto.1.1.1.1.1.1.0 }) c.count_boards-t.ensures c.settle-answer.ensures c.in-Planned.is
+returns-in-Planned c = counted_listed c.read_both.ensures c.args.room c.in-Both.is (let b = c.read_both in record { old_cards = b.auto.old_cards; old_entries = b.auto.old_entries; new_cards = b.auto.new_cards; new_entries = b.auto.new_entries }) c.count_boards-t.ensures c.settle-answer.ensures c.in-Planned.is

@@ -1,6 +1,5 @@
 use Rattle.planning.specs.Slips.{slip_of}
 use Rattle.planning.specs.SlipSteps.{slip_struct}
-use borrow.Author.Rules.{rules}
 use Rattle.planning.proofs.slips.slip_here.Goals as goal
 
 pub returns : goal.returns

@@ -1,4 +1,3 @@
-use borrow.Author.Rules.{rules}
 use Rattle.planning.proofs.state_at.state_at.Goals as goal
 
 pub returns : goal.returns

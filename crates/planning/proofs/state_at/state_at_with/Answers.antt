@@ -1,5 +1,4 @@
 use Rattle.planning.proofs.AnswerLaws.{there, state_told, state_none}
-use borrow.Author.Rules.{rules}
 use Rattle.planning.proofs.state_at.state_at_with.Goals as goal
 
 pub state_in-state-requires : goal.state_in-state-requires
