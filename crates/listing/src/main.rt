@@ -1,22 +1,27 @@
 // The listing program: lists the edition in `new.pbn`, given the one in `old.pbn`.
-use libc::STDOUT_FILENO;
+#![tactic(auto)]
+
 use listing_text::listing::list;
+use std::io::{Read, Write};
+use std::rt::Files;
+use std::{fs, io};
 use tables::page::Written;
 use tables::text::upto;
 
-// How many bytes of a file were read into buf; a file that is not opened is empty.
-fn read_file(path: &[u8], buf: &mut [u8]) -> usize {
-    let fd = os::open_read(path);
-    if fd < 0 {
-        return 0;
+// What a file holds; a file that is not opened is empty. An edition may have 16,384 bytes: one more is read, so that a longer file is seen.
+fn read_file<R: Files + AllocGlobal>(rt: &R, path: &str) -> io::Result<Vec<u8>> {
+    let mut bytes = Vec::new(rt.alloc());
+    match fs::open(rt, path) {
+        Ok(file) => {
+            file.take(16385).read_to_end(&mut bytes)?;
+            Ok(bytes)
+        }
+        Err(_) => Ok(bytes),
     }
-    let n = io::read_full(fd, buf);
-    libc::close(fd);
-    n
 }
 
 // Lends 128 cards and 2,048 entries an edition, 128 slips, and a page that every listing of so many boards fits.
-fn print_listing(old: &[u8], new: &[u8]) {
+fn print_listing(rt: &impl Print, old: &[u8], new: &[u8]) -> io::Result<()> {
     let mut old_cards = [0u32; 8192];
     let mut old_entries = [0u32; 8192];
     let mut new_cards = [0u32; 8192];
@@ -35,18 +40,13 @@ fn print_listing(old: &[u8], new: &[u8]) {
         &mut page,
     );
     match written {
-        Written::Bytes(n) => {
-            io::write_all(STDOUT_FILENO, upto(&page, n as usize));
-        }
-        Written::Refused(_) => {}
+        Written::Bytes(n) => io::writer(rt).write_all(upto(&page, n as usize)),
+        Written::Refused(_) => Ok(()),
     }
 }
 
-// An edition may have 16,384 bytes; the arrays hold one more, so that a longer file is seen.
-fn main() {
-    let mut old = [0u8; 16385];
-    let mut new = [0u8; 16385];
-    let m = read_file(b"old.pbn", &mut old);
-    let n = read_file(b"new.pbn", &mut new);
-    print_listing(upto(&old, m), upto(&new, n));
+fn main(rt: HostRuntime) -> io::Result<()> {
+    let old = read_file(&rt, "old.pbn")?;
+    let new = read_file(&rt, "new.pbn")?;
+    print_listing(&rt, &old, &new)
 }

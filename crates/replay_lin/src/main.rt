@@ -7,91 +7,71 @@
 //   1 the refusal, 0 for none · 2 the carried number · 2 the boards
 //   2 the length of what is written, then what is written
 // All other bytes of the page are zero.
+#![tactic(auto)]
+
 mod cases; // a case taken apart
 mod replay; // a case replayed and compared
 
 use crate::replay::{Counts, End, Replayed, replay};
-use libc::STDOUT_FILENO;
+use std::io::Read;
+use std::{fs, io};
 
-fn print(text: &[u8]) {
-    io::write_all(STDOUT_FILENO, text);
+fn print_line(rt: &impl Print, name: &str, n: u64) -> io::Result<()> {
+    println!(rt; "{name}{n}")
 }
 
-fn print_number(n: u64) {
-    io::print_decimal(STDOUT_FILENO, n);
+fn print_groups(rt: &impl Print, n: [u64; 6]) -> io::Result<()> {
+    print_line(rt, "chosen texts: ", n[1])?;
+    print_line(rt, "texts of several boards: ", n[2])?;
+    print_line(rt, "lent sizes: ", n[3])?;
+    print_line(rt, "sampled texts: ", n[4])?;
+    print_line(rt, "damaged texts: ", n[5])
 }
 
-fn print_line(name: &[u8], n: u64) {
-    print(name);
-    print_number(n);
-    print(b"\n");
+fn print_answers(rt: &impl Print, n: [u64; 17]) -> io::Result<()> {
+    print_line(rt, "converted: ", n[0])?;
+    print_line(rt, "refused, no deal: ", n[16])?;
+    print_line(rt, "refused, page full: ", n[7])
 }
 
-fn print_groups(n: [u64; 6]) {
-    print_line(b"chosen texts: ", n[1]);
-    print_line(b"texts of several boards: ", n[2]);
-    print_line(b"lent sizes: ", n[3]);
-    print_line(b"sampled texts: ", n[4]);
-    print_line(b"damaged texts: ", n[5]);
+fn print_counts(rt: &impl Print, c: Counts) -> io::Result<()> {
+    print_groups(rt, c.groups)?;
+    print_answers(rt, c.answers)?;
+    print_line(rt, "boards: ", c.boards)?;
+    print_line(rt, "bytes written: ", c.written)?;
+    print_line(rt, "bytes of pages compared: ", c.lent)
 }
 
-fn print_answers(n: [u64; 17]) {
-    print_line(b"converted: ", n[0]);
-    print_line(b"refused, no deal: ", n[16]);
-    print_line(b"refused, page full: ", n[7]);
+fn print_place(rt: &impl Print, what: &str, compared: u64, at: u64) -> io::Result<()> {
+    println!(rt; "{compared} compared, then {what} at byte {at}")
 }
 
-fn print_counts(c: Counts) {
-    let groups = c.groups;
-    let answers = c.answers;
-    print_groups(groups);
-    print_answers(answers);
-    print_line(b"boards: ", c.boards);
-    print_line(b"bytes written: ", c.written);
-    print_line(b"bytes of pages compared: ", c.lent);
-}
-
-fn print_place(what: &[u8], compared: u64, at: u64) {
-    print_number(compared);
-    print(b" compared, then ");
-    print(what);
-    print_line(b" at byte ", at);
-}
-
-fn print_end(end: End, compared: u64) {
+fn print_end(rt: &impl Print, end: End, compared: u64) -> io::Result<()> {
     match end {
-        End::Same => {
-            print_number(compared);
-            print(b" compared, 0 different\n");
-        }
-        End::Different(at) => print_place(b"one different", compared, at),
-        End::NoCase(at) => print_place(b"no whole case", compared, at),
+        End::Same => println!(rt; "{compared} compared, 0 different"),
+        End::Different(at) => print_place(rt, "one different", compared, at),
+        End::NoCase(at) => print_place(rt, "no whole case", compared, at),
     }
 }
 
-fn print_replayed(r: Replayed) {
-    let end = r.end;
-    print_counts(r.counts);
-    print_end(end, r.compared);
+fn print_replayed(rt: &impl Print, r: Replayed) -> io::Result<()> {
+    print_counts(rt, r.counts)?;
+    print_end(rt, r.end, r.compared)
 }
 
-// The whole file is read: an array that is full may hold a part only.
-fn replay_file(fd: i32) {
-    let mut answers = [0u8; 400001];
-    let n = io::read_full(fd, &mut answers);
-    if n == 400001 {
-        print(b"answers: too long\n");
-        return;
+// The whole file is read: as many bytes as may be read may be a part only.
+fn replay_file<R: Print + AllocGlobal>(rt: &R, file: impl Read + Drop) -> io::Result<()> {
+    let mut answers = Vec::new(rt.alloc());
+    file.take(400001).read_to_end(&mut answers)?;
+    if answers.len() == 400001 {
+        return println!(rt; "answers: too long");
     }
-    print_replayed(replay(&answers[..n]));
+    print_replayed(rt, replay(&answers))
 }
 
-fn main() {
-    let fd = os::open_read(b"answers");
-    if fd < 0 {
-        print(b"answers: not opened\n");
-        return;
+fn main(rt: HostRuntime) -> io::Result<()> {
+    match fs::open(&rt, "answers") {
+        Ok(file) => replay_file(&rt, file),
+        Err(_) => println!(rt; "answers: not opened"),
     }
-    replay_file(fd);
-    libc::close(fd);
 }

@@ -1,69 +1,53 @@
 // Replays the answers of the original Rust that the file `answers` holds, and prints how many were compared. oracle/README.md
 // says how the file was made.
+#![tactic(auto)]
+
 mod cases; // a case taken apart
 mod replay; // a case replayed and compared
 
 use crate::replay::{End, Replayed, replay};
-use libc::STDOUT_FILENO;
+use std::io::Read;
+use std::{fs, io};
 
-fn print(text: &[u8]) {
-    io::write_all(STDOUT_FILENO, text);
+fn print_line(rt: &impl Print, name: &str, n: u64) -> io::Result<()> {
+    println!(rt; "{name}{n}")
 }
 
-fn print_number(n: u64) {
-    io::print_decimal(STDOUT_FILENO, n);
+fn print_place(rt: &impl Print, what: &str, at: u64) -> io::Result<()> {
+    println!(rt; "{what} at byte {at}")
 }
 
-fn print_line(name: &[u8], n: u64) {
-    print(name);
-    print_number(n);
-    print(b"\n");
-}
-
-fn print_place(what: &[u8], at: u64) {
-    print(what);
-    print_line(b" at byte ", at);
-}
-
-fn print_end(end: End, compared: u64) {
+fn print_end(rt: &impl Print, end: End, compared: u64) -> io::Result<()> {
     match end {
-        End::Same => {
-            print_number(compared);
-            print(b" compared, 0 different\n");
-        }
-        End::Different(at) => print_place(b"different", at),
-        End::NoCase(at) => print_place(b"no whole case", at),
+        End::Same => println!(rt; "{compared} compared, 0 different"),
+        End::Different(at) => print_place(rt, "different", at),
+        End::NoCase(at) => print_place(rt, "no whole case", at),
     }
 }
 
-fn print_replayed(r: Replayed) {
+fn print_replayed(rt: &impl Print, r: Replayed) -> io::Result<()> {
     let n = r.counts.kinds;
-    let end = r.end;
-    print_line(b"digits written: ", n[1]);
-    print_line(b"header written: ", n[2]);
-    print_line(b"rows written: ", n[3]);
-    print_line(b"digits read: ", n[4]);
-    print_line(b"rows read: ", n[5]);
-    print_end(end, r.compared);
+    print_line(rt, "digits written: ", n[1])?;
+    print_line(rt, "header written: ", n[2])?;
+    print_line(rt, "rows written: ", n[3])?;
+    print_line(rt, "digits read: ", n[4])?;
+    print_line(rt, "rows read: ", n[5])?;
+    print_end(rt, r.end, r.compared)
 }
 
-// The whole file is read: an array that is full may hold a part only.
-fn replay_file(fd: i32) {
-    let mut answers = [0u8; 131072];
-    let n = io::read_full(fd, &mut answers);
-    if n == 131072 {
-        print(b"answers: too long\n");
-        return;
+// The whole file is read: as many bytes as may be read may be a part only.
+fn replay_file<R: Print + AllocGlobal>(rt: &R, file: impl Read + Drop) -> io::Result<()> {
+    let mut answers = Vec::new(rt.alloc());
+    file.take(131072).read_to_end(&mut answers)?;
+    if answers.len() == 131072 {
+        return println!(rt; "answers: too long");
     }
-    print_replayed(replay(&answers[..n]));
+    print_replayed(rt, replay(&answers))
 }
 
-fn main() {
-    let fd = os::open_read(b"answers");
-    if fd < 0 {
-        print(b"answers: not opened\n");
-        return;
+fn main(rt: HostRuntime) -> io::Result<()> {
+    match fs::open(&rt, "answers") {
+        Ok(file) => replay_file(&rt, file),
+        Err(_) => println!(rt; "answers: not opened"),
     }
-    replay_file(fd);
-    libc::close(fd);
 }
