@@ -1,26 +1,20 @@
 -- Laws of the listing: editions with a limit, the lines of all boards, and the page.
-use Prim.Native.Nat.{ℕ, suc, ◌+◌, ◌*◌, ◌-◌, ◌/◌, ◌≤◌, ◌<◌}
+use Prim.Native.Nat.{ℕ, ◌+◌, ◌*◌, ◌/◌, ◌≤◌, ◌<◌}
 use mathlib.Core.Path.{◌≡◌, refl, sym, ap, ◌∙◌, subst, subst⁻¹}
-use mathlib.Core.Bool.{Bool, true, false, cond, ◌&&◌}
-use mathlib.Core.List.{List, [], ◌∷◌, ◌++◌}
+use mathlib.Core.Bool.{Bool, true, false, cond}
+use mathlib.Core.List.{List, ◌++◌}
 use native.Mathlib.Omega.{arith}
 use lib.Dec.{ltb, leb}
-use lib.ListN.{length, replicate, length-replicate, length-append}
+use lib.ListN.{length, replicate, length-replicate}
 use lib.Seq.{length-sets}
-use borrow.Author.Tests.{ltb-false, lt-ltb, le-ltb}
 use Rattle.tables.specs.declared.letters.Conventions.{Conventions}
 use Rattle.tables.specs.declared.page.Written.{Written}
 use Rattle.tables.specs.Page.{Wrote}
-use Rattle.tables.specs.PageSteps.{Put, PageEnded}
+use Rattle.tables.specs.PageSteps.{Put}
 use Rattle.tables.proofs.Laws.{by_cases, clash}
 use Rattle.tables.proofs.PageLaws.{ToPut, to_put, putting, put_all_lem, finished}
-use Rattle.reader.specs.declared.edition.ReadRefusal.{ReadRefusal}
-use Rattle.reader.specs.declared.edition.ReadRefusal.TheVariants.{Overlong}
-use Rattle.reader.specs.declared.edition.Reading.{Reading}
-use Rattle.reader.specs.declared.edition.Reading.TheVariants.{Taken}
-use Rattle.reader.specs.declared.edition.Reading.TheVariants as reading
 use Rattle.reader.specs.Store.{zeros, put_all, lent}
-use Rattle.reader.specs.Editions.{is_taken, reading_of, cards_of, IsRead}
+use Rattle.reader.specs.Editions.{is_taken, reading_of}
 use Rattle.reader.proofs.StoreLaws.{Blocks, put_zeros}
 use Rattle.reader.proofs.Counts.{TextBoardsFew}
 use Rattle.planning.specs.declared.state.BoardState.{BoardState}
@@ -37,12 +31,12 @@ use Rattle.planning.specs.declared.plan.Planning.TheVariants as planning
 use Rattle.planning.specs.Cards.{card_here}
 use Rattle.planning.specs.PlanSteps.{cards_in, BoxesKept, PlanEnded}
 use Rattle.planning.specs.States.{BoardPlan, board_plans, state_of}
-use Rattle.planning.specs.Slips.{slips_of, count_of, totals_of}
-use Rattle.planning.specs.Plans.{Boxes, both_after, editions_of, are_both, plans_of, slips_answer, planned_by, is_planned, BoxesAfter, BothRead}
+use Rattle.planning.specs.Slips.{slips_of, totals_of}
+use Rattle.planning.specs.Plans.{Boxes, editions_of, are_both, plans_of, slips_answer, planned_by, is_planned, BoxesAfter, BothRead}
 use Rattle.listing_text.specs.Limited.{limited_of, limited_both}
 use Rattle.listing_text.specs.ListingSteps.{BothLimited, Countable, PageKept, BoardsOnPage}
 use Rattle.listing_text.specs.Listing.{board_line, listing_lines, total_line, refused_line, list_text, listing_plan, well_on, ListingFor, IsListing}
-use Rattle.planning.proofs.BothLaws.{CardsThere, both_are_taken, taken_short}
+use Rattle.planning.proofs.BothLaws.{both_are_taken, taken_short}
 use Rattle.planning.proofs.BoardLaws.{boards_left, left_first, left_step, left_none, boards_count}
 use Rattle.planning.proofs.PlanLaws.{count_few}
 use Rattle.planning.proofs.SlipLaws.{slips_count, slips_five}

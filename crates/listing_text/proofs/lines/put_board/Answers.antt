@@ -1,7 +1,6 @@
 use Rattle.listing_text.specs.Listing.{board_line}
 use Rattle.tables.proofs.PageLaws.{put_then}
 use native.Mathlib.Omega.{arith}
-use borrow.Author.Rules.{rules}
 use Rattle.listing_text.proofs.lines.put_board.Goals as goal
 
 pub put_state-b-requires : goal.put_state-b-requires

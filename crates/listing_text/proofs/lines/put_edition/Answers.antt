@@ -1,6 +1,5 @@
 use borrow.Author.Tests.{eq-eqb, ne_eqb}
 use native.Mathlib.Omega.{arith}
-use borrow.Author.Rules.{rules}
 use Rattle.listing_text.proofs.lines.put_edition.Goals as goal
 
 pub returns-then-edition-eq1 : goal.returns-then-edition-eq1

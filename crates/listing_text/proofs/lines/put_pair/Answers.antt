@@ -1,6 +1,5 @@
 use Rattle.tables.proofs.PageLaws.{put_then, decimal_few}
 use native.Mathlib.Omega.{arith}
-use borrow.Author.Rules.{rules}
 use Rattle.listing_text.proofs.lines.put_pair.Goals as goal
 
 pub returns : goal.returns

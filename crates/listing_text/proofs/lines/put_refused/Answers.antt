@@ -2,7 +2,6 @@ use Rattle.listing_text.proofs.LineLaws.{number_low}
 use Rattle.listing_text.specs.Listing.{refused_line}
 use Rattle.tables.proofs.PageLaws.{put_then}
 use native.Mathlib.Omega.{arith}
-use borrow.Author.Rules.{rules}
 use Rattle.listing_text.proofs.lines.put_refused.Goals as goal
 
 pub put_pair-a-requires : goal.put_pair-a-requires

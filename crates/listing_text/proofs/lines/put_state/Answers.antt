@@ -1,6 +1,5 @@
 use Rattle.listing_text.specs.Listing.{state_text}
 use native.Mathlib.Omega.{arith}
-use borrow.Author.Rules.{rules}
 use Rattle.listing_text.proofs.lines.put_state.Goals as goal
 
 pub returns-in-Blank : goal.returns-in-Blank

@@ -1,8 +1,6 @@
-use Rattle.tables.proofs.PageLaws.{put_kept}
 use Rattle.listing_text.specs.Listing.{total_line}
 use Rattle.tables.proofs.PageLaws.{put_then}
 use native.Mathlib.Omega.{arith}
-use borrow.Author.Rules.{rules}
 use Rattle.listing_text.proofs.lines.put_total.Goals as goal
 
 pub put_pair-b-requires : goal.put_pair-b-requires

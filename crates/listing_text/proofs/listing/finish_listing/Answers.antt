@@ -1,6 +1,4 @@
 use borrow.Author.Tests.{le-leb, lt-leb}
-use mathlib.Core.Path.{refl}
-use borrow.Author.Rules.{rules}
 use Rattle.listing_text.proofs.listing.finish_listing.Goals as goal
 
 pub returns-then-n-page : goal.returns-then-n-page

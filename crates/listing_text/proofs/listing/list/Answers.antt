@@ -1,4 +1,3 @@
-use borrow.Author.Rules.{rules}
 use Rattle.listing_text.proofs.listing.list.Goals as goal
 
 pub returns : goal.returns

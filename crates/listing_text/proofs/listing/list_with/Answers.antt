@@ -1,5 +1,4 @@
 use Rattle.listing_text.proofs.ListingLaws.{limited_room, list_refused, list_both}
-use borrow.Author.Rules.{rules}
 use Rattle.listing_text.proofs.listing.list_with.Goals as goal
 
 pub list_taken-requires : goal.list_taken-requires
@@ -9,4 +8,4 @@ pub returns-in-Refused : goal.returns-in-Refused
 returns-in-Refused c = list_refused c.read_both_limited.ensures c.zero_numbers.ensures c.in-Refused.is c.write_refused.ensures
 
 pub returns-in-Both : goal.returns-in-Both
-returns-in-Both c = let b = c.read_both_limited in list_both b.ensures c.zero_numbers.ensures c.in-Both.is (record { old_cards = b.auto.1.1.1.1.0; old_entries = b.auto.1.1.1.1.1.0; new_cards = b.auto.1.1.1.1.1.1.0; new_entries = b.auto.1.1.1.1.1.1.1.0 }) c.list_taken.ensures
+returns-in-Both c = let b = c.read_both_limited in list_both b.ensures c.zero_numbers.ensures c.in-Both.is (record { old_cards = b.auto.old_cards; old_entries = b.auto.old_entries; new_cards = b.auto.new_cards; new_entries = b.auto.new_entries }) c.list_taken.ensures

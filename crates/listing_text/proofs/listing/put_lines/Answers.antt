@@ -1,14 +1,11 @@
 use native.Mathlib.Omega.{arith}
 use Rattle.planning.specs.PlanSteps.{cards_in}
-use Rattle.listing_text.proofs.ListingLaws.{Lines, lines_first, lines_next, lines_end}
-use Prim.Native.Nat.{◌-◌, ◌≤◌}
-use mathlib.Core.Path.{◌≡◌, refl}
-use lib.ListN.{length, drop}
-use borrow.Author.Rules.{rules}
+use Rattle.listing_text.proofs.ListingLaws.{lines_first, lines_next, lines_end}
+use mathlib.Core.Path.{refl}
 use Rattle.listing_text.proofs.listing.put_lines.Goals as goal
 
 pub loop-k-init : goal.loop-k-init
-loop-k-init c = let a = c.args in lines_first (cards_in a.olds a.old-cards.now) a.news a.new-cards.now a.page.now
+loop-k-init c = let a = c.args in lines_first (cards_in a.olds a.old_cards.now) a.news a.new_cards.now a.page.now
 
 pub state_of-s-requires : goal.state_of-s-requires
 state_of-s-requires c = (c.requires.0, c.requires.1, c.loop-k-test.true)

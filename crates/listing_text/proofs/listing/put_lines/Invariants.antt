@@ -1,10 +1,6 @@
-use native.Mathlib.Omega.{arith}
 use Rattle.planning.specs.PlanSteps.{cards_in}
-use Rattle.listing_text.proofs.ListingLaws.{Lines, lines_first, lines_next, lines_end}
-use Prim.Native.Nat.{◌-◌, ◌≤◌}
-use mathlib.Core.Path.{◌≡◌, refl}
-use lib.ListN.{length, drop}
-use borrow.Author.Rules.{rules}
+use Rattle.listing_text.proofs.ListingLaws.{Lines}
+use Prim.Native.Nat.{◌-◌}
 use Rattle.listing_text.proofs.listing.put_lines.Given as goal
 
 abbrev pub invariant-loop-k : goal.invariant-loop-k

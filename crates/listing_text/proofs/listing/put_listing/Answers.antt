@@ -1,5 +1,4 @@
 use Rattle.tables.proofs.PageLaws.{put_then}
-use borrow.Author.Rules.{rules}
 use Rattle.listing_text.proofs.listing.put_listing.Goals as goal
 
 pub returns : goal.returns
