@@ -25,11 +25,10 @@ overflow_add-at c =
 
 pub part-requires : goal.part-requires
 part-requires c =
-    let q = c in
-    let l = q.before.before.before.before.before.before.before.loop in
-    let a = q.before.before.before.before.before.before.before.before.before.args in
-    let p = q.before.before.before.before.p.given.0.0 in
-    let n : IsNext a.text.now l.at p = rw q.before.before.before.before.p.given.1 at q.before.before.before.before.before.before.next-pair.ensures in
+    let l = c.loop-p in
+    let a = c.args in
+    let p = c.in-Found.p in
+    let n : IsNext a.text.now l.at p = rw c.in-Found.is at c.next_pair.ensures in
     n.ordered
 
 pub returns-then-is_named : goal.returns-then-is_named
@@ -77,18 +76,16 @@ loop-p-preserved-else-code-lt47 c =
 
 pub loop-p-smaller : goal.loop-p-smaller
 loop-p-smaller c =
-    let q = c in
-    let l = q.before.before.before.before.before.before.before.loop in
-    let a = q.before.before.before.before.before.before.before.before.before.args in
-    let p = q.before.before.before.before.p.given.0.0 in
-    let n : IsNext a.text.now l.at p = rw q.before.before.before.before.p.given.1 at q.before.before.before.before.before.before.next-pair.ensures in
+    let l = c.loop-p in
+    let a = c.args in
+    let p = c.in-Found.p in
+    let n : IsNext a.text.now l.at p = rw c.in-Found.is at c.next_pair.ensures in
     omega (arith, n.behind, n.ordered, n.inside, l.invariant.1)
 
 pub loop-p-preserved : goal.loop-p-preserved
 loop-p-preserved c =
-    let q = c in
-    let l = q.before.before.before.before.before.before.before.loop in
-    let a = q.before.before.before.before.before.before.before.before.before.args in
-    let p = q.before.before.before.before.p.given.0.0 in
-    let n : IsNext a.text.now l.at p = rw q.before.before.before.before.p.given.1 at q.before.before.before.before.before.before.next-pair.ensures in
-    (rw (l.invariant.0, calls_other a.c a.text.now l.at p n q.if1.false), omega (arith, n.inside), l.invariant.2)
+    let l = c.loop-p in
+    let a = c.args in
+    let p = c.in-Found.p in
+    let n : IsNext a.text.now l.at p = rw c.in-Found.is at c.next_pair.ensures in
+    (rw (l.invariant.0, calls_other a.c a.text.now l.at p n c.if-p-eq5.false), omega (arith, n.inside), l.invariant.2)

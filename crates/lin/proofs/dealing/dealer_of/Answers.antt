@@ -21,4 +21,4 @@ returns-in-52 c = (rw c.in-52.is, omega arith)
 
 pub returns-in_default : goal.returns-in_default
 unfolding dealer_of
-returns-in_default c = (rw (ne_eqb _ _ c.in_default.in_default-own.rest.0.0.0.1, ne_eqb _ _ c.in_default.in_default-own.rest.0.0.1, ne_eqb _ _ c.in_default.in_default-own.rest.0.1, ne_eqb _ _ c.in_default.in_default-own.rest.1), omega arith)
+returns-in_default c = (rw (ne_eqb c.args.b 49 (omega arith), ne_eqb c.args.b 50 (omega arith), ne_eqb c.args.b 51 (omega arith), ne_eqb c.args.b 52 (omega arith)), omega arith)

@@ -10,8 +10,7 @@ returns-in_default c =
 
 pub read_hand-requires-2 : goal.read_hand-requires-2
 read_hand-requires-2 c =
-    let p1 = c in
-    (rw p1.before.a.given.1 at p1.before.before.before.read-hand.ensures.1).1
+    (rw c.in-Held.is at c.read_hand.ensures.1).1
 
 pub returns-in_default-read_hand : goal.returns-in_default-read_hand
 returns-in_default-read_hand c =
@@ -19,8 +18,7 @@ returns-in_default-read_hand c =
 
 pub read_hand-requires-3 : goal.read_hand-requires-3
 read_hand-requires-3 c =
-    let p2 = c in
-    (rw p2.before.b.given.1 at p2.before.before.before.read-hand2.ensures.1).1
+    (rw c.in-Held-read_hand.is at c.read_hand-2.ensures.1).1
 
 pub returns-in_default-read_hand-2 : goal.returns-in_default-read_hand-2
 returns-in_default-read_hand-2 c =

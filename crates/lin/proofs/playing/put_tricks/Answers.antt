@@ -38,11 +38,10 @@ overflow_add-here c =
 
 pub part-requires : goal.part-requires
 part-requires c =
-    let q = c in
-    let l = q.before.before.before.before.before.before.before.loop in
-    let a = q.before.before.before.before.before.before.before.before.before.before.before.args in
-    let p = q.before.before.before.before.p.given.0.0 in
-    let n : IsNext a.text.now l.here p = rw q.before.before.before.before.p.given.1 at q.before.before.before.before.before.before.next-pair.ensures in
+    let l = c.loop-p in
+    let a = c.args in
+    let p = c.in-Found.p in
+    let n : IsNext a.text.now l.here p = rw c.in-Found.is at c.next_pair.ensures in
     n.ordered
 
 pub take_card-u-requires : goal.take_card-u-requires
@@ -109,18 +108,16 @@ loop-p-preserved-else-card-lt52 c =
 
 pub loop-p-smaller : goal.loop-p-smaller
 loop-p-smaller c =
-    let q = c in
-    let l = q.before.before.before.before.before.before.before.loop in
-    let a = q.before.before.before.before.before.before.before.before.before.before.before.args in
-    let p = q.before.before.before.before.p.given.0.0 in
-    let n : IsNext a.text.now l.here p = rw q.before.before.before.before.p.given.1 at q.before.before.before.before.before.before.next-pair.ensures in
+    let l = c.loop-p in
+    let a = c.args in
+    let p = c.in-Found.p in
+    let n : IsNext a.text.now l.here p = rw c.in-Found.is at c.next_pair.ensures in
     omega (arith, n.behind, n.ordered, n.inside, l.invariant.1)
 
 pub loop-p-preserved : goal.loop-p-preserved
 loop-p-preserved c =
-    let q = c in
-    let l = q.before.before.before.before.before.before.before.loop in
-    let a = q.before.before.before.before.before.before.before.before.before.before.before.args in
-    let p = q.before.before.before.before.p.given.0.0 in
-    let n : IsNext a.text.now l.here p = rw q.before.before.before.before.p.given.1 at q.before.before.before.before.before.before.next-pair.ensures in
-    (puts_same (ap (trick_texts a.c a.lead a.trump l.t) (cards_other a.c a.text.now l.here p n q.if1.false)) l.invariant.0, omega (arith, n.inside), l.invariant.2, l.invariant.3)
+    let l = c.loop-p in
+    let a = c.args in
+    let p = c.in-Found.p in
+    let n : IsNext a.text.now l.here p = rw c.in-Found.is at c.next_pair.ensures in
+    (puts_same (ap (trick_texts a.c a.lead a.trump l.t) (cards_other a.c a.text.now l.here p n c.if-p-eq6.false)) l.invariant.0, omega (arith, n.inside), l.invariant.2, l.invariant.3)

@@ -1,4 +1,5 @@
 use borrow.Author.Tests.{ne_eqb}
+use native.Mathlib.Omega.{arith}
 use Rattle.lin.specs.Playing.{slot_at}
 use Rattle.lin.proofs.playing.slot_at.Goals as goal
 
@@ -16,4 +17,4 @@ returns-in-2 c = rw c.in-2.is
 
 pub returns-in_default : goal.returns-in_default
 unfolding slot_at
-returns-in_default c = rw (ne_eqb _ _ c.in_default.in_default-own.rest.0.0.1, ne_eqb _ _ c.in_default.in_default-own.rest.0.1, ne_eqb _ _ c.in_default.in_default-own.rest.1)
+returns-in_default c = rw (ne_eqb c.args.k 0 (omega arith), ne_eqb c.args.k 1 (omega arith), ne_eqb c.args.k 2 (omega arith))
