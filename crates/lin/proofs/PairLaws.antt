@@ -8,7 +8,7 @@ use lib.Dec.{eqb, ltb}
 use lib.ListN.{length, take, drop, get_or, length-drop, length-append}
 use lib.Seq.{drop-drop, take_all, drop-append_seam, take-append_seam}
 use borrow.Author.Tests.{ltb-true, ltb-false, eqb-true, eq-eqb}
-use Rattle.tables.specs.Text.{ascii, front, differs, before, prepend, trimmed}
+use Rattle.tables.specs.Text.{ascii, differs, before, prepend, trimmed}
 use Rattle.tables.specs.Letters.{capital}
 use Rattle.tables.proofs.Laws.{by_cases, stop}
 use Rattle.tables.proofs.TextLaws.{front_few, take_front}

@@ -18,7 +18,6 @@ use Rattle.writer.specs.Pages.{built_in_header}
 use Rattle.lin.specs.Pairs.{command_of, pairs_of}
 use Rattle.lin.specs.Pieces.{board_pieces}
 use Rattle.lin.specs.Dealing.{dealer_of, hand_of, unheld, east_of}
-use Rattle.lin.specs.declared.bidding.Contract.{Contract}
 use Rattle.lin.specs.Bidding.{vulnerability_in, call_named, call_in, with_call, names, declarer_of}
 use Rattle.lin.specs.Playing.{card_in, slot_at, slot_word}
 use Rattle.lin.specs.LinBoards.{board_of, lin_boards, contract_of, declarer_in, lin_tricks, lin_plain, lin_play, lin_lines, lin_text}

@@ -12,7 +12,7 @@ use Rattle.tables.specs.Text.{before, trimmed, lines}
 use Rattle.tables.proofs.Laws.{stop}
 use Rattle.tables.proofs.TextLaws.{lines_step}
 use Rattle.lin.specs.declared.pairs.PairAt.{PairAt}
-use Rattle.lin.specs.Pairs.{Pair, pairs_of, qx}
+use Rattle.lin.specs.Pairs.{Pair, pairs_of}
 use Rattle.lin.specs.PairSteps.{between, pair_at, Sealed, IsNext}
 use Rattle.lin.specs.Pieces.{split, with_deal, line_pieces}
 use Rattle.lin.specs.PieceSteps.{is_some, split_from}

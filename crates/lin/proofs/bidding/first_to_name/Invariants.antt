@@ -1,12 +1,8 @@
 use Prim.Native.Nat.{◌+◌, ◌-◌, ◌≤◌}
-use mathlib.Core.Path.{◌≡◌, ◌∙◌, ap}
-use native.Mathlib.Omega.{arith}
+use mathlib.Core.Path.{◌≡◌}
 use lib.ListN.{length, drop}
-use borrow.Author.Rules.{rules}
 use Rattle.lin.specs.Pairs.{pairs_of}
-use Rattle.lin.specs.PairSteps.{between, IsNext}
-use Rattle.lin.specs.Bidding.{call_in, calls_from, first_to_name}
-use Rattle.lin.proofs.BiddingLaws.{calls_end, calls_met, calls_pass, calls_other}
+use Rattle.lin.specs.Bidding.{calls_from, first_to_name}
 use Rattle.lin.proofs.bidding.first_to_name.Given as goal
 
 abbrev pub invariant-loop-p : goal.invariant-loop-p

@@ -1,4 +1,3 @@
-use borrow.Author.Rules.{rules}
 use Rattle.lin.specs.Bidding.{names}
 use Rattle.lin.proofs.bidding.is_named.Goals as goal
 

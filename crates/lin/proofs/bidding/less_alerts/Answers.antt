@@ -1,9 +1,6 @@
-use Prim.Native.Nat.{◌≤◌}
 use mathlib.Core.Path.{sym, ap, ◌∙◌, ◌≡◌}
 use native.Mathlib.Omega.{arith}
-use lib.ListN.{take, length}
 use lib.Seq.{take-length, length-take-le}
-use borrow.Author.Rules.{rules}
 use Rattle.lin.specs.Bidding.{unalerted}
 use Rattle.lin.proofs.BiddingLaws.{alerts_less, alerts_stop}
 use Rattle.lin.proofs.bidding.less_alerts.Goals as goal

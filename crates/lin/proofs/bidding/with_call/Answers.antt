@@ -1,5 +1,4 @@
 use Rattle.lin.specs.Bidding.{with_call}
-use borrow.Author.Rules.{rules}
 use Rattle.lin.proofs.bidding.with_call.Goals as goal
 
 pub returns-then-is_bid : goal.returns-then-is_bid

@@ -1,6 +1,5 @@
 use Rattle.writer.proofs.PutLaws.{puts_then, puts_nothing}
 use Rattle.lin.specs.BoardSteps.{lin_auction_text}
-use borrow.Author.Rules.{rules}
 use Rattle.lin.proofs.board.put_auction.Goals as goal
 
 pub returns-then-s : goal.returns-then-s

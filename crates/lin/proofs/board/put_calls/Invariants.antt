@@ -1,17 +1,11 @@
 use Prim.Native.Nat.{◌+◌}
-use mathlib.Core.Path.{ap, ◌∙◌}
-use native.Mathlib.Omega.{arith}
 use Rattle.writer.specs.Items.{tokens_text}
-use Rattle.writer.proofs.PutLaws.{PutsLeft, puts_first, puts_same, puts_next, puts_then}
-use Rattle.writer.proofs.TokenLaws.{puts_last}
+use Rattle.writer.proofs.PutLaws.{PutsLeft}
 use Rattle.lin.specs.Pairs.{pairs_of}
-use Rattle.lin.specs.Bidding.{call_in, calls_from}
+use Rattle.lin.specs.Bidding.{calls_from}
 use Rattle.lin.specs.BoardSteps.{call_tokens}
-use Rattle.lin.proofs.BoardLaws.{tokens_turn, tokens_same, tokens_end}
-use Rattle.lin.proofs.BiddingLaws.{calls_met, calls_pass, calls_other}
 use Prim.Native.Nat.{◌-◌, ◌≤◌}
 use lib.ListN.{length, drop}
-use borrow.Author.Rules.{rules}
 use Rattle.lin.proofs.board.put_calls.Given as goal
 
 abbrev pub invariant-loop-p : goal.invariant-loop-p

@@ -1,6 +1,5 @@
 use Rattle.writer.proofs.PutLaws.{puts_then}
 use Rattle.lin.specs.BoardSteps.{lin_head_text}
-use borrow.Author.Rules.{rules}
 use Rattle.lin.proofs.board.put_head.Goals as goal
 
 pub returns : goal.returns

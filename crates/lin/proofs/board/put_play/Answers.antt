@@ -1,6 +1,5 @@
 use Rattle.writer.proofs.PutLaws.{puts_then, puts_nothing}
 use Rattle.lin.specs.BoardSteps.{lin_play_text}
-use borrow.Author.Rules.{rules}
 use borrow.Author.Tests.{eq-eqb, ne_eqb}
 use Rattle.lin.proofs.board.put_play.Goals as goal
 

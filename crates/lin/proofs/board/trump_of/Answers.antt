@@ -1,5 +1,4 @@
 use Rattle.lin.proofs.BoardLaws.{trump_is}
-use borrow.Author.Rules.{rules}
 use Rattle.lin.proofs.board.trump_of.Goals as goal
 
 pub returns : goal.returns

@@ -1,5 +1,4 @@
 use Rattle.lin.proofs.ConvertLaws.{ended_in, ended_full, ended_none}
-use borrow.Author.Rules.{rules}
 use Rattle.lin.proofs.convert.end_converting.Goals as goal
 
 pub returns-then-n-page : goal.returns-then-n-page

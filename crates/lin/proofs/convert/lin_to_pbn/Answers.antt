@@ -1,4 +1,3 @@
-use borrow.Author.Rules.{rules}
 use Rattle.lin.proofs.convert.lin_to_pbn.Goals as goal
 
 pub returns : goal.returns

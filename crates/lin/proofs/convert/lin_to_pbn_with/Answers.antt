@@ -1,5 +1,4 @@
 use Rattle.lin.proofs.ConvertLaws.{converted_long, converted}
-use borrow.Author.Rules.{rules}
 use Rattle.lin.proofs.convert.lin_to_pbn_with.Goals as goal
 
 pub returns-then-n-gt16777215 : goal.returns-then-n-gt16777215

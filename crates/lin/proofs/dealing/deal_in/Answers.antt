@@ -1,4 +1,3 @@
-use borrow.Author.Rules.{rules}
 use borrow.Author.Tests.{lt-ltb, le-ltb}
 use Rattle.lin.proofs.DealingLaws.{told_is}
 use Rattle.lin.proofs.dealing.deal_in.Goals as goal

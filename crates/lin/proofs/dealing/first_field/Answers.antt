@@ -1,4 +1,3 @@
-use borrow.Author.Rules.{rules}
 use Rattle.tables.specs.Text.{differs}
 use Rattle.tables.proofs.TextLaws.{take_front}
 use Rattle.lin.proofs.dealing.first_field.Goals as goal

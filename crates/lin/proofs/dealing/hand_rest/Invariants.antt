@@ -1,11 +1,8 @@
 use Prim.Native.Nat.{◌+◌, ◌-◌, ◌≤◌}
-use mathlib.Core.Path.{◌≡◌, refl, sym, ◌∙◌}
-use native.Mathlib.Omega.{arith}
+use mathlib.Core.Path.{◌≡◌}
 use lib.ListN.{length, drop}
-use borrow.Author.Rules.{rules}
 use Rattle.tables.specs.Text.{starts}
 use Rattle.lin.specs.DealingSteps.{SoundPart, hand_run}
-use Rattle.lin.proofs.DealingLaws.{starts_inside, starts_first, starts_end}
 use Rattle.lin.proofs.dealing.hand_rest.Given as goal
 
 abbrev pub invariant-loop-i : goal.invariant-loop-i

@@ -1,4 +1,3 @@
-use borrow.Author.Rules.{rules}
 use borrow.Author.Tests.{lt-ltb, le-ltb}
 use native.Mathlib.Omega.{arith}
 use Rattle.lin.specs.DealingSteps.{letter_step}
@@ -13,16 +12,14 @@ returns-then-s-lt4 c = (
 
 pub returns-then-k-lt52 : goal.returns-then-k-lt52
 unfolding letter_step
-returns-then-k-lt52 c =
-    (
-      rw (← c.suit_of-s.ensures.0, le-ltb _ _ c.if-s-lt4.false, ← c.rank_of.ensures.0, ← c.card_number-k.ensures.0, lt-ltb _ _ c.if-k-lt52.true) c.card_to.ensures.0,
-      c.card_to.ensures.1,
-    )
+returns-then-k-lt52 c = (
+  rw (← c.suit_of-s.ensures.0, le-ltb _ _ c.if-s-lt4.false, ← c.rank_of.ensures.0, ← c.card_number-k.ensures.0, lt-ltb _ _ c.if-k-lt52.true) c.card_to.ensures.0,
+  c.card_to.ensures.1,
+)
 
 pub returns : goal.returns
 unfolding letter_step
-returns c =
-    (
-      rw (← c.suit_of-s.ensures.0, le-ltb _ _ c.if-s-lt4.false, ← c.rank_of.ensures.0, ← c.card_number-k.ensures.0, le-ltb _ _ c.if-k-lt52.false),
-      (c.requires.0, omega arith, omega arith),
-    )
+returns c = (
+  rw (← c.suit_of-s.ensures.0, le-ltb _ _ c.if-s-lt4.false, ← c.rank_of.ensures.0, ← c.card_number-k.ensures.0, le-ltb _ _ c.if-k-lt52.false),
+  (c.requires.0, omega arith, omega arith),
+)

@@ -1,4 +1,3 @@
-use borrow.Author.Rules.{rules}
 use Rattle.lin.proofs.dealing.next_fields.Goals as goal
 
 pub returns : goal.returns

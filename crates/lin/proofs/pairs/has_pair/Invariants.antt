@@ -1,12 +1,8 @@
 use Prim.Native.Nat.{◌+◌}
-use mathlib.Core.Path.{refl, ◌∙◌}
-use native.Mathlib.Omega.{arith}
-use borrow.Author.Tests.{eq-eqb, ne_eqb}
 use Rattle.lin.specs.Pairs.{has_pair, pairs_of}
 use Prim.Native.Nat.{◌-◌, ◌≤◌}
 use mathlib.Core.Path.{◌≡◌}
 use lib.ListN.{length, drop}
-use borrow.Author.Rules.{rules}
 use Rattle.lin.proofs.pairs.has_pair.Given as goal
 
 abbrev pub invariant-loop-p : goal.invariant-loop-p

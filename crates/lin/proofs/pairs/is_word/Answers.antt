@@ -1,4 +1,3 @@
-use borrow.Author.Rules.{rules}
 use Rattle.lin.specs.PairSteps.{two_same}
 use Rattle.lin.proofs.pairs.is_word.Goals as goal
 

@@ -2,9 +2,7 @@ use mathlib.Core.Path.{ap}
 use native.Mathlib.Omega.{arith}
 use Prim.Native.Nat.{◌+◌}
 use lib.ListN.{length, length-drop}
-use Rattle.tables.specs.Text.{before}
 use Rattle.lin.proofs.PairLaws.{next_is, pairs_none}
-use borrow.Author.Rules.{rules}
 use Rattle.lin.proofs.pairs.next_pair.Goals as goal
 
 pub overflow_add-start : goal.overflow_add-start

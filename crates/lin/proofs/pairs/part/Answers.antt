@@ -1,4 +1,3 @@
-use borrow.Author.Rules.{rules}
 use Rattle.lin.proofs.pairs.part.Goals as goal
 
 pub returns : goal.returns

@@ -1,6 +1,5 @@
 use Rattle.writer.specs.Pages.{built_in_header}
 use Rattle.lin.specs.PieceSteps.{above_text}
-use borrow.Author.Rules.{rules}
 use Rattle.lin.proofs.pieces.put_above.Goals as goal
 
 pub returns-then-first : goal.returns-then-first

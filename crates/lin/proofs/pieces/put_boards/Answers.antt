@@ -1,5 +1,4 @@
 use Rattle.lin.specs.Pieces.{board_pieces}
-use borrow.Author.Rules.{rules}
 use Rattle.lin.proofs.pieces.put_boards.Goals as goal
 
 pub returns-then-has_pair : goal.returns-then-has_pair

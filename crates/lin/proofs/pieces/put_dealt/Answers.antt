@@ -1,6 +1,5 @@
 use mathlib.Core.Path.{refl, sym, ◌∙◌}
 use Rattle.tables.proofs.Laws.{clash}
-use borrow.Author.Rules.{rules}
 use Rattle.lin.proofs.pieces.put_dealt.Goals as goal
 
 pub returns-then-has_pair : goal.returns-then-has_pair

@@ -1,16 +1,13 @@
-use Prim.Native.Nat.{ℕ, ◌+◌}
+use Prim.Native.Nat.{ℕ}
 use mathlib.Core.Path.{ap, ◌∙◌}
 use mathlib.Core.List.{List}
 use native.Mathlib.Omega.{arith}
 use lib.ListN.{take, length-drop}
-use Rattle.tables.specs.Text.{before, differs, trimmed, lines}
+use Rattle.tables.specs.Text.{before, differs, trimmed}
 use Rattle.tables.proofs.TextLaws.{take_front}
-use Rattle.lin.specs.Pieces.{line_pieces}
-use Rattle.lin.proofs.GoneLaws.{Going, going_first, going_same, going_next, going_end}
+use Rattle.lin.proofs.GoneLaws.{going_first, going_same, going_next, going_end}
 use Rattle.lin.proofs.SplitLaws.{line_some, line_blank, lines_done}
-use Prim.Native.Nat.{◌-◌, ◌≤◌}
-use lib.ListN.{length, drop}
-use borrow.Author.Rules.{rules}
+use lib.ListN.{length}
 use Rattle.lin.proofs.pieces.put_lines.Goals as goal
 
 pub loop-at-init : goal.loop-at-init

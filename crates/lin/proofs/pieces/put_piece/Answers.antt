@@ -1,6 +1,5 @@
 use Rattle.lin.specs.Pairs.{pairs_of}
 use Rattle.lin.proofs.GoneLaws.{survey_dealer, goes_good, goes_bad, goes_none}
-use borrow.Author.Rules.{rules}
 use Rattle.lin.proofs.pieces.put_piece.Goals as goal
 
 pub put_board-at-requires : goal.put_board-at-requires

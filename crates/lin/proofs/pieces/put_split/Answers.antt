@@ -4,13 +4,9 @@ use mathlib.Core.List.{[]}
 use native.Mathlib.Omega.{arith}
 use borrow.Author.Tests.{eqb-true, ltb-true, eq-eqb, lt-ltb}
 use Rattle.tables.proofs.Laws.{both, clash}
-use Rattle.lin.specs.Pairs.{pairs_of}
-use Rattle.lin.specs.Pieces.{split, with_deal}
-use Rattle.lin.proofs.GoneLaws.{Going, going_first, going_same, going_if, going_end, if_more}
-use Rattle.lin.proofs.SplitLaws.{Places, pieces_left, places_first, left_first, left_last, places_title, left_title, places_qx, left_qx, places_other, left_other}
-use Prim.Native.Nat.{◌-◌, ◌≤◌}
-use lib.ListN.{length}
-use borrow.Author.Rules.{rules}
+use Rattle.lin.specs.Pieces.{with_deal}
+use Rattle.lin.proofs.GoneLaws.{going_first, going_same, going_if, going_end, if_more}
+use Rattle.lin.proofs.SplitLaws.{pieces_left, places_first, left_first, left_last, places_title, left_title, places_qx, left_qx, places_other, left_other}
 use Rattle.lin.proofs.pieces.put_split.Goals as goal
 
 pub loop-p-init : goal.loop-p-init

@@ -1,16 +1,10 @@
 use Prim.Native.Nat.{◌+◌}
-use mathlib.Core.Path.{sym, ap, ◌∙◌}
-use mathlib.Core.List.{[]}
-use native.Mathlib.Omega.{arith}
-use borrow.Author.Tests.{eqb-true, ltb-true, eq-eqb, lt-ltb}
-use Rattle.tables.proofs.Laws.{both, clash}
 use Rattle.lin.specs.Pairs.{pairs_of}
 use Rattle.lin.specs.Pieces.{split, with_deal}
-use Rattle.lin.proofs.GoneLaws.{Going, going_first, going_same, going_if, going_end, if_more}
-use Rattle.lin.proofs.SplitLaws.{Places, pieces_left, places_first, left_first, left_last, places_title, left_title, places_qx, left_qx, places_other, left_other}
+use Rattle.lin.proofs.GoneLaws.{Going}
+use Rattle.lin.proofs.SplitLaws.{Places, pieces_left}
 use Prim.Native.Nat.{◌-◌, ◌≤◌}
 use lib.ListN.{length}
-use borrow.Author.Rules.{rules}
 use Rattle.lin.proofs.pieces.put_split.Given as goal
 
 abbrev pub invariant-loop-p : goal.invariant-loop-p

@@ -1,5 +1,4 @@
 use native.Mathlib.Omega.{arith}
-use borrow.Author.Rules.{rules}
 use Rattle.lin.proofs.playing.new_trick.Goals as goal
 
 pub returns : goal.returns

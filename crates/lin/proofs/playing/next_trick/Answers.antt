@@ -1,4 +1,3 @@
-use borrow.Author.Rules.{rules}
 use Rattle.lin.proofs.playing.next_trick.Goals as goal
 
 pub returns : goal.returns

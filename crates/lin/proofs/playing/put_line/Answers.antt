@@ -1,4 +1,3 @@
-use borrow.Author.Rules.{rules}
 use Rattle.lin.specs.PlayingSteps.{trick_text}
 use Rattle.writer.proofs.PutLaws.{puts_then}
 use Rattle.lin.proofs.playing.put_line.Goals as goal

@@ -1,4 +1,3 @@
-use borrow.Author.Rules.{rules}
 use borrow.Author.Tests.{eq-eqb, ne_eqb}
 use Rattle.lin.specs.PlayingSteps.{last_line}
 use Rattle.writer.proofs.PutLaws.{puts_nothing}

@@ -1,4 +1,3 @@
-use borrow.Author.Rules.{rules}
 use borrow.Author.Tests.{lt-ltb, le-ltb}
 use Rattle.lin.specs.Playing.{slot_word}
 use Rattle.lin.proofs.playing.put_slot.Goals as goal

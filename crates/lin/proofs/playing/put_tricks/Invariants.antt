@@ -1,16 +1,9 @@
 use Prim.Native.Nat.{◌+◌, ◌-◌, ◌≤◌}
-use mathlib.Core.Path.{◌≡◌, ◌∙◌, ap}
-use native.Mathlib.Omega.{arith}
 use lib.ListN.{length, drop}
-use borrow.Author.Rules.{rules}
-use Rattle.tables.specs.Text.{trimmed}
 use Rattle.lin.specs.Pairs.{pairs_of}
-use Rattle.lin.specs.PairSteps.{between, IsNext}
-use Rattle.lin.specs.Playing.{card_in, cards_played}
+use Rattle.lin.specs.Playing.{cards_played}
 use Rattle.lin.specs.PlayingSteps.{FineTrick, empty_trick, trick_texts}
-use Rattle.writer.proofs.PutLaws.{PutsLeft, puts_first, puts_same, puts_next}
-use Rattle.writer.proofs.TokenLaws.{puts_last}
-use Rattle.lin.proofs.PlayingLaws.{cards_end, cards_met, cards_pass, cards_other, tricks_end, tricks_full, tricks_more}
+use Rattle.writer.proofs.PutLaws.{PutsLeft}
 use Rattle.lin.proofs.playing.put_tricks.Given as goal
 
 abbrev pub invariant-loop-p : goal.invariant-loop-p

@@ -1,4 +1,3 @@
-use borrow.Author.Rules.{rules}
 use Rattle.lin.proofs.playing.put_word.Goals as goal
 
 pub returns : goal.returns

@@ -1,12 +1,5 @@
-use Prim.Native.Nat.{◌+◌}
 use mathlib.Core.Path.{◌∙◌}
 use native.Mathlib.Omega.{arith}
-use Rattle.lin.specs.Pairs.{pairs_of}
-use Rattle.lin.specs.SurveySteps.{no_survey, survey_from}
-use Prim.Native.Nat.{◌-◌, ◌≤◌}
-use mathlib.Core.Path.{◌≡◌}
-use lib.ListN.{length, drop}
-use borrow.Author.Rules.{rules}
 use Rattle.lin.proofs.survey.survey_of.Goals as goal
 
 pub loop-p-init : goal.loop-p-init
