@@ -11,7 +11,7 @@ use lib.ListN.{length, take, length-map, length-take}
 use Rattle.tables.specs.declared.letters.Conventions.{Conventions}
 use Rattle.tables.specs.declared.numbers.Number.{Number}
 use Rattle.tables.specs.declared.numbers.Number.TheVariants.{Value, Bad}
-use Rattle.tables.specs.Text.{trimmed, first_character, characters, front, differs}
+use Rattle.tables.specs.Text.{trimmed, first_character, characters, differs}
 use Rattle.tables.specs.Numbers.{digits_from, some_digits, number_of, raised, lowered, signed_of}
 use Rattle.tables.specs.NumberSteps.{IsWithin}
 use Rattle.tables.specs.Letters.{every, seat_of, strain_of, capital}

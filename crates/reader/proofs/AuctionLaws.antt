@@ -15,7 +15,6 @@ use Rattle.tables.proofs.Laws.{by_cases, both, clash}
 use Rattle.reader.specs.declared.auction.CallToken.{CallToken}
 use Rattle.reader.specs.declared.auction.CallToken.TheVariants.{Plus, Star, AllPass, Annotation, Call, NoCall}
 use Rattle.reader.specs.declared.auction.Bidding.{Bidding}
-use Rattle.tables.specs.Text.{front}
 use Rattle.tables.specs.Letters.{capital}
 use Rattle.reader.specs.Words.{call_of, call_part, is_call_byte, section_end, is_all_pass}
 use Rattle.reader.proofs.EntryLaws.{All, none, one, all_map, Inside, TokensInside, tokens_bytes, out_all_lem, out_few, out_count}

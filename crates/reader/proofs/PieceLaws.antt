@@ -1,17 +1,17 @@
 -- Laws of steps that add entries, of tokens, and of lines.
-use Prim.Native.Nat.{ℕ, zero, suc, ◌+◌, ◌-◌, ◌*◌, ◌≤◌, ◌<◌}
+use Prim.Native.Nat.{ℕ, suc, ◌+◌, ◌<◌}
 use mathlib.Core.Path.{◌≡◌, refl, sym, ap, ◌∙◌}
-use mathlib.Core.Bool.{Bool, true, false, cond, not}
-use mathlib.Core.List.{List, [], ◌∷◌, ◌++◌, map, append_assoc, append-nil}
+use mathlib.Core.Bool.{false}
+use mathlib.Core.List.{List, [], ◌∷◌, ◌++◌, map}
 use native.Mathlib.Nat.{add-zero}
 use native.Mathlib.Omega.{arith}
 use lib.Dec.{eqb}
-use lib.ListN.{length, take, drop, get_or, length-append, length-map, length-drop, length-take}
-use Rattle.tables.specs.Text.{is_white, is_word, word, past_word, trim_start, lead, front, before, differs}
+use lib.ListN.{length, take, drop, length-map}
+use Rattle.tables.specs.Text.{is_white, word, past_word, trim_start, lead, before}
 use Rattle.tables.proofs.Laws.{by_cases}
 use Rattle.reader.specs.declared.store.Entry.{Entry}
-use Rattle.reader.specs.Store.{put, put_all, entry_words}
-use Rattle.reader.specs.Pieces.{Piece, Out, and_then, out_all, entry, join_line, raw_lines, tokens_at, join_token, prepend_token}
+use Rattle.reader.specs.Store.{put_all, entry_words}
+use Rattle.reader.specs.Pieces.{Out, and_then, out_all, raw_lines, tokens_at, prepend_token}
 use Rattle.reader.specs.PieceSteps.{piece, Emits}
 use Rattle.reader.proofs.StoreLaws.{put_all_append}
 

@@ -7,7 +7,7 @@ use mathlib.Core.Option.{none as nothing, some}
 use native.Mathlib.Nat.{add-zero}
 use native.Mathlib.Omega.{arith}
 use lib.Dec.{ltb, eqb}
-use lib.ListN.{length, take, drop, length-append, length-take, length-drop, take-append-drop}
+use lib.ListN.{length, take, drop, length-append, take-append-drop}
 use lib.Seq.{take_at, drop_at, length-take-le}
 use borrow.Author.Tests.{eqb-true, eqb-false, ne_eqb}
 use Rattle.tables.specs.declared.letters.Conventions.{Conventions}
@@ -20,8 +20,6 @@ use Rattle.reader.specs.declared.tag.Tag.{Tag as TagPlaces}
 use Rattle.reader.specs.declared.auction.CallToken.{CallToken}
 use Rattle.reader.specs.declared.auction.CallToken.TheVariants.{Plus, Star, AllPass, Annotation, Call, NoCall}
 use Rattle.reader.specs.declared.auction.Bidding.{Bidding}
-use Rattle.reader.specs.declared.line.Line.{Line}
-use Rattle.reader.specs.declared.line.Line.TheVariants.{Blank, Brace, Directive, Tag as TagOn, Bracket, Data}
 use Rattle.reader.specs.declared.line.TagReading.{TagReading}
 use Rattle.reader.specs.declared.line.TagReading.TheVariants.{Plain, WithComment, WithData}
 use Rattle.reader.specs.declared.section.Open.{Open}
@@ -30,11 +28,11 @@ use Rattle.reader.specs.declared.board.Section.{Section}
 use Rattle.reader.specs.declared.board.Board.{Board}
 use Rattle.reader.specs.declared.board.State.{State}
 use Rattle.reader.specs.Tag.{cut}
-use Rattle.reader.specs.Lines.{last_brace, line_kind}
+use Rattle.reader.specs.Lines.{last_brace}
 use Rattle.reader.specs.Pieces.{Piece, Out, out_all, and_then, entry, tokens_of, raw_lines}
-use Rattle.reader.specs.Auction.{call_token_of, annotation, bidding, called_by, called, called_piece}
+use Rattle.reader.specs.Auction.{call_token_of, bidding, called_by, called, called_piece}
 use Rattle.reader.specs.Play.{last_trick}
-use Rattle.reader.specs.Sections.{commentary_after, stops_at, data_piece, piece_of, data_in, split_piece, section_data, walked, no_walk, walked_all}
+use Rattle.reader.specs.Sections.{commentary_after, stops_at, piece_of, data_in, split_piece, section_data, walked, no_walk, walked_all}
 use Rattle.reader.specs.Boards.{applied, with_sections, auction_closed, play_closed, rows_closed, table_closed, closed_entries, last_entries, closed_by, closed, no_span, at, tagged, directed, data_added, read_by, blocked, no_state, record_out}
 use Rattle.reader.specs.Plain.{item_of, items_of, PlainCall, PlainAuction, annotations_first, calls_in, plain_auction, plain_by, plain_of}
 use Rattle.reader.proofs.EntryLaws.{All, none, one, Trick, bytes_in, tokens_bytes}

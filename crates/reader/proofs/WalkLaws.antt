@@ -19,8 +19,8 @@ use Rattle.reader.specs.declared.section.Rows.{Rows}
 use Rattle.reader.specs.declared.section.Walk.{Walk}
 use Rattle.reader.specs.Store.{put_all, entry_words}
 use Rattle.reader.specs.Pieces.{Piece, Out, and_then, out_all, raw_lines}
-use Rattle.reader.specs.PieceSteps.{piece, Emits}
-use Rattle.reader.specs.Auction.{bidding, called_piece}
+use Rattle.reader.specs.PieceSteps.{Emits}
+use Rattle.reader.specs.Auction.{called_piece}
 use Rattle.reader.specs.Play.{played_piece}
 use Rattle.reader.specs.TokenSteps.{Seated}
 use Rattle.reader.specs.Sections.{data_in, split_piece, lines_data, section_data, row_stored, rowed_piece, walked, no_walk, walked_all}

@@ -1,6 +1,6 @@
 -- The records of a text. A record ends just after the blank line that closed its board, or at the text's end if none did; what follows
 -- the last closed board and holds no tag is in no record.
-use Rattle.std.specs.Prelude.{ℕ, ◌+◌, ◌-◌, ◌<◌, ◌≡◌, List, [], ◌∷◌, ◌++◌, Bool, true, false, cond, ◌&&◌, ◌||◌, not, eqb, length, take}
+use Rattle.std.specs.Prelude.{ℕ, ◌+◌, ◌<◌, ◌≡◌, List, [], ◌∷◌, ◌++◌, Bool, true, false, cond, ◌&&◌, ◌||◌, not, eqb, length, take}
 use Rattle.reader.specs.declared.tag.Span.{Span}
 use Rattle.reader.specs.declared.record.Scan.{Scan}
 use Rattle.reader.specs.Lines.{line_kind, opens_board, is_blank}

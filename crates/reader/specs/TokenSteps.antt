@@ -1,5 +1,5 @@
 -- What holds of a token of an auction, and of a play throughout.
-use Rattle.std.specs.Prelude.{ℕ, ◌≤◌, ◌-◌}
+use Rattle.std.specs.Prelude.{ℕ, ◌≤◌}
 use Rattle.reader.specs.declared.auction.CallToken.{CallToken}
 use Rattle.reader.specs.declared.auction.CallToken.TheVariants.{Plus, Star, AllPass, Annotation, Call, NoCall}
 use Rattle.reader.specs.declared.play.Slots.{Slots}

@@ -2,7 +2,6 @@ use Rattle.reader.proofs.ApplyLaws.{applied_note, applied_other, applied_digits,
 use mathlib.Core.Logic.{inl, inr}
 use borrow.Author.Tests.{ne_eqb}
 use mathlib.Core.Path.{sym}
-use borrow.Author.Rules.{rules}
 use Rattle.reader.proofs.apply.apply_tag.Goals as goal
 
 pub returns-in-0 : goal.returns-in-0

@@ -1,4 +1,3 @@
-use borrow.Author.Rules.{rules}
 use borrow.Author.Tests.{eq-eqb, ne_eqb}
 use Rattle.reader.specs.Boards.{contract_by}
 use Rattle.reader.proofs.apply.contract_by.Goals as goal

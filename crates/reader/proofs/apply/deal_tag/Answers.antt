@@ -1,6 +1,5 @@
 use Rattle.reader.proofs.ApplyLaws.{applied_dealt, applied_unparsed, applied_blank}
 use mathlib.Core.Path.{sym, ◌∙◌}
-use borrow.Author.Rules.{rules}
 use borrow.Author.Tests.{eq-eqb, ne_eqb}
 use Rattle.reader.proofs.apply.deal_tag.Goals as goal
 

@@ -1,5 +1,4 @@
 use borrow.Author.Tests.{ne_eqb}
-use borrow.Author.Rules.{rules}
 use Rattle.reader.specs.Boards.{identity_by}
 use Rattle.reader.proofs.apply.identity_by.Goals as goal
 

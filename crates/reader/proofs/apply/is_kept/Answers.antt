@@ -1,4 +1,3 @@
-use borrow.Author.Rules.{rules}
 use borrow.Author.Tests.{eq-eqb, ne_eqb}
 use Rattle.reader.specs.Boards.{is_kept_value}
 use Rattle.reader.proofs.apply.is_kept.Goals as goal

@@ -1,4 +1,3 @@
-use borrow.Author.Rules.{rules}
 use Rattle.reader.proofs.apply.no_board.Goals as goal
 
 pub returns : goal.returns

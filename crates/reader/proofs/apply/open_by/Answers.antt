@@ -1,6 +1,5 @@
 use Rattle.reader.proofs.ApplyLaws.{opened}
 use borrow.Author.Tests.{ne_eqb}
-use borrow.Author.Rules.{rules}
 use Rattle.reader.specs.Boards.{open_by}
 use Rattle.reader.proofs.apply.open_by.Goals as goal
 

@@ -1,5 +1,4 @@
 use Rattle.reader.proofs.ApplyLaws.{digits_table_lem, digits_refused}
-use borrow.Author.Rules.{rules}
 use borrow.Author.Tests.{eq-eqb, ne_eqb}
 use Rattle.reader.specs.Boards.{table_by}
 use Rattle.reader.proofs.apply.table_by.Goals as goal

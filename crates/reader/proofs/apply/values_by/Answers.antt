@@ -1,4 +1,3 @@
-use borrow.Author.Rules.{rules}
 use Rattle.reader.specs.BoardSteps.{values_put}
 use Rattle.reader.proofs.apply.values_by.Goals as goal
 

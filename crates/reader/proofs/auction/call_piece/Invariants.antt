@@ -1,12 +1,9 @@
-use Prim.Native.Nat.{◌+◌, ◌*◌, ◌<◌, ◌-◌, ◌≤◌}
-use mathlib.Core.Path.{refl, ap, ◌≡◌}
-use native.Mathlib.Omega.{arith}
-use lib.ListN.{length-take, length-drop, length}
+use Prim.Native.Nat.{◌+◌, ◌*◌, ◌-◌, ◌≤◌}
+use mathlib.Core.Path.{◌≡◌}
+use lib.ListN.{length}
 use Rattle.reader.specs.PieceSteps.{piece}
 use Rattle.reader.specs.Auction.{called, called_piece}
-use Rattle.reader.proofs.TokenLaws.{AtToken, reading_start, reading_some, reading_next, reading_done}
-use Rattle.reader.proofs.AuctionLaws.{next_call_count}
-use borrow.Author.Rules.{rules}
+use Rattle.reader.proofs.TokenLaws.{AtToken}
 use Rattle.reader.proofs.auction.call_piece.Given as goal
 
 abbrev pub invariant-loop-i : goal.invariant-loop-i

@@ -2,7 +2,6 @@ use mathlib.Core.Path.{sym, ◌∙◌}
 use Prim.Native.Nat.{◌+◌}
 use Rattle.reader.specs.PieceSteps.{piece}
 use Rattle.reader.proofs.AuctionLaws.{step_stopped, step_plus, step_star, step_annotation, step_lost, step_none, step_as}
-use borrow.Author.Rules.{rules}
 use Rattle.reader.proofs.auction.call_step.Goals as goal
 
 pub returns-then-stopped : goal.returns-then-stopped

@@ -1,6 +1,5 @@
 use Prim.Native.Nat.{◌+◌}
 use Rattle.reader.proofs.AuctionLaws.{call_annotated, call_plain}
-use borrow.Author.Rules.{rules}
 use Rattle.reader.proofs.auction.put_call.Goals as goal
 
 pub returns-then-k-len : goal.returns-then-k-len

@@ -1,6 +1,5 @@
 use Prim.Native.Nat.{◌+◌}
 use Rattle.reader.proofs.AuctionLaws.{passes_out_lem}
-use borrow.Author.Rules.{rules}
 use Rattle.reader.proofs.auction.put_passes.Goals as goal
 
 pub returns : goal.returns

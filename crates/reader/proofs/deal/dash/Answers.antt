@@ -1,6 +1,5 @@
 use Rattle.reader.proofs.DealLaws.{dash_one, dash_none}
 use mathlib.Core.Path.{sym, ◌∙◌}
-use borrow.Author.Rules.{rules}
 use Rattle.reader.proofs.deal.dash.Goals as goal
 
 pub returns-then-byte_at-eq45 : goal.returns-then-byte_at-eq45

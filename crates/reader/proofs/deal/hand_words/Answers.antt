@@ -1,4 +1,3 @@
-use borrow.Author.Rules.{rules}
 use Rattle.reader.specs.Deals.{hand_words}
 use Rattle.reader.proofs.deal.hand_words.Goals as goal
 

@@ -1,4 +1,3 @@
-use borrow.Author.Rules.{rules}
 use Rattle.reader.specs.Deals.{hands_of_words}
 use Rattle.reader.proofs.deal.hands_of_words.Goals as goal
 

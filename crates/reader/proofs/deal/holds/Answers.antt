@@ -1,5 +1,4 @@
 use Rattle.reader.proofs.CardSets.{bit_is}
-use borrow.Author.Rules.{rules}
 use Rattle.reader.specs.Deals.{has}
 use Rattle.reader.proofs.deal.holds.Goals as goal
 

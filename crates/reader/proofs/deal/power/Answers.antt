@@ -1,7 +1,6 @@
 use Rattle.reader.proofs.CardSets.{power_fits}
 use native.Mathlib.Nat.{mod-eq_of_lt, one-mul}
 use native.Mathlib.Omega.{arith}
-use borrow.Author.Rules.{rules}
 use Rattle.reader.proofs.deal.power.Goals as goal
 
 pub returns : goal.returns

@@ -1,4 +1,3 @@
-use borrow.Author.Rules.{rules}
 use Rattle.reader.specs.Deals.{deal_of}
 use Rattle.reader.proofs.deal.read_deal.Goals as goal
 

@@ -1,11 +1,8 @@
-use Rattle.reader.proofs.DealLaws.{word_more, word_stop, word_end, end_grown}
-use native.Mathlib.Omega.{arith}
-use mathlib.Core.Path.{refl, sym, ◌∙◌, ◌≡◌}
+use mathlib.Core.Path.{◌≡◌}
 use Rattle.tables.specs.Text.{word}
 use Rattle.reader.specs.DealSteps.{run_from, start_hand, Fine}
 use Prim.Native.Nat.{◌-◌, ◌≤◌}
 use lib.ListN.{length, drop}
-use borrow.Author.Rules.{rules}
 use Rattle.reader.proofs.deal.read_suits.Given as goal
 
 abbrev pub invariant-loop-i : goal.invariant-loop-i

@@ -1,11 +1,7 @@
-use Prim.Native.Nat.{◌<◌, ◌-◌, ◌≤◌}
-use native.Mathlib.Omega.{arith}
-use native.Mathlib.Numerals.{add-one}
-use mathlib.Core.Path.{refl, ◌≡◌}
-use lib.ListN.{replicate, length-set, length, drop}
-use lib.Seq.{sets, drop-cons, drop-length}
-use Rattle.reader.proofs.EditionLaws.{sets_all}
-use borrow.Author.Rules.{rules}
+use Prim.Native.Nat.{◌-◌, ◌≤◌}
+use mathlib.Core.Path.{◌≡◌}
+use lib.ListN.{length, drop}
+use lib.Seq.{sets}
 use Rattle.reader.proofs.edition.cell_words.Given as goal
 
 abbrev pub invariant-loop-i : goal.invariant-loop-i

@@ -1,6 +1,5 @@
 use mathlib.Core.Path.{refl}
 use borrow.Author.Tests.{lt-ltb, le-ltb}
-use borrow.Author.Rules.{rules}
 use Rattle.reader.proofs.edition.finish_reading.Goals as goal
 
 pub returns-then-cards-boards : goal.returns-then-cards-boards

@@ -1,6 +1,5 @@
 use mathlib.Core.Path.{refl}
 use Rattle.reader.proofs.EditionLaws.{back_put}
-use borrow.Author.Rules.{rules}
 use Rattle.reader.proofs.edition.put_back.Goals as goal
 
 pub returns : goal.returns

@@ -1,5 +1,4 @@
 use Rattle.reader.proofs.EditionLaws.{read_all, read_none}
-use borrow.Author.Rules.{rules}
 use Rattle.reader.proofs.edition.read_pbn_with.Goals as goal
 
 pub returns-then-length-gt16777215 : goal.returns-then-length-gt16777215

@@ -3,7 +3,6 @@ use native.Mathlib.Omega.{arith}
 use mathlib.Core.Path.{◌≡◌, refl, sym, ◌∙◌}
 use lib.ListN.{take, drop}
 use Rattle.reader.proofs.EditionLaws.{own_length, record_few, record_in}
-use borrow.Author.Rules.{rules}
 use Rattle.reader.proofs.edition.read_record.Goals as goal
 
 pub read_board-s-requires : goal.read_board-s-requires

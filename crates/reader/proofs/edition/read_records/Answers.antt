@@ -1,8 +1,6 @@
-use Prim.Native.Nat.{◌-◌}
 use native.Mathlib.Omega.{arith}
-use lib.ListN.{length}
 use Rattle.std.proofs.lemmas.Bool.{not_from_false, not_from_true}
-use Rattle.reader.proofs.EditionLaws.{Turn, turn_first, turn_few, turn_next, turn_stop, turn_end}
+use Rattle.reader.proofs.EditionLaws.{turn_first, turn_few, turn_next, turn_stop, turn_end}
 use Rattle.reader.proofs.edition.read_records.Goals as goal
 
 pub loop-a-init : goal.loop-a-init

@@ -1,7 +1,6 @@
 use Prim.Native.Nat.{◌-◌}
-use native.Mathlib.Omega.{arith}
 use lib.ListN.{length}
-use Rattle.reader.proofs.EditionLaws.{Turn, turn_first, turn_few, turn_next, turn_stop, turn_end}
+use Rattle.reader.proofs.EditionLaws.{Turn}
 use Rattle.reader.proofs.edition.read_records.Given as goal
 
 abbrev pub invariant-loop-a : goal.invariant-loop-a

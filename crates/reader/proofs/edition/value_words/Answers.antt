@@ -1,4 +1,3 @@
-use borrow.Author.Rules.{rules}
 use Rattle.reader.proofs.edition.value_words.Goals as goal
 
 pub returns : goal.returns

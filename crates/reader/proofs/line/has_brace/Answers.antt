@@ -1,4 +1,3 @@
-use borrow.Author.Rules.{rules}
 use Rattle.reader.specs.Lines.{has_brace}
 use Rattle.reader.proofs.line.has_brace.Goals as goal
 

@@ -1,5 +1,4 @@
 use Rattle.reader.proofs.LineLaws.{blank_is}
-use borrow.Author.Rules.{rules}
 use Rattle.reader.proofs.line.is_blank.Goals as goal
 
 pub returns : goal.returns

@@ -1,12 +1,8 @@
-use mathlib.Core.Path.{sym, ◌≡◌}
+use mathlib.Core.Path.{◌≡◌}
 use mathlib.Core.Bool.{false}
-use native.Mathlib.Omega.{arith}
-use lib.Seq.{drop-length}
 use Rattle.tables.specs.Letters.{among}
-use Rattle.reader.proofs.LineLaws.{brace_none, brace_at, brace_turn}
 use Prim.Native.Nat.{◌≤◌}
 use lib.ListN.{length, drop}
-use borrow.Author.Rules.{rules}
 use Rattle.reader.proofs.line.last_brace.Given as goal
 
 abbrev pub invariant-loop-e : goal.invariant-loop-e

@@ -1,4 +1,3 @@
-use borrow.Author.Rules.{rules}
 use Rattle.reader.proofs.line.opens_board.Goals as goal
 
 pub returns-in-Tag : goal.returns-in-Tag

@@ -1,12 +1,8 @@
-use native.Mathlib.Omega.{arith}
-use mathlib.Core.Path.{refl}
 use Prim.Native.Nat.{◌+◌, ◌*◌}
 use Rattle.reader.specs.NameSteps.{place_in}
-use Rattle.reader.proofs.NameLaws.{place_step, place_stop}
 use Prim.Native.Nat.{◌-◌, ◌≤◌}
 use mathlib.Core.Path.{◌≡◌}
 use lib.ListN.{length, drop}
-use borrow.Author.Rules.{rules}
 use Rattle.reader.proofs.names.place_in.Given as goal
 
 abbrev pub invariant-loop-i : goal.invariant-loop-i

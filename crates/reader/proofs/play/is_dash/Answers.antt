@@ -1,4 +1,3 @@
-use borrow.Author.Rules.{rules}
 use Rattle.reader.specs.Play.{is_gap}
 use Rattle.reader.proofs.play.is_dash.Goals as goal
 

@@ -1,6 +1,5 @@
 use Prim.Native.Nat.{◌+◌}
 use Rattle.reader.proofs.PlayLaws.{last_stored, last_none}
-use borrow.Author.Rules.{rules}
 use Rattle.reader.proofs.play.last_trick.Goals as goal
 
 pub returns-then-any : goal.returns-then-any

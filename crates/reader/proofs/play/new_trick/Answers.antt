@@ -1,5 +1,4 @@
 use Rattle.reader.proofs.PlayLaws.{new_is}
-use borrow.Author.Rules.{rules}
 use Rattle.reader.proofs.play.new_trick.Goals as goal
 
 pub returns : goal.returns

@@ -1,5 +1,4 @@
 use Rattle.reader.proofs.PlayLaws.{none_is}
-use borrow.Author.Rules.{rules}
 use Rattle.reader.proofs.play.no_tricks.Goals as goal
 
 pub returns : goal.returns

@@ -1,7 +1,6 @@
 use native.Mathlib.Omega.{arith}
 use Prim.Native.Nat.{◌+◌}
 use Rattle.reader.proofs.PlayLaws.{open_full, open_same, open_first, next_low}
-use borrow.Author.Rules.{rules}
 use Rattle.reader.proofs.play.open_trick.Goals as goal
 
 pub new_trick-requires : goal.new_trick-requires

@@ -1,5 +1,4 @@
 use Rattle.reader.proofs.PlayLaws.{card_is}
-use borrow.Author.Rules.{rules}
 use Rattle.reader.proofs.play.play_card.Goals as goal
 
 pub returns : goal.returns

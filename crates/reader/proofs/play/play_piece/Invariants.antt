@@ -1,13 +1,10 @@
-use Prim.Native.Nat.{◌+◌, ◌<◌, ◌-◌, ◌≤◌}
-use mathlib.Core.Path.{refl, ap, ◌≡◌}
-use native.Mathlib.Omega.{arith}
-use lib.ListN.{length-drop, length}
+use Prim.Native.Nat.{◌+◌, ◌-◌, ◌≤◌}
+use mathlib.Core.Path.{◌≡◌}
+use lib.ListN.{length}
 use Rattle.reader.specs.PieceSteps.{piece}
 use Rattle.reader.specs.Play.{played_token, played_piece}
 use Rattle.reader.specs.TokenSteps.{Seated}
-use Rattle.reader.proofs.TokenLaws.{AtToken, reading_start, reading_some, reading_next, reading_done}
-use Rattle.reader.proofs.PlayLaws.{next_trick_count, next_trick_few}
-use borrow.Author.Rules.{rules}
+use Rattle.reader.proofs.TokenLaws.{AtToken}
 use Rattle.reader.proofs.play.play_piece.Given as goal
 
 abbrev pub invariant-loop-i : goal.invariant-loop-i

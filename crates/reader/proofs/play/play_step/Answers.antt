@@ -1,6 +1,5 @@
 use Prim.Native.Nat.{◌+◌}
 use Rattle.reader.proofs.PlayLaws.{play_stopped, play_on}
-use borrow.Author.Rules.{rules}
 use Rattle.reader.proofs.play.play_step.Goals as goal
 
 pub returns-then-stopped : goal.returns-then-stopped

@@ -1,4 +1,3 @@
-use borrow.Author.Rules.{rules}
 use borrow.Author.Tests.{eq-eqb, ne_eqb}
 use Rattle.reader.specs.Play.{weight}
 use Rattle.reader.proofs.play.weigh.Goals as goal

@@ -1,5 +1,4 @@
 use Rattle.reader.proofs.PlayLaws.{winner_is}
-use borrow.Author.Rules.{rules}
 use Rattle.reader.proofs.play.winner.Goals as goal
 
 pub returns : goal.returns

@@ -1,5 +1,4 @@
 use Rattle.reader.proofs.PlayLaws.{slots_are}
-use borrow.Author.Rules.{rules}
 use Rattle.reader.proofs.play.with_slot.Goals as goal
 
 pub returns : goal.returns

@@ -1,5 +1,4 @@
 use Rattle.reader.proofs.ReadingLaws.{white_all}
-use borrow.Author.Rules.{rules}
 use Rattle.reader.proofs.reading.all_white.Goals as goal
 
 pub returns : goal.returns

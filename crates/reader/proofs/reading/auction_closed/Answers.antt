@@ -1,4 +1,3 @@
-use borrow.Author.Rules.{rules}
 use Rattle.reader.proofs.reading.auction_closed.Goals as goal
 
 pub returns-then-any : goal.returns-then-any

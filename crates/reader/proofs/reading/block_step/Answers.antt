@@ -2,9 +2,8 @@ use Rattle.reader.proofs.ReadingLaws.{block_none, block_some}
 use Rattle.reader.specs.declared.board.State.{State}
 use Rattle.reader.specs.Boards.{is_all_white}
 use native.Mathlib.Omega.{arith}
-use mathlib.Core.Path.{◌≡◌, ap, sym, ◌∙◌}
+use mathlib.Core.Path.{◌≡◌, ap}
 use mathlib.Core.Bool.{true, false}
-use borrow.Author.Rules.{rules}
 use Rattle.reader.proofs.reading.block_step.Goals as goal
 
 pub counted-requires : goal.counted-requires

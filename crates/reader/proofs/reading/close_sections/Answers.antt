@@ -1,7 +1,6 @@
 use Rattle.reader.proofs.ReadingLaws.{section_none, section_closed}
 use borrow.Author.Tests.{eq-eqb, ne_eqb}
 use native.Mathlib.Omega.{arith}
-use borrow.Author.Rules.{rules}
 use Rattle.reader.proofs.reading.close_sections.Goals as goal
 
 pub returns-then-kind-eq0 : goal.returns-then-kind-eq0

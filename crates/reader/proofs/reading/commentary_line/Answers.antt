@@ -1,7 +1,6 @@
 use Rattle.reader.proofs.ReadingLaws.{block_zero}
 use Rattle.reader.specs.Boards.{in_commentary}
 use native.Mathlib.Omega.{arith}
-use borrow.Author.Rules.{rules}
 use Rattle.reader.proofs.reading.commentary_line.Goals as goal
 
 pub returns-then-has_brace : goal.returns-then-has_brace

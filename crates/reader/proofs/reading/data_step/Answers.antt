@@ -1,7 +1,6 @@
 use Rattle.reader.specs.Boards.{counted_state}
 use mathlib.Core.Path.{ap, ◌∙◌}
 use native.Mathlib.Omega.{arith}
-use borrow.Author.Rules.{rules}
 use Rattle.reader.proofs.reading.data_step.Goals as goal
 
 pub counted-requires : goal.counted-requires

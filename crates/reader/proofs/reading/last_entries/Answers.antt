@@ -1,6 +1,5 @@
 use Rattle.reader.proofs.ReadingLaws.{last_stored, last_kept_lem}
 use borrow.Author.Tests.{eq-eqb, ne_eqb}
-use borrow.Author.Rules.{rules}
 use Rattle.reader.proofs.reading.last_entries.Goals as goal
 
 pub returns-then-kind-eq2 : goal.returns-then-kind-eq2

@@ -1,5 +1,4 @@
 use Rattle.reader.specs.Play.{last_trick}
-use borrow.Author.Rules.{rules}
 use Rattle.reader.proofs.reading.play_closed.Goals as goal
 
 pub returns-then-any : goal.returns-then-any

@@ -1,6 +1,5 @@
 use borrow.Author.Tests.{eq-eqb, ne_eqb}
 use native.Mathlib.Omega.{arith}
-use borrow.Author.Rules.{rules}
 use Rattle.reader.proofs.reading.put_data.Goals as goal
 
 pub returns-then-kind-eq0 : goal.returns-then-kind-eq0

@@ -1,6 +1,5 @@
 use Rattle.reader.proofs.ReadingLaws.{quiet_commentary, quiet_plain}
 use mathlib.Core.Path.{refl}
-use borrow.Author.Rules.{rules}
 use Rattle.reader.proofs.reading.quiet_line.Goals as goal
 
 pub returns-then-commentary : goal.returns-then-commentary

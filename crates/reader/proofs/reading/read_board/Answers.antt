@@ -1,14 +1,13 @@
-use Rattle.reader.proofs.LinesLaws.{LinesLeft, lines_start, left_few, lines_next, lines_done}
+use Rattle.reader.proofs.LinesLaws.{lines_start, left_few, lines_next, lines_done}
 use Rattle.reader.proofs.ReadingLaws.{section_none, kind_data, kind_directive, kind_tag, kind_brace, kind_bracket, line_bracket, line_directed, line_data, line_tag, line_braced, line_quiet}
 use Rattle.reader.proofs.TagStepLaws.{sound_later, closed_tags, closed_sound, read_closed_lem}
-use Rattle.reader.proofs.SectionLaws.{LineAt, line_at_lem}
+use Rattle.reader.proofs.SectionLaws.{line_at_lem}
 use Rattle.reader.specs.Boards.{counted_state, closed}
 use Rattle.reader.specs.PieceSteps.{Emits}
 use borrow.Author.Tests.{eq-eqb}
 use native.Mathlib.Omega.{arith}
-use mathlib.Core.Path.{◌≡◌, refl, ap, ◌∙◌}
-use mathlib.Core.Logic.{inl, inr}
-use Prim.Native.Nat.{◌+◌, ◌-◌, ◌*◌, ◌^◌, ◌≤◌}
+use mathlib.Core.Path.{ap}
+use Prim.Native.Nat.{◌+◌, ◌*◌, ◌≤◌}
 use lib.ListN.{length}
 use borrow.Author.Rules.{rules}
 use Rattle.reader.proofs.reading.read_board.Goals as goal
@@ -53,10 +52,10 @@ tag_read-s-requires c =
     let a = c.args in
     let v = c.loop-p in
     let m : Emits a.a (a.base + v.s.n) v.entries c.if-o-ne0.entries c.if-o-ne0.s (closed a.c a.r.now v.s) × (c.if-o-ne0.s.n ≤ v.s.n + 6 * length a.r.now + 1) =
-      elim c.if-o-ne0.branch [
-        | then-o-ne0 w ↦ rw (w.entries-is, w.s-is) (w.close_sections-s.ensures.0, w.close_sections-s.ensures.1)
-        | else-o-ne0 w ↦ rw (w.entries-is, w.s-is) (section_none a.c a.r.now v.s _ _ _ (eq-eqb _ _ w.if-o-ne0.false), omega arith)
-      ] in
+    elim c.if-o-ne0.branch [
+      | then-o-ne0 w ↦ rw (w.entries-is, w.s-is) (w.close_sections-s.ensures.0, w.close_sections-s.ensures.1)
+      | else-o-ne0 w ↦ rw (w.entries-is, w.s-is) (section_none a.c a.r.now v.s _ _ _ (eq-eqb _ _ w.if-o-ne0.false), omega arith)
+    ] in
     let l = line_at_lem c.args.r.now c.loop-p.p c.line_at-l.result.now c.loop-p-test.true c.line_at-l.ensures in
     (omega (arith, l.inside, c.requires.0), omega (arith, m.1, left_few c.loop-p.invariant, c.requires.0, c.requires.1), rw m.0.answer (closed_sound a.c a.r.now v.s v.invariant.sound), rw (m.0.answer, closed_tags a.c a.r.now v.s) (omega (arith, v.invariant.tags_few, v.invariant.inside, c.requires.0)), rw c.in-Tag.is at c.kind_in.ensures.1)
 
@@ -73,10 +72,10 @@ loop-p-preserved-in-Tag c =
     let l = c.line_at-l.result.now in
     let k = kind_tag c.kind_in.ensures.0 c.in-Tag.is in
     let m : Emits a.a (a.base + v.s.n) v.entries c.if-o-ne0.entries c.if-o-ne0.s (closed a.c a.r.now v.s) × (c.if-o-ne0.s.n ≤ v.s.n + 6 * length a.r.now + 1) =
-      elim c.if-o-ne0.branch [
-        | then-o-ne0 w ↦ rw (w.entries-is, w.s-is) (w.close_sections-s.ensures.0, w.close_sections-s.ensures.1)
-        | else-o-ne0 w ↦ rw (w.entries-is, w.s-is) (section_none a.c a.r.now v.s _ _ _ (eq-eqb _ _ w.if-o-ne0.false), omega arith)
-      ] in
+    elim c.if-o-ne0.branch [
+      | then-o-ne0 w ↦ rw (w.entries-is, w.s-is) (w.close_sections-s.ensures.0, w.close_sections-s.ensures.1)
+      | else-o-ne0 w ↦ rw (w.entries-is, w.s-is) (section_none a.c a.r.now v.s _ _ _ (eq-eqb _ _ w.if-o-ne0.false), omega arith)
+    ] in
     lines_next v.invariant _ (line_at_lem c.args.r.now c.loop-p.p c.line_at-l.result.now c.loop-p-test.true c.line_at-l.ensures) _ _
     (line_tag a.c a.r.now v.s v.p l a.a _ v.invariant.sound _ k.0 k.1 (read_closed_lem a.c a.base v.s v.p a.r.now l _ m.0 c.tag_read-s.ensures))
     (search rules)

@@ -1,6 +1,5 @@
 use Rattle.reader.proofs.TagStepLaws.{no_span_ends, placed_ends}
 use native.Mathlib.Omega.{arith}
-use borrow.Author.Rules.{rules}
 use Rattle.reader.proofs.reading.split_of.Goals as goal
 
 pub placed_span-requires : goal.placed_span-requires

@@ -2,7 +2,6 @@ use Rattle.tables.specs.Tables.{gathered}
 use native.Mathlib.Omega.{arith}
 use Rattle.reader.proofs.ReadingLaws.{rows_taken, rows_refused}
 use mathlib.Core.Path.{sym}
-use borrow.Author.Rules.{rules}
 use Rattle.reader.proofs.reading.table_closed.Goals as goal
 
 pub returns-in_default : goal.returns-in_default

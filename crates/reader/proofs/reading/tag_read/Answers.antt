@@ -4,7 +4,6 @@ use Rattle.reader.specs.Boards.{tagged}
 use mathlib.Core.Path.{ap}
 use lib.ListN.{length}
 use native.Mathlib.Omega.{arith}
-use borrow.Author.Rules.{rules}
 use Rattle.reader.proofs.reading.tag_read.Goals as goal
 
 pub tag_step-next-requires : goal.tag_step-next-requires

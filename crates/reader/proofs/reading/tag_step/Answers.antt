@@ -1,7 +1,5 @@
-use mathlib.Core.Path.{◌∙◌}
 use native.Mathlib.Omega.{arith}
 use Rattle.reader.proofs.TagStepLaws.{tag_stepped}
-use borrow.Author.Rules.{rules}
 use Rattle.reader.proofs.reading.tag_step.Goals as goal
 
 pub overflow_add-s : goal.overflow_add-s

@@ -1,4 +1,3 @@
-use borrow.Author.Rules.{rules}
 use mathlib.Core.Path.{sym}
 use Rattle.reader.proofs.RecordLaws.{closing, not_closing}
 use Rattle.reader.proofs.record.closes_record.Goals as goal

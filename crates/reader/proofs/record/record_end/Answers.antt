@@ -1,9 +1,6 @@
-use Prim.Native.Nat.{◌-◌}
-use lib.ListN.{length}
-use borrow.Author.Rules.{rules}
 use native.Mathlib.Omega.{arith}
-use Rattle.reader.proofs.SectionLaws.{LineAt, line_at_lem}
-use Rattle.reader.proofs.RecordLaws.{Scanning, scanning, scan_on, scan_closed, scan_ended}
+use Rattle.reader.proofs.SectionLaws.{line_at_lem}
+use Rattle.reader.proofs.RecordLaws.{scanning, scan_on, scan_closed, scan_ended}
 use Rattle.reader.proofs.record.record_end.Goals as goal
 
 pub loop-e-init : goal.loop-e-init

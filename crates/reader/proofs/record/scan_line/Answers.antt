@@ -1,4 +1,3 @@
-use borrow.Author.Rules.{rules}
 use Rattle.tables.proofs.Laws.{neither}
 use Rattle.reader.specs.Lines.{line_kind, opens_board}
 use Rattle.reader.specs.Records.{scanned}

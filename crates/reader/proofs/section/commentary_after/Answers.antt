@@ -1,4 +1,3 @@
-use borrow.Author.Rules.{rules}
 use borrow.Author.Tests.{eq-eqb, ne_eqb}
 use Rattle.reader.specs.Sections.{commentary_after}
 use Rattle.reader.proofs.SectionLaws.{commentary_opens}

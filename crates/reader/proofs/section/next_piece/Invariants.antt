@@ -1,9 +1,6 @@
 use Prim.Native.Nat.{◌-◌}
 use lib.ListN.{length}
-use borrow.Author.Rules.{rules}
-use native.Mathlib.Omega.{arith}
-use Rattle.reader.proofs.SectionLaws.{LineAt, line_at_lem}
-use Rattle.reader.proofs.NextLaws.{Seeking, seeking, piece_placed, seek_pass, seek_stop, seek_end, seek_piece}
+use Rattle.reader.proofs.NextLaws.{Seeking}
 use Rattle.reader.proofs.section.next_piece.Given as goal
 
 abbrev pub invariant-loop-e : goal.invariant-loop-e

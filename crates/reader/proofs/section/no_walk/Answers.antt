@@ -1,4 +1,3 @@
-use borrow.Author.Rules.{rules}
 use Rattle.reader.specs.Sections.{no_walk}
 use Rattle.reader.proofs.section.no_walk.Goals as goal
 

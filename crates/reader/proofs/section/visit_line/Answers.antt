@@ -1,4 +1,3 @@
-use borrow.Author.Rules.{rules}
 use Rattle.reader.specs.SectionSteps.{visit_of}
 use Rattle.reader.proofs.section.visit_line.Goals as goal
 

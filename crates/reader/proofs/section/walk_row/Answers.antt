@@ -1,4 +1,3 @@
-use borrow.Author.Rules.{rules}
 use Rattle.reader.proofs.section.walk_row.Goals as goal
 
 pub returns-in-Blank : goal.returns-in-Blank

@@ -1,8 +1,6 @@
-use mathlib.Core.Path.{◌≡◌, refl}
-use lib.ListN.{length}
-use borrow.Author.Rules.{rules}
+use mathlib.Core.Path.{refl}
 use native.Mathlib.Omega.{arith}
-use Rattle.reader.proofs.WalkLaws.{Walking, walking, walk_on, walk_ended, left_of, less_left}
+use Rattle.reader.proofs.WalkLaws.{walking, walk_on, walk_ended, less_left}
 use Rattle.reader.proofs.section.walk_section.Goals as goal
 
 pub loop-next-init : goal.loop-next-init

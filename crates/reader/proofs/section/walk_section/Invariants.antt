@@ -1,8 +1,6 @@
-use mathlib.Core.Path.{◌≡◌, refl}
+use mathlib.Core.Path.{◌≡◌}
 use lib.ListN.{length}
-use borrow.Author.Rules.{rules}
-use native.Mathlib.Omega.{arith}
-use Rattle.reader.proofs.WalkLaws.{Walking, walking, walk_on, walk_ended, left_of, less_left}
+use Rattle.reader.proofs.WalkLaws.{Walking, left_of}
 use Rattle.reader.proofs.section.walk_section.Given as goal
 
 abbrev pub invariant-loop-next : goal.invariant-loop-next

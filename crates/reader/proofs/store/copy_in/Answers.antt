@@ -1,11 +1,10 @@
-use Prim.Native.Nat.{ℕ, suc, ◌<◌, ◌≤◌, ◌+◌, ◌-◌}
-use mathlib.Core.Path.{◌≡◌, refl, sym, ap, ◌∙◌}
-use mathlib.Core.List.{List}
+use Prim.Native.Nat.{suc, ◌<◌, ◌+◌}
+use mathlib.Core.Path.{◌≡◌, refl}
 use native.Mathlib.Omega.{arith}
 use native.Mathlib.Numerals.{add-one}
 use native.Mathlib.Nat.{add-zero}
-use lib.ListN.{length, drop, get_or, length-set}
-use lib.Seq.{sets, drop-cons, drop-length}
+use lib.ListN.{length, length-set}
+use lib.Seq.{drop-cons, drop-length}
 use Rattle.reader.proofs.store.copy_in.Goals as goal
 
 -- src/lib.rt:41:5

@@ -1,11 +1,10 @@
-use Prim.Native.Nat.{◌+◌, ◌-◌, ◌≤◌, ◌<◌}
+use Prim.Native.Nat.{◌+◌}
 use mathlib.Core.Path.{sym, ◌∙◌, ◌≡◌}
-use mathlib.Core.List.{[]}
 use mathlib.Core.Bool.{◌&&◌, true, false}
 use lib.Dec.{eqb}
-use lib.ListN.{get_or, length, drop, length-drop}
+use lib.ListN.{get_or, length-drop}
 use native.Mathlib.Omega.{arith}
-use Rattle.reader.specs.Tag.{part, ends_quoted, close_at}
+use Rattle.reader.specs.Tag.{part, ends_quoted}
 use Rattle.tables.proofs.Laws.{stop}
 use Rattle.reader.proofs.TagLaws.{part_none, close_found, close_turn, close_next, close_there}
 use borrow.Author.Rules.{rules}

@@ -1,14 +1,10 @@
-use Prim.Native.Nat.{◌+◌, ◌-◌, ◌≤◌, ◌<◌}
-use mathlib.Core.Path.{sym, ◌∙◌, ◌≡◌}
+use Prim.Native.Nat.{◌-◌, ◌≤◌, ◌<◌}
+use mathlib.Core.Path.{◌≡◌}
 use mathlib.Core.List.{[]}
-use mathlib.Core.Bool.{◌&&◌, true, false}
+use mathlib.Core.Bool.{true}
 use lib.Dec.{eqb}
-use lib.ListN.{get_or, length, drop, length-drop}
-use native.Mathlib.Omega.{arith}
-use Rattle.reader.specs.Tag.{part, ends_quoted, close_at}
-use Rattle.tables.proofs.Laws.{stop}
-use Rattle.reader.proofs.TagLaws.{part_none, close_found, close_turn, close_next, close_there}
-use borrow.Author.Rules.{rules}
+use lib.ListN.{get_or, length, drop}
+use Rattle.reader.specs.Tag.{part, close_at}
 use Rattle.reader.proofs.tag.closing_bracket.Given as goal
 
 abbrev pub invariant-loop-i : goal.invariant-loop-i

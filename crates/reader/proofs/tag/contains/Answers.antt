@@ -1,5 +1,4 @@
 use Rattle.reader.proofs.TagLaws.{among_before}
-use borrow.Author.Rules.{rules}
 use Rattle.reader.proofs.tag.contains.Goals as goal
 
 pub returns : goal.returns

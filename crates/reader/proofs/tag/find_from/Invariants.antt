@@ -1,9 +1,6 @@
 use Prim.Native.Nat.{◌-◌}
 use mathlib.Core.Path.{◌≡◌}
 use lib.ListN.{length, drop}
-use borrow.Author.Rules.{rules}
-use borrow.Author.Tests.{eq-eqb, ne_eqb}
-use Rattle.tables.proofs.Laws.{step, stop}
 use Rattle.reader.specs.Tag.{find_at}
 use Rattle.reader.proofs.tag.find_from.Given as goal
 

@@ -1,4 +1,3 @@
-use borrow.Author.Rules.{rules}
 use borrow.Author.Tests.{eq-eqb, ne_eqb}
 use Rattle.reader.specs.Tag.{is_comment}
 use Rattle.reader.proofs.tag.is_comment.Goals as goal

@@ -1,4 +1,3 @@
-use borrow.Author.Rules.{rules}
 use borrow.Author.Tests.{lt-ltb, le-ltb}
 use Rattle.reader.specs.Tag.{is_quoted}
 use Rattle.reader.proofs.tag.is_quoted.Goals as goal

@@ -1,6 +1,5 @@
 use mathlib.Core.Path.{refl}
 use Rattle.reader.proofs.TagLaws.{last_at, last_none}
-use borrow.Author.Rules.{rules}
 use Rattle.reader.proofs.tag.last_byte.Goals as goal
 
 pub returns-then-n-eq0 : goal.returns-then-n-eq0

@@ -1,4 +1,3 @@
-use borrow.Author.Rules.{rules}
 use Rattle.reader.specs.Tag.{ends_quoted}
 use Rattle.reader.proofs.tag.quote_before.Goals as goal
 

@@ -1,6 +1,5 @@
 use native.Mathlib.Omega.{arith}
 use Rattle.reader.proofs.TagLaws.{length_part, span_part_is}
-use borrow.Author.Rules.{rules}
 use Rattle.reader.proofs.tag.trim_part.Goals as goal
 
 pub overflow_add-result : goal.overflow_add-result

@@ -1,5 +1,4 @@
 use Rattle.reader.proofs.TagLaws.{span_is}
-use borrow.Author.Rules.{rules}
 use Rattle.reader.proofs.tag.trim_span.Goals as goal
 
 pub returns : goal.returns

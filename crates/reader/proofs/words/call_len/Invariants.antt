@@ -1,13 +1,8 @@
-use Rattle.tables.proofs.TextLaws.{front_more, front_stop, front_end}
-use Rattle.reader.specs.Words.{is_call_byte, call_part}
-use native.Mathlib.Omega.{arith}
-use mathlib.Core.Path.{sym, ap, ◌∙◌}
-use mathlib.Core.Bool.{not}
+use Rattle.reader.specs.Words.{call_part}
 use Prim.Native.Nat.{◌+◌}
 use Prim.Native.Nat.{◌-◌, ◌≤◌}
 use mathlib.Core.Path.{◌≡◌}
 use lib.ListN.{length, drop}
-use borrow.Author.Rules.{rules}
 use Rattle.reader.proofs.words.call_len.Given as goal
 
 abbrev pub invariant-loop-i : goal.invariant-loop-i

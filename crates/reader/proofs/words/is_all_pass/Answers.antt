@@ -1,4 +1,3 @@
-use borrow.Author.Rules.{rules}
 use Rattle.reader.specs.Words.{is_all_pass}
 use Rattle.reader.proofs.words.is_all_pass.Goals as goal
 

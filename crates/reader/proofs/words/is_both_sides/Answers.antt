@@ -1,4 +1,3 @@
-use borrow.Author.Rules.{rules}
 use Rattle.reader.specs.Words.{is_both_sides}
 use Rattle.reader.proofs.words.is_both_sides.Goals as goal
 

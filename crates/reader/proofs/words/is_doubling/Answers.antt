@@ -1,5 +1,4 @@
 use Rattle.reader.proofs.WordLaws.{nothing_is}
-use borrow.Author.Rules.{rules}
 use Rattle.reader.specs.Words.{is_doubling}
 use Rattle.reader.proofs.words.is_doubling.Goals as goal
 

@@ -1,4 +1,3 @@
-use borrow.Author.Rules.{rules}
 use Rattle.reader.specs.Words.{is_no_side}
 use Rattle.reader.proofs.words.is_no_side.Goals as goal
 

@@ -3,12 +3,9 @@ use native.Mathlib.Omega.{arith}
 use mathlib.Core.Path.{sym, refl}
 use Prim.Native.Nat.{◌<◌}
 use borrow.Author.Tests.{eq-eqb, ne_eqb}
-use Rattle.reader.specs.Words.{same}
 use Rattle.tables.proofs.Laws.{step, stop}
-use Prim.Native.Nat.{◌-◌, ◌≤◌}
-use mathlib.Core.Path.{◌≡◌}
-use lib.ListN.{length, drop}
-use borrow.Author.Rules.{rules}
+use Prim.Native.Nat.{◌≤◌}
+use lib.ListN.{length}
 use Rattle.reader.proofs.words.same.Goals as goal
 
 pub returns-then-a-b : goal.returns-then-a-b

@@ -2,13 +2,10 @@ use native.Mathlib.Omega.{arith}
 use mathlib.Core.Path.{sym, refl}
 use Prim.Native.Nat.{◌<◌}
 use borrow.Author.Tests.{eq-eqb, ne_eqb}
-use Rattle.reader.specs.Words.{same_word}
 use Rattle.tables.proofs.Laws.{step, stop}
 use Rattle.reader.proofs.WordLaws.{word_long}
-use Prim.Native.Nat.{◌-◌, ◌≤◌}
-use mathlib.Core.Path.{◌≡◌}
-use lib.ListN.{length, drop}
-use borrow.Author.Rules.{rules}
+use Prim.Native.Nat.{◌≤◌}
+use lib.ListN.{length}
 use Rattle.reader.proofs.words.same_word.Goals as goal
 
 pub returns-then-word-token : goal.returns-then-word-token

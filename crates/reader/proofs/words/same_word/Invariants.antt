@@ -1,14 +1,7 @@
-use native.Mathlib.Omega.{arith}
-use mathlib.Core.Path.{sym, refl}
-use Prim.Native.Nat.{◌<◌}
-use borrow.Author.Tests.{eq-eqb, ne_eqb}
 use Rattle.reader.specs.Words.{same_word}
-use Rattle.tables.proofs.Laws.{step, stop}
-use Rattle.reader.proofs.WordLaws.{word_long}
-use Prim.Native.Nat.{◌-◌, ◌≤◌}
+use Prim.Native.Nat.{◌-◌}
 use mathlib.Core.Path.{◌≡◌}
 use lib.ListN.{length, drop}
-use borrow.Author.Rules.{rules}
 use Rattle.reader.proofs.words.same_word.Given as goal
 
 abbrev pub invariant-loop-i : goal.invariant-loop-i
