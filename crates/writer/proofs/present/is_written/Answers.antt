@@ -1,6 +1,5 @@
 use Rattle.writer.specs.PresentSteps.{is_tag_written}
 use borrow.Author.Tests.{ne_eqb}
-use borrow.Author.Rules.{rules}
 use Rattle.writer.proofs.present.is_written.Goals as goal
 
 pub returns-in-1 : goal.returns-in-1

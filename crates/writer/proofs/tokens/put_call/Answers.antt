@@ -1,6 +1,5 @@
 use native.Mathlib.Omega.{arith}
 use borrow.Author.Tests.{lt-ltb, le-ltb, ne_eqb}
-use borrow.Author.Rules.{rules}
 use Rattle.reader.specs.Words.{call_token}
 use Rattle.writer.proofs.tokens.put_call.Goals as goal
 
