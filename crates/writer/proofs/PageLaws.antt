@@ -1,18 +1,18 @@
 -- Laws of a board's scan, of the header and of parts in a row.
-use Prim.Native.Nat.{ℕ, zero, suc, ◌+◌, ◌-◌, ◌≤◌, ◌<◌}
-use mathlib.Core.Path.{◌≡◌, refl, sym, ap, ◌∙◌}
-use mathlib.Core.Bool.{Bool, true, false, cond, ◌||◌}
+use Prim.Native.Nat.{ℕ, suc, ◌+◌, ◌-◌, ◌≤◌, ◌<◌}
+use mathlib.Core.Path.{◌≡◌, refl, ◌∙◌}
+use mathlib.Core.Bool.{true, false, ◌||◌}
 use mathlib.Core.List.{List, [], ◌∷◌, ◌++◌}
 use native.Mathlib.Omega.{arith}
 use lib.Dec.{eqb}
 use lib.ListN.{length, length-append}
-use borrow.Author.Tests.{eqb-true, eqb-false, eq-eqb, ne_eqb}
+use borrow.Author.Tests.{eqb-true, eqb-false}
 use Rattle.tables.specs.declared.letters.Conventions.{Conventions}
 use Rattle.tables.proofs.Laws.{by_cases}
 use Rattle.writer.specs.Puts.{Puts}
-use Rattle.writer.specs.Held.{entry_word, item_at, items_at}
+use Rattle.writer.specs.Held.{entry_word, items_at}
 use Rattle.writer.specs.Pages.{built_in_header}
-use Rattle.writer.specs.Items.{is_remark, has_remarks}
+use Rattle.writer.specs.Items.{has_remarks}
 use Rattle.writer.specs.BoardTexts.{header_held, next_held, parts_held}
 use Rattle.writer.proofs.PutLaws.{puts_then}
 use Rattle.writer.proofs.RemarkLaws.{items_step, item_kind}

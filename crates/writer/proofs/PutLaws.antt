@@ -1,10 +1,10 @@
 -- Laws of texts put one after the other, whose contract is Puts.
 use Prim.Native.Nat.{ℕ, ◌+◌, ◌≤◌, ◌<◌}
 use mathlib.Core.Path.{◌≡◌, refl, ◌∙◌}
-use mathlib.Core.List.{List, [], ◌∷◌, ◌++◌}
+use mathlib.Core.List.{List, [], ◌++◌}
 use native.Mathlib.Omega.{arith}
 use lib.ListN.{length, length-append}
-use lib.Seq.{sets, length-sets}
+use lib.Seq.{length-sets}
 use Rattle.tables.specs.PageSteps.{Put}
 use Rattle.tables.proofs.PageLaws.{put_then, ToPut, to_put, putting, put_all_lem}
 use Rattle.writer.specs.Puts.{Puts}

@@ -1,16 +1,15 @@
 -- Laws of the search for a name and of supplemental tags.
 use Prim.Native.Nat.{ℕ, zero, suc, ◌+◌, ◌-◌, ◌≤◌, ◌<◌}
-use mathlib.Core.Path.{◌≡◌, refl, sym, ap, ◌∙◌}
-use mathlib.Core.Bool.{Bool, true, false, cond, ◌&&◌, not}
-use mathlib.Core.List.{List, [], ◌∷◌, ◌++◌}
+use mathlib.Core.Path.{◌≡◌, refl, sym}
+use mathlib.Core.Bool.{Bool, true, false, cond}
+use mathlib.Core.List.{List, [], ◌++◌}
 use native.Mathlib.Omega.{arith}
-use lib.Dec.{eqb}
 use lib.ListN.{length, drop, get_or}
 use borrow.Author.Tests.{eq-eqb, ne_eqb}
 use Rattle.tables.proofs.Laws.{step, stop}
 use Rattle.reader.specs.Words.{same}
 use Rattle.reader.specs.Plain.{Item}
-use Rattle.writer.specs.Held.{entry_word, place_bytes, item_at, items_at}
+use Rattle.writer.specs.Held.{entry_word, place_bytes, items_at}
 use Rattle.writer.specs.Items.{name_index, tagged_text, is_extra_at, extras_text}
 use Rattle.writer.proofs.RemarkLaws.{items_step, item_kind, item_bytes}
 

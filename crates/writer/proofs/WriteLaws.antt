@@ -1,11 +1,11 @@
 -- Laws of writing a whole edition.
-use Prim.Native.Nat.{ℕ, ◌+◌, ◌/◌, ◌≤◌, ◌<◌}
+use Prim.Native.Nat.{ℕ, ◌/◌, ◌≤◌, ◌<◌}
 use mathlib.Core.Path.{◌≡◌, refl, sym, ap, ◌∙◌}
-use mathlib.Core.Bool.{Bool, true, false, cond}
+use mathlib.Core.Bool.{true, cond}
 use mathlib.Core.List.{List}
 use native.Mathlib.Omega.{arith}
 use lib.Dec.{ltb, leb}
-use lib.ListN.{length, replicate, take, length-append, length-replicate}
+use lib.ListN.{length, replicate}
 use borrow.Author.Tests.{le-leb, lt-leb}
 use native.Mathlib.Nat.{sub-zero}
 use Rattle.tables.specs.declared.letters.Conventions.{Conventions}
@@ -13,8 +13,8 @@ use Rattle.tables.specs.declared.page.Written.{Written as PageWritten}
 use Rattle.tables.specs.declared.page.Written.TheVariants.{Bytes}
 use Rattle.tables.specs.declared.page.Written.TheVariants as paged
 use Rattle.tables.specs.declared.refusal.Refusal.TheVariants as refusal
-use Rattle.tables.specs.Page.{Wrote, page_of, answer_of}
-use Rattle.tables.specs.PageSteps.{Put, PageEnded, cleared}
+use Rattle.tables.specs.Page.{page_of}
+use Rattle.tables.specs.PageSteps.{PageEnded}
 use Rattle.tables.proofs.PageLaws.{finished}
 use Rattle.tables.proofs.Laws.{by_cases, clash}
 use Rattle.reader.specs.declared.edition.Reading.TheVariants.{Taken}
@@ -30,7 +30,7 @@ use Rattle.writer.specs.Pages.{written_text}
 use Rattle.writer.specs.BoardTexts.{page_held}
 use Rattle.writer.specs.Writings.{page_answer, written_by, writing_of, is_written, page_after, IsWritten}
 use Rattle.writer.specs.WritingSteps.{WritingEnded}
-use Rattle.writer.proofs.HeldBoards.{Holds, taken_holds}
+use Rattle.writer.proofs.HeldBoards.{taken_holds}
 use Rattle.writer.proofs.HeldPages.{PageHeld}
 use Rattle.writer.proofs.Sizes.{BytesFew}
 

@@ -1,9 +1,8 @@
 -- The cards of the new edition while it is being finished: given cells stand in the words of their board, which are zero where there is no
 -- table, and then the table's kind.
-use Rattle.std.specs.Prelude.{ℕ, ◌+◌, ◌-◌, ◌*◌, ◌≤◌, ◌<◌, ◌≡◌, Bool, cond, ◌&&◌, not, List, [], ◌∷◌, ◌++◌, map, eqb, leb, length, get_or, take, drop, replicate}
+use Rattle.std.specs.Prelude.{ℕ, ◌+◌, ◌-◌, ◌*◌, ◌≤◌, ◌≡◌, cond, ◌&&◌, not, List, ◌∷◌, ◌++◌, map, eqb, leb, length, get_or, take, drop, replicate}
 use Rattle.tables.specs.declared.letters.Conventions.{Conventions}
 use Rattle.tables.specs.PageSteps.{cleared as ended}
-use Rattle.reader.specs.declared.board.TableCard.{TableCard}
 use Rattle.reader.specs.Store.{flat, zeros}
 use Rattle.planning.specs.declared.state.BoardState.{BoardState}
 use Rattle.planning.specs.declared.state.BoardState.TheVariants.{Blank, Own, Old, Near, Twin, Solve}

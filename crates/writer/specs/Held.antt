@@ -1,9 +1,9 @@
 -- A board as the lent words hold it once its edition was read: its card, its entries, and the bytes of the text at their places.
-use Rattle.std.specs.Prelude.{ℕ, zero, suc, ◌+◌, ◌-◌, ◌*◌, ◌/◌, cond, List, [], ◌∷◌, map, eqb, ltb, length, take, drop, get_or}
+use Rattle.std.specs.Prelude.{ℕ, zero, suc, ◌+◌, ◌-◌, ◌*◌, ◌/◌, cond, List, [], ◌∷◌, map, eqb, ltb, length, get_or}
 use Rattle.std.proofs.Math.Option.{Option, none, some}
 use Rattle.reader.specs.Tag.{cut}
 use Rattle.reader.specs.declared.board.Identity.{Identity}
-use Rattle.reader.specs.Plain.{Item, Remark, PlainAuction, PlainPlay, PlainValues, PlainBoard, tags_in, remarks_in, block_value, calls_in, tricks_in}
+use Rattle.reader.specs.Plain.{Item, PlainAuction, PlainPlay, PlainValues, PlainBoard, tags_in, remarks_in, block_value, calls_in, tricks_in}
 use Rattle.writer.specs.Tags.{vulnerability}
 
 -- ---- entries

@@ -1,5 +1,5 @@
 -- Which tags of a board are written, in the order of writer.rs, each with its value and the data lines of its section.
-use Rattle.std.specs.Prelude.{ℕ, ◌-◌, ◌+◌, Bool, true, false, cond, ◌&&◌, ◌||◌, not, List, [], ◌∷◌, ◌++◌, map, eqb, ltb, drop}
+use Rattle.std.specs.Prelude.{ℕ, ◌-◌, Bool, false, cond, ◌&&◌, ◌||◌, not, List, [], ◌∷◌, ◌++◌, map, eqb, ltb, drop}
 use Prim.Native.String.{String}
 use Rattle.std.proofs.Math.Option.{Option, none, some}
 use Rattle.tables.specs.declared.letters.Conventions.{Conventions}
@@ -12,7 +12,7 @@ use Rattle.reader.specs.declared.board.TableCard.{TableCard}
 use Rattle.reader.specs.Words.{same, vulnerability_token}
 use Rattle.reader.specs.Names.{tag_number}
 use Rattle.reader.specs.Deals.{hands_of_words, deal_text}
-use Rattle.reader.specs.Plain.{TagPair, PlainAuction, PlainPlay, PlainValues, PlainBoard}
+use Rattle.reader.specs.Plain.{TagPair, PlainAuction, PlainPlay, PlainBoard}
 use Rattle.writer.specs.Sections.{auction_lines, note_values}
 
 -- A written tag: its name, its value, and the data lines that follow it.

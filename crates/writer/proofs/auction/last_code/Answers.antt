@@ -1,9 +1,5 @@
-use Prim.Native.Nat.{◌+◌, ◌≤◌}
-use mathlib.Core.Path.{◌≡◌, sym, refl, ◌∙◌}
+use mathlib.Core.Path.{sym, refl, ◌∙◌}
 use native.Mathlib.Omega.{arith}
-use borrow.Author.Rules.{rules}
-use Rattle.writer.specs.Items.{last_code}
-use Rattle.writer.specs.Held.{items_at}
 use Rattle.writer.proofs.RemarkLaws.{items_none}
 use Rattle.writer.proofs.TokenLaws.{last_call, last_pass}
 use Rattle.writer.proofs.auction.last_code.Goals as goal

@@ -1,11 +1,7 @@
 use Prim.Native.Nat.{◌+◌, ◌≤◌}
-use mathlib.Core.Path.{◌≡◌, sym, refl, ◌∙◌}
-use native.Mathlib.Omega.{arith}
-use borrow.Author.Rules.{rules}
+use mathlib.Core.Path.{◌≡◌}
 use Rattle.writer.specs.Items.{last_code}
 use Rattle.writer.specs.Held.{items_at}
-use Rattle.writer.proofs.RemarkLaws.{items_none}
-use Rattle.writer.proofs.TokenLaws.{last_call, last_pass}
 use Rattle.writer.proofs.auction.last_code.Given as goal
 
 abbrev pub invariant-loop-left : goal.invariant-loop-left

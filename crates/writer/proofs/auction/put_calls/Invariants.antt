@@ -1,13 +1,8 @@
 use Prim.Native.Nat.{◌+◌, ◌≤◌}
 use mathlib.Core.Bool.{false}
-use mathlib.Core.Path.{sym, ◌∙◌}
-use native.Mathlib.Omega.{arith}
-use borrow.Author.Rules.{rules}
 use Rattle.writer.specs.Items.{calls_text}
 use Rattle.writer.specs.Held.{items_at}
-use Rattle.writer.proofs.RemarkLaws.{items_none}
-use Rattle.writer.proofs.TokenLaws.{puts_last, calls_call, calls_mark, calls_pass}
-use Rattle.writer.proofs.PutLaws.{PutsLeft, puts_first, puts_same, puts_next, puts_then}
+use Rattle.writer.proofs.PutLaws.{PutsLeft}
 use Rattle.writer.proofs.auction.put_calls.Given as goal
 
 abbrev pub invariant-loop-left : goal.invariant-loop-left

@@ -1,5 +1,4 @@
 use borrow.Author.Tests.{ne_eqb}
-use borrow.Author.Rules.{rules}
 use Rattle.writer.proofs.PutLaws.{puts_nothing}
 use Rattle.writer.proofs.auction.put_last.Goals as goal
 

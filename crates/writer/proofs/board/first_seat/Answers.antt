@@ -1,6 +1,5 @@
 use native.Mathlib.Omega.{arith}
-use borrow.Author.Tests.{lt-ltb, le-ltb, eq-eqb, ne_eqb}
-use borrow.Author.Rules.{rules}
+use borrow.Author.Tests.{lt-ltb, le-ltb}
 use borrow.Author.Tests.{lt-ltb, le-ltb}
 use Rattle.writer.proofs.board.first_seat.Goals as goal
 

@@ -2,10 +2,9 @@ use native.Mathlib.Omega.{arith}
 use Rattle.writer.specs.Held.{section_items}
 use Rattle.writer.specs.Items.{tag_line_text}
 use Rattle.writer.specs.BoardTexts.{cards_text}
-use borrow.Author.Tests.{lt-ltb, le-ltb, eq-eqb, ne_eqb}
-use Rattle.writer.proofs.PutLaws.{puts_then, puts_as, puts_nothing}
-use borrow.Author.Rules.{rules}
-use borrow.Author.Tests.{eq-eqb, ne_eqb}
+use borrow.Author.Tests.{ne_eqb}
+use Rattle.writer.proofs.PutLaws.{puts_then, puts_nothing}
+use borrow.Author.Tests.{ne_eqb}
 use Rattle.writer.proofs.board.put_cards.Goals as goal
 
 pub returns-then-w-eq0 : goal.returns-then-w-eq0

@@ -1,7 +1,5 @@
-use native.Mathlib.Omega.{arith}
 use Rattle.writer.specs.BoardTexts.{contract_text}
-use Rattle.writer.proofs.PutLaws.{puts_then, puts_as, puts_nothing}
-use borrow.Author.Rules.{rules}
+use Rattle.writer.proofs.PutLaws.{puts_then}
 use Rattle.writer.proofs.board.put_contract.Goals as goal
 
 pub put_outcome-requires : goal.put_outcome-requires

@@ -1,7 +1,6 @@
 use Rattle.writer.specs.BoardTexts.{dealer_text}
-use borrow.Author.Tests.{lt-ltb, le-ltb, eq-eqb, ne_eqb}
-use Rattle.writer.proofs.PutLaws.{puts_then, puts_as, puts_nothing}
-use borrow.Author.Rules.{rules}
+use borrow.Author.Tests.{lt-ltb, le-ltb}
+use Rattle.writer.proofs.PutLaws.{puts_nothing}
 use borrow.Author.Tests.{lt-ltb, le-ltb}
 use Rattle.writer.proofs.board.put_dealer.Goals as goal
 

@@ -1,10 +1,9 @@
 use native.Mathlib.Omega.{arith}
 use Rattle.writer.specs.Items.{tag_line_text, tagged_text}
 use Rattle.writer.specs.Held.{value_held}
-use borrow.Author.Tests.{lt-ltb, le-ltb, eq-eqb, ne_eqb}
-use Rattle.writer.proofs.PutLaws.{puts_then, puts_as, puts_nothing}
-use borrow.Author.Rules.{rules}
-use borrow.Author.Tests.{eq-eqb, ne_eqb}
+use borrow.Author.Tests.{ne_eqb}
+use Rattle.writer.proofs.PutLaws.{puts_then}
+use borrow.Author.Tests.{ne_eqb}
 use Rattle.writer.proofs.board.put_dealt.Goals as goal
 
 pub returns-then-w-ne0 : goal.returns-then-w-ne0

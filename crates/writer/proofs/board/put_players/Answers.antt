@@ -1,6 +1,5 @@
 use Rattle.writer.specs.BoardTexts.{players_text}
-use Rattle.writer.proofs.PutLaws.{puts_then, puts_as, puts_nothing}
-use borrow.Author.Rules.{rules}
+use Rattle.writer.proofs.PutLaws.{puts_then}
 use Rattle.writer.proofs.board.put_players.Goals as goal
 
 pub returns : goal.returns

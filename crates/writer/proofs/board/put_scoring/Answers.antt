@@ -1,7 +1,4 @@
 use Rattle.writer.proofs.BoardLaws.{scoring_found, scoring_none}
-use Rattle.writer.proofs.PutLaws.{puts_then, puts_as, puts_nothing}
-use borrow.Author.Rules.{rules}
-use borrow.Author.Tests.{lt-ltb, le-ltb}
 use Rattle.writer.proofs.board.put_scoring.Goals as goal
 
 pub returns-then-place-first : goal.returns-then-place-first

@@ -1,9 +1,8 @@
 use Rattle.writer.specs.BoardTexts.{table_text}
 use Rattle.writer.specs.Items.{tag_line_text, tagged_text}
-use borrow.Author.Tests.{lt-ltb, le-ltb, eq-eqb, ne_eqb}
-use Rattle.writer.proofs.PutLaws.{puts_then, puts_as, puts_nothing}
-use borrow.Author.Rules.{rules}
-use borrow.Author.Tests.{eq-eqb, ne_eqb}
+use borrow.Author.Tests.{ne_eqb}
+use Rattle.writer.proofs.PutLaws.{puts_then, puts_nothing}
+use borrow.Author.Tests.{ne_eqb}
 use Rattle.writer.proofs.board.put_table.Goals as goal
 
 pub returns-then-card_word-eq0 : goal.returns-then-card_word-eq0

@@ -1,8 +1,6 @@
 use Rattle.writer.specs.Held.{value_held}
-use borrow.Author.Tests.{lt-ltb, le-ltb, eq-eqb, ne_eqb}
-use Rattle.writer.proofs.PutLaws.{puts_then, puts_as, puts_nothing}
-use borrow.Author.Rules.{rules}
-use borrow.Author.Tests.{eq-eqb, ne_eqb}
+use borrow.Author.Tests.{ne_eqb}
+use borrow.Author.Tests.{ne_eqb}
 use Rattle.writer.proofs.board.put_value.Goals as goal
 
 pub returns-then-w-eq0 : goal.returns-then-w-eq0

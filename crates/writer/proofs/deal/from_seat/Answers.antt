@@ -1,6 +1,5 @@
 use mathlib.Core.Path.{◌≡◌, ap, ◌∙◌}
 use native.Mathlib.Omega.{arith}
-use borrow.Author.Rules.{rules}
 use Rattle.reader.specs.Deals.{back}
 use Rattle.writer.proofs.deal.from_seat.Goals as goal
 

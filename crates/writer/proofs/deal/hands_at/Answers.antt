@@ -1,5 +1,4 @@
 use native.Mathlib.Omega.{arith}
-use borrow.Author.Rules.{rules}
 use Rattle.reader.specs.Deals.{hands_of_words}
 use Rattle.writer.proofs.TokenLaws.{part_at}
 use Rattle.writer.proofs.deal.hands_at.Goals as goal

@@ -1,5 +1,4 @@
 use borrow.Author.Tests.{ne_eqb}
-use borrow.Author.Rules.{rules}
 use Rattle.reader.specs.Deals.{hand_text}
 use Rattle.writer.proofs.PutLaws.{puts_then}
 use Rattle.writer.proofs.deal.put_hand.Goals as goal

@@ -1,4 +1,3 @@
-use borrow.Author.Rules.{rules}
 use Rattle.writer.proofs.PutLaws.{puts_then}
 use Rattle.writer.proofs.deal.put_hands.Goals as goal
 

@@ -1,11 +1,9 @@
-use Prim.Native.Nat.{◌≤◌}
 use mathlib.Core.Path.{sym, ◌∙◌}
 use native.Mathlib.Omega.{arith}
-use borrow.Author.Rules.{rules}
 use Rattle.reader.proofs.DealBack.{ranks_none}
-use Rattle.reader.specs.Deals.{ranks_text, suit_text}
+use Rattle.reader.specs.Deals.{suit_text}
 use Rattle.writer.proofs.TokenLaws.{ranks_put, ranks_pass}
-use Rattle.writer.proofs.PutLaws.{PutsLeft, puts_first, puts_same, puts_next, puts_all}
+use Rattle.writer.proofs.PutLaws.{puts_first, puts_same, puts_next, puts_all}
 use Rattle.writer.proofs.deal.put_suit.Goals as goal
 
 pub loop-r-init : goal.loop-r-init

@@ -1,11 +1,6 @@
 use Prim.Native.Nat.{◌≤◌}
-use mathlib.Core.Path.{sym, ◌∙◌}
-use native.Mathlib.Omega.{arith}
-use borrow.Author.Rules.{rules}
-use Rattle.reader.proofs.DealBack.{ranks_none}
-use Rattle.reader.specs.Deals.{ranks_text, suit_text}
-use Rattle.writer.proofs.TokenLaws.{ranks_put, ranks_pass}
-use Rattle.writer.proofs.PutLaws.{PutsLeft, puts_first, puts_same, puts_next, puts_all}
+use Rattle.reader.specs.Deals.{ranks_text}
+use Rattle.writer.proofs.PutLaws.{PutsLeft}
 use Rattle.writer.proofs.deal.put_suit.Given as goal
 
 abbrev pub invariant-loop-r : goal.invariant-loop-r

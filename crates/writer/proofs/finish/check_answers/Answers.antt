@@ -1,5 +1,4 @@
 use Rattle.writer.proofs.FinishSteps.{check_odd, check_count, check_above, check_right}
-use borrow.Author.Rules.{rules}
 use Rattle.writer.proofs.finish.check_answers.Goals as goal
 
 pub returns-then-answers-ne0 : goal.returns-then-answers-ne0

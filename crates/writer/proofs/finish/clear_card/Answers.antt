@@ -1,5 +1,4 @@
 use Rattle.writer.proofs.ChangedCards.{clear_set, clear_none}
-use borrow.Author.Rules.{rules}
 use Rattle.writer.proofs.finish.clear_card.Goals as goal
 
 pub returns-then-cards-k-eq3 : goal.returns-then-cards-k-eq3

@@ -1,7 +1,6 @@
 use native.Mathlib.Omega.{arith}
 use Rattle.writer.specs.GivenCards.{given_cleared}
-use Rattle.writer.proofs.ChangedCards.{changed_first, changed_next, changed_end, ChangedTo, cleared_long}
-use Prim.Native.Nat.{◌-◌}
+use Rattle.writer.proofs.ChangedCards.{changed_first, changed_next, changed_end, cleared_long}
 use Rattle.writer.proofs.finish.clear_given.Goals as goal
 
 pub loop-k-init : goal.loop-k-init
@@ -17,7 +16,7 @@ pub loop-k-smaller : goal.loop-k-smaller
 loop-k-smaller c = omega (arith, c.loop-k-test.true)
 
 pub loop-k-preserved : goal.loop-k-preserved
-loop-k-preserved c = changed_next cleared_long c.loop-k.invariant c.loop-k-test.true c.requires c.clear_card.ensures c.clear_card.auto.0
+loop-k-preserved c = changed_next cleared_long c.loop-k.invariant c.loop-k-test.true c.requires c.clear_card.ensures c.clear_card.auto.cards
 
 pub returns : goal.returns
 returns c = changed_end c.loop-k.invariant c.loop-k-test.false

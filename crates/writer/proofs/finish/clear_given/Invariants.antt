@@ -1,6 +1,5 @@
-use native.Mathlib.Omega.{arith}
 use Rattle.writer.specs.GivenCards.{given_cleared}
-use Rattle.writer.proofs.ChangedCards.{changed_first, changed_next, changed_end, ChangedTo, cleared_long}
+use Rattle.writer.proofs.ChangedCards.{ChangedTo}
 use Prim.Native.Nat.{◌-◌}
 use Rattle.writer.proofs.finish.clear_given.Given as goal
 

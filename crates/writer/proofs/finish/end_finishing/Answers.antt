@@ -1,5 +1,4 @@
 use Rattle.writer.proofs.FinishSteps.{ended_well, ended_full}
-use borrow.Author.Rules.{rules}
 use Rattle.writer.proofs.finish.end_finishing.Goals as goal
 
 pub returns-then-n-page : goal.returns-then-n-page

@@ -1,7 +1,6 @@
 use native.Mathlib.Omega.{arith}
 use mathlib.Core.Path.{sym, ◌∙◌}
 use Rattle.writer.proofs.FinishSteps.{boards_right, boards_wrong}
-use borrow.Author.Rules.{rules}
 use Rattle.writer.proofs.finish.finish_boards.Goals as goal
 
 pub returns-in-Right : goal.returns-in-Right

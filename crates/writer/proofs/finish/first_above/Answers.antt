@@ -1,10 +1,8 @@
 use native.Mathlib.Omega.{arith}
 use Rattle.writer.proofs.FinishSteps.{above_here, above_next, above_none}
 use Rattle.writer.specs.Finishings.{first_above}
-use Prim.Native.Nat.{◌+◌, ◌-◌, ◌≤◌}
 use native.Mathlib.Nat.{zero-add}
-use mathlib.Core.Path.{◌≡◌, sym, ◌∙◌}
-use lib.ListN.{length, drop}
+use mathlib.Core.Path.{sym, ◌∙◌}
 use Rattle.writer.proofs.finish.first_above.Goals as goal
 
 pub loop-i-init : goal.loop-i-init

@@ -1,9 +1,6 @@
-use native.Mathlib.Omega.{arith}
-use Rattle.writer.proofs.FinishSteps.{above_here, above_next, above_none}
 use Rattle.writer.specs.Finishings.{first_above}
 use Prim.Native.Nat.{◌+◌, ◌-◌, ◌≤◌}
-use native.Mathlib.Nat.{zero-add}
-use mathlib.Core.Path.{◌≡◌, sym, ◌∙◌}
+use mathlib.Core.Path.{◌≡◌}
 use lib.ListN.{length, drop}
 use Rattle.writer.proofs.finish.first_above.Given as goal
 

@@ -1,6 +1,5 @@
 use mathlib.Core.Path.{refl}
 use Rattle.writer.proofs.ChangedCards.{mark_set, mark_none}
-use borrow.Author.Rules.{rules}
 use Rattle.writer.proofs.finish.mark_card.Goals as goal
 
 pub returns-then-whole-tabled : goal.returns-then-whole-tabled

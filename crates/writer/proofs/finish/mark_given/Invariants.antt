@@ -1,6 +1,5 @@
-use native.Mathlib.Omega.{arith}
 use Rattle.writer.specs.GivenCards.{marked}
-use Rattle.writer.proofs.ChangedCards.{changed_first, changed_next, changed_end, ChangedTo, marked_long}
+use Rattle.writer.proofs.ChangedCards.{ChangedTo}
 use Prim.Native.Nat.{◌-◌}
 use Rattle.writer.proofs.finish.mark_given.Given as goal
 

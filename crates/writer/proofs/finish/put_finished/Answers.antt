@@ -1,5 +1,4 @@
 use Rattle.writer.proofs.FinishSteps.{put_done}
-use borrow.Author.Rules.{rules}
 use Rattle.writer.proofs.finish.put_finished.Goals as goal
 
 pub returns : goal.returns

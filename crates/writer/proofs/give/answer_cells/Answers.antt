@@ -1,10 +1,7 @@
 use mathlib.Core.Path.{refl}
 use native.Mathlib.Omega.{arith}
 use Rattle.writer.proofs.GiveCells.{answers_none, cells_more, cells_answered}
-use Prim.Native.Nat.{◌-◌, ◌*◌, ◌≤◌}
-use mathlib.Core.Path.{◌≡◌}
-use lib.ListN.{length, take, drop, length-set}
-use borrow.Author.Rules.{rules}
+use lib.ListN.{length-set}
 use Rattle.writer.proofs.give.answer_cells.Goals as goal
 
 pub returns-then-answers-slip : goal.returns-then-answers-slip

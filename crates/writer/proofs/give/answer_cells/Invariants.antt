@@ -1,10 +1,6 @@
-use mathlib.Core.Path.{refl}
-use native.Mathlib.Omega.{arith}
-use Rattle.writer.proofs.GiveCells.{answers_none, cells_more, cells_answered}
 use Prim.Native.Nat.{◌-◌, ◌*◌, ◌≤◌}
 use mathlib.Core.Path.{◌≡◌}
-use lib.ListN.{length, take, drop, length-set}
-use borrow.Author.Rules.{rules}
+use lib.ListN.{length, take, drop}
 use Rattle.writer.proofs.give.answer_cells.Given as goal
 
 abbrev pub invariant-loop-i : goal.invariant-loop-i

@@ -1,5 +1,4 @@
 use Rattle.writer.proofs.GiveCells.{cells_none, cells_copied}
-use borrow.Author.Rules.{rules}
 use Rattle.writer.proofs.give.cells_at.Goals as goal
 
 pub returns-then-cards-k : goal.returns-then-cards-k

@@ -1,14 +1,12 @@
-use Prim.Native.Nat.{◌-◌}
 use native.Mathlib.Omega.{arith}
 use Rattle.planning.specs.PlanSteps.{cards_in}
-use Rattle.writer.proofs.GiveLaws.{Giving, giving_first, giving_next, giving_few, giving_end}
-use borrow.Author.Rules.{rules}
+use Rattle.writer.proofs.GiveLaws.{giving_first, giving_next, giving_few, giving_end}
 use Rattle.writer.proofs.give.give_tables.Goals as goal
 
 pub loop-k-init : goal.loop-k-init
 loop-k-init c =
     let a = c.args in
-    giving_first (cards_in a.olds a.old-cards.now) a.news a.new-cards.now a.answers.now
+    giving_first (cards_in a.olds a.old_cards.now) a.news a.new_cards.now a.answers.now
 
 pub state_of-s-requires : goal.state_of-s-requires
 state_of-s-requires c = (
@@ -23,7 +21,7 @@ put_cells-requires c = omega (arith, c.requires.1, c.loop-k.invariant.box_length
 pub slip_after-slip-requires : goal.slip_after-slip-requires
 slip_after-slip-requires c =
     let a = c.args in
-    omega (arith, giving_few a.olds a.old-cards.now a.news a.new-cards.now a.answers.now c.requires.0 c.requires.1 c.loop-k.invariant, c.requires.1, c.type_inv)
+    omega (arith, giving_few a.olds a.old_cards.now a.news a.new_cards.now a.answers.now c.requires.0 c.requires.1 c.loop-k.invariant, c.requires.1, c.type_inv)
 
 pub overflow_add-k : goal.overflow_add-k
 overflow_add-k c = omega (arith, c.loop-k-test.true, c.requires.1, c.type_inv)
@@ -34,9 +32,9 @@ loop-k-smaller c = omega (arith, c.loop-k-test.true)
 pub loop-k-preserved : goal.loop-k-preserved
 loop-k-preserved c =
     let a = c.args in
-    giving_next a.olds a.old-cards.now a.news a.new-cards.now a.answers.now c.requires.0 c.requires.1 c.loop-k.invariant c.loop-k-test.true c.state_of-s.ensures.0 c.source_cells-cells.ensures c.put_cells.ensures c.slip_after-slip.ensures
+    giving_next a.olds a.old_cards.now a.news a.new_cards.now a.answers.now c.requires.0 c.requires.1 c.loop-k.invariant c.loop-k-test.true c.state_of-s.ensures.0 c.source_cells-cells.ensures c.put_cells.ensures c.slip_after-slip.ensures
 
 pub returns : goal.returns
 returns c =
     let a = c.args in
-    giving_end a.olds a.old-cards.now a.news a.new-cards.now a.answers.now c.requires.0 c.requires.1 c.loop-k.invariant c.loop-k-test.false
+    giving_end a.olds a.old_cards.now a.news a.new_cards.now a.answers.now c.requires.0 c.requires.1 c.loop-k.invariant c.loop-k-test.false

@@ -1,8 +1,6 @@
 use Prim.Native.Nat.{◌-◌}
-use native.Mathlib.Omega.{arith}
 use Rattle.planning.specs.PlanSteps.{cards_in}
-use Rattle.writer.proofs.GiveLaws.{Giving, giving_first, giving_next, giving_few, giving_end}
-use borrow.Author.Rules.{rules}
+use Rattle.writer.proofs.GiveLaws.{Giving}
 use Rattle.writer.proofs.give.give_tables.Given as goal
 
 abbrev pub invariant-loop-k : goal.invariant-loop-k

@@ -1,5 +1,4 @@
 use borrow.Author.Tests.{eq-eqb, ne_eqb}
-use borrow.Author.Rules.{rules}
 use Rattle.writer.proofs.give.slip_after.Goals as goal
 
 pub returns-then-state_number-eq5 : goal.returns-then-state_number-eq5

@@ -1,4 +1,3 @@
-use borrow.Author.Rules.{rules}
 use Rattle.writer.proofs.give.source_cells.Goals as goal
 
 pub returns-in-Blank : goal.returns-in-Blank

@@ -1,6 +1,5 @@
 use native.Mathlib.Omega.{arith}
 use Rattle.writer.specs.Held.{card_word}
-use borrow.Author.Rules.{rules}
 use borrow.Author.Tests.{lt-ltb, le-ltb}
 use Rattle.writer.proofs.held.card_word.Goals as goal
 

@@ -1,16 +1,12 @@
 use Rattle.writer.proofs.TagLaws.{name_tag, name_pass, same_differ, same_equal, same_end}
 use Rattle.writer.proofs.RemarkLaws.{items_none}
-use Rattle.writer.specs.Items.{name_index}
-use Rattle.writer.specs.Held.{items_at}
 use Rattle.reader.proofs.WordLaws.{same_long}
-use Rattle.reader.specs.Words.{same}
-use Prim.Native.Nat.{◌-◌, ◌+◌, ◌≤◌, ◌<◌}
-use mathlib.Core.Bool.{cond}
+use Prim.Native.Nat.{◌+◌, ◌≤◌, ◌<◌}
 use mathlib.Core.Path.{◌≡◌, sym, refl, ◌∙◌}
 use native.Mathlib.Omega.{arith}
-use Prim.Native.Nat.{◌-◌, ◌≤◌}
+use Prim.Native.Nat.{◌≤◌}
 use mathlib.Core.Path.{◌≡◌}
-use lib.ListN.{length, drop}
+use lib.ListN.{length}
 use borrow.Author.Rules.{rules}
 use Rattle.writer.proofs.names.find_name.Goals as goal
 

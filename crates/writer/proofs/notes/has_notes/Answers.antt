@@ -1,10 +1,6 @@
-use Prim.Native.Nat.{◌+◌}
 use native.Mathlib.Omega.{arith}
-use mathlib.Core.Path.{◌≡◌, sym, refl, ◌∙◌}
-use Rattle.writer.proofs.NotePlaces.{has_note, AnyNote, has_here, has_on, has_over}
-use Prim.Native.Nat.{◌-◌, ◌≤◌}
-use mathlib.Core.Path.{◌≡◌}
-use borrow.Author.Rules.{rules}
+use mathlib.Core.Path.{sym, refl, ◌∙◌}
+use Rattle.writer.proofs.NotePlaces.{AnyNote, has_here, has_on, has_over}
 use Rattle.writer.proofs.notes.has_notes.Goals as goal
 
 pub loop-left-init : goal.loop-left-init

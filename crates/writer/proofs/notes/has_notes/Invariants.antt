@@ -1,10 +1,8 @@
 use Prim.Native.Nat.{◌+◌}
-use native.Mathlib.Omega.{arith}
-use mathlib.Core.Path.{◌≡◌, sym, refl, ◌∙◌}
-use Rattle.writer.proofs.NotePlaces.{has_note, AnyNote, has_here, has_on, has_over}
-use Prim.Native.Nat.{◌-◌, ◌≤◌}
 use mathlib.Core.Path.{◌≡◌}
-use borrow.Author.Rules.{rules}
+use Rattle.writer.proofs.NotePlaces.{has_note}
+use Prim.Native.Nat.{◌≤◌}
+use mathlib.Core.Path.{◌≡◌}
 use Rattle.writer.proofs.notes.has_notes.Given as goal
 
 abbrev pub invariant-loop-left : goal.invariant-loop-left

@@ -1,7 +1,6 @@
 use mathlib.Core.Path.{refl, ap, ◌∙◌}
 use Rattle.reader.specs.Words.{same}
 use Rattle.writer.proofs.NoteLaws.{decimal_put}
-use borrow.Author.Rules.{rules}
 use Rattle.writer.proofs.notes.is_decimal.Goals as goal
 
 pub returns : goal.returns

@@ -1,5 +1,4 @@
 use Rattle.writer.proofs.NoteLaws.{note_found, note_none}
-use borrow.Author.Rules.{rules}
 use Rattle.writer.proofs.notes.is_note.Goals as goal
 
 pub returns-then-k-value : goal.returns-then-k-value

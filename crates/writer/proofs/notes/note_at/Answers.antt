@@ -1,7 +1,5 @@
 use Rattle.writer.specs.Items.{note_number_at}
-use mathlib.Core.Path.{◌≡◌, sym, refl, ap, ◌∙◌}
 use native.Mathlib.Omega.{arith}
-use borrow.Author.Rules.{rules}
 use borrow.Author.Tests.{eq-eqb, ne_eqb}
 use Rattle.writer.proofs.notes.note_at.Goals as goal
 

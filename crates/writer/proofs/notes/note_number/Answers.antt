@@ -1,10 +1,7 @@
-use Rattle.tables.specs.NumberSteps.{IsWithin}
 use Rattle.writer.specs.Items.{or_none}
 use Rattle.writer.proofs.NoteLaws.{number_of_lem, number_no}
-use mathlib.Core.Path.{◌≡◌, sym, refl, ap, ◌∙◌}
+use mathlib.Core.Path.{sym, ap, ◌∙◌}
 use native.Mathlib.Omega.{arith}
-use borrow.Author.Rules.{rules}
-use borrow.Author.Tests.{lt-ltb, le-ltb}
 use Rattle.writer.proofs.notes.note_number.Goals as goal
 
 pub returns-in_default : goal.returns-in_default

@@ -1,7 +1,6 @@
 use mathlib.Core.Path.{sym, ap, ◌∙◌}
 use mathlib.Core.Bool.{Bool, cond}
 use Rattle.writer.proofs.NotePlaces.{of_none, of_note}
-use borrow.Author.Rules.{rules}
 use Rattle.writer.proofs.notes.note_of.Goals as goal
 
 pub returns-then-place-eq0 : goal.returns-then-place-eq0

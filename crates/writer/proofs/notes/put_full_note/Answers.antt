@@ -1,6 +1,5 @@
 use Rattle.writer.specs.Items.{full_note}
 use Rattle.writer.proofs.PutLaws.{puts_then, puts_nothing}
-use borrow.Author.Rules.{rules}
 use Rattle.writer.proofs.notes.put_full_note.Goals as goal
 
 pub returns-then-fresh : goal.returns-then-fresh

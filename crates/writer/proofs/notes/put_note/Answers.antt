@@ -1,6 +1,5 @@
 use Rattle.writer.specs.Items.{tag_line_text, note_text}
 use Rattle.writer.proofs.PutLaws.{puts_then}
-use borrow.Author.Rules.{rules}
 use Rattle.writer.proofs.notes.put_note.Goals as goal
 
 pub returns : goal.returns

@@ -1,7 +1,6 @@
 use Rattle.writer.specs.Held.{items_at}
 use Rattle.writer.proofs.NotePlaces.{notes_nothing, NotesPut}
 use Rattle.writer.proofs.PutLaws.{puts_as, puts_nothing}
-use borrow.Author.Rules.{rules}
 use Rattle.writer.proofs.notes.put_notes.Goals as goal
 
 pub returns-then-has_notes : goal.returns-then-has_notes

@@ -1,11 +1,9 @@
 use native.Mathlib.Omega.{arith}
 use mathlib.Core.Path.{sym, ◌∙◌}
-use Rattle.writer.proofs.PutLaws.{PutsLeft, puts_first, puts_same, puts_next, puts_all}
+use Rattle.writer.proofs.PutLaws.{puts_first, puts_same, puts_next, puts_all}
 use Rattle.writer.proofs.NotePlaces.{full_none, full_note_lem, full_over}
 use Rattle.writer.specs.Held.{items_at}
-use Rattle.writer.specs.Items.{full_notes, all_notes}
-use Prim.Native.Nat.{◌-◌, ◌≤◌}
-use borrow.Author.Rules.{rules}
+use Rattle.writer.specs.Items.{all_notes}
 use Rattle.writer.proofs.notes.put_placed.Goals as goal
 
 pub loop-n-init : goal.loop-n-init

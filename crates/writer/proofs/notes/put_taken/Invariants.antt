@@ -1,13 +1,9 @@
 use mathlib.Core.Bool.{false}
 use Prim.Native.Nat.{◌+◌}
-use native.Mathlib.Omega.{arith}
-use mathlib.Core.Path.{sym, ◌∙◌}
-use Rattle.writer.proofs.PutLaws.{PutsLeft, puts_first, puts_same, puts_next, puts_all}
-use Rattle.writer.proofs.RemarkLaws.{items_none, remarks_tag, remarks_put, remarks_pass}
+use Rattle.writer.proofs.PutLaws.{PutsLeft}
 use Rattle.writer.specs.Held.{items_at}
 use Rattle.writer.specs.Items.{remarks_text, takes_tag}
-use Prim.Native.Nat.{◌-◌, ◌≤◌}
-use borrow.Author.Rules.{rules}
+use Prim.Native.Nat.{◌≤◌}
 use Rattle.writer.proofs.notes.put_taken.Given as goal
 
 abbrev pub invariant-loop-left : goal.invariant-loop-left

@@ -2,13 +2,8 @@ use Rattle.writer.specs.Items.{note_number_at}
 use lib.ListN.{length-set}
 use Prim.Native.Nat.{◌+◌}
 use native.Mathlib.Omega.{arith}
-use mathlib.Core.Path.{◌≡◌, sym, refl, ◌∙◌}
+use mathlib.Core.Path.{sym, refl, ◌∙◌}
 use Rattle.writer.proofs.NotePlaces.{places_on, places_over, set_past}
-use Rattle.writer.specs.Items.{note_places}
-use Prim.Native.Nat.{◌-◌, ◌≤◌}
-use mathlib.Core.Path.{◌≡◌}
-use lib.ListN.{length}
-use borrow.Author.Rules.{rules}
 use Rattle.writer.proofs.notes.set_places.Goals as goal
 
 pub loop-left-init : goal.loop-left-init

@@ -1,14 +1,9 @@
-use Rattle.writer.specs.Items.{note_number_at}
-use lib.ListN.{length-set}
 use Prim.Native.Nat.{◌+◌}
-use native.Mathlib.Omega.{arith}
-use mathlib.Core.Path.{◌≡◌, sym, refl, ◌∙◌}
-use Rattle.writer.proofs.NotePlaces.{places_on, places_over, set_past}
+use mathlib.Core.Path.{◌≡◌}
 use Rattle.writer.specs.Items.{note_places}
-use Prim.Native.Nat.{◌-◌, ◌≤◌}
+use Prim.Native.Nat.{◌≤◌}
 use mathlib.Core.Path.{◌≡◌}
 use lib.ListN.{length}
-use borrow.Author.Rules.{rules}
 use Rattle.writer.proofs.notes.set_places.Given as goal
 
 abbrev pub invariant-loop-left : goal.invariant-loop-left

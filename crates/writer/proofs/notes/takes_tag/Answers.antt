@@ -1,4 +1,3 @@
-use borrow.Author.Rules.{rules}
 use Rattle.writer.proofs.notes.takes_tag.Goals as goal
 
 pub returns-then-same : goal.returns-then-same

@@ -1,5 +1,4 @@
 use Rattle.writer.proofs.NotePlaces.{taken_first, taken_own, taken_other}
-use borrow.Author.Rules.{rules}
 use Rattle.writer.proofs.notes.takes_value.Goals as goal
 
 pub returns-then-fresh : goal.returns-then-fresh

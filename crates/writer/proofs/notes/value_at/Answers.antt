@@ -1,6 +1,5 @@
 use mathlib.Core.Path.{sym, ◌∙◌}
 use Rattle.writer.proofs.RemarkLaws.{first_none, first_trick, first_value_lem}
-use borrow.Author.Rules.{rules}
 use Rattle.writer.proofs.notes.value_at.Goals as goal
 
 pub returns-then-left-eq0 : goal.returns-then-left-eq0

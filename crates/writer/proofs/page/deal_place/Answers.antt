@@ -1,8 +1,6 @@
-use mathlib.Core.Path.{◌≡◌, sym, refl, ap, ◌∙◌}
+use mathlib.Core.Path.{sym}
 use native.Mathlib.Omega.{arith}
 use Rattle.writer.proofs.BoardLaws.{deal_found, deal_none}
-use borrow.Author.Rules.{rules}
-use borrow.Author.Tests.{lt-ltb, le-ltb}
 use Rattle.writer.proofs.page.deal_place.Goals as goal
 
 pub returns-then-place-first : goal.returns-then-place-first

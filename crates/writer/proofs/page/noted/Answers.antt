@@ -1,8 +1,7 @@
 use native.Mathlib.Omega.{arith}
 use Rattle.writer.specs.BoardTexts.{present_held}
-use borrow.Author.Tests.{lt-ltb, le-ltb, eq-eqb, ne_eqb}
-use borrow.Author.Rules.{rules}
-use borrow.Author.Tests.{eq-eqb, ne_eqb}
+use borrow.Author.Tests.{ne_eqb}
+use borrow.Author.Tests.{ne_eqb}
 use Rattle.writer.proofs.page.noted.Goals as goal
 
 pub returns-then-w-eq0 : goal.returns-then-w-eq0

@@ -1,5 +1,4 @@
 use Rattle.writer.specs.BoardTexts.{present_held}
-use borrow.Author.Rules.{rules}
 use Rattle.writer.proofs.page.present_at.Goals as goal
 
 pub returns : goal.returns

@@ -1,7 +1,6 @@
 use native.Mathlib.Omega.{arith}
 use Rattle.writer.specs.BoardTexts.{back_text}
 use Rattle.writer.proofs.PutLaws.{puts_then}
-use borrow.Author.Rules.{rules}
 use Rattle.writer.proofs.page.put_back.Goals as goal
 
 pub put_extras-d-requires : goal.put_extras-d-requires

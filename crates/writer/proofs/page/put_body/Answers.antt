@@ -1,6 +1,5 @@
 use Rattle.writer.specs.BoardTexts.{body_held}
-use Rattle.writer.proofs.PutLaws.{puts_then, puts_as, puts_nothing}
-use borrow.Author.Rules.{rules}
+use Rattle.writer.proofs.PutLaws.{puts_then}
 use Rattle.writer.proofs.page.put_body.Goals as goal
 
 pub put_front-d-requires : goal.put_front-d-requires

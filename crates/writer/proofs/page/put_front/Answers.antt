@@ -1,7 +1,6 @@
 use native.Mathlib.Omega.{arith}
 use Rattle.writer.specs.BoardTexts.{front_text}
-use Rattle.writer.proofs.PutLaws.{puts_then, puts_as, puts_nothing}
-use borrow.Author.Rules.{rules}
+use Rattle.writer.proofs.PutLaws.{puts_then}
 use Rattle.writer.proofs.page.put_front.Goals as goal
 
 pub put_extras-f-requires : goal.put_extras-f-requires

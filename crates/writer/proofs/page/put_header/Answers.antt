@@ -1,5 +1,4 @@
 use Rattle.writer.specs.Pages.{built_in_header}
-use borrow.Author.Rules.{rules}
 use Rattle.writer.proofs.page.put_header.Goals as goal
 
 pub returns : goal.returns

@@ -1,6 +1,5 @@
 use native.Mathlib.Omega.{arith}
 use Rattle.writer.specs.BoardTexts.{lead_held}
-use borrow.Author.Rules.{rules}
 use Rattle.writer.proofs.page.put_lead.Goals as goal
 
 pub put_remarks-requires : goal.put_remarks-requires

@@ -1,6 +1,5 @@
 use Rattle.writer.specs.BoardTexts.{next_held}
-use Rattle.writer.proofs.PutLaws.{puts_then, puts_as, puts_nothing}
-use borrow.Author.Rules.{rules}
+use Rattle.writer.proofs.PutLaws.{puts_then}
 use Rattle.writer.proofs.page.put_next.Goals as goal
 
 pub returns : goal.returns

@@ -1,9 +1,8 @@
 use native.Mathlib.Omega.{arith}
 use Rattle.writer.specs.BoardTexts.{page_held}
-use borrow.Author.Tests.{lt-ltb, le-ltb, eq-eqb, ne_eqb}
-use Rattle.writer.proofs.PutLaws.{puts_then, puts_as, puts_nothing}
-use borrow.Author.Rules.{rules}
-use borrow.Author.Tests.{eq-eqb, ne_eqb}
+use borrow.Author.Tests.{ne_eqb}
+use Rattle.writer.proofs.PutLaws.{puts_then}
+use borrow.Author.Tests.{ne_eqb}
 use Rattle.writer.proofs.page.put_page.Goals as goal
 
 pub returns-then-boards-eq0 : goal.returns-then-boards-eq0

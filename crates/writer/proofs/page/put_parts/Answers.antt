@@ -1,12 +1,6 @@
-use Rattle.writer.proofs.PutLaws.{PutsLeft, puts_first, puts_same, puts_next, puts_all}
+use Rattle.writer.proofs.PutLaws.{puts_first, puts_same, puts_next, puts_all}
 use Rattle.writer.proofs.PageLaws.{parts_step, parts_none}
-use Rattle.writer.specs.BoardTexts.{parts_held}
 use native.Mathlib.Omega.{arith}
-use Prim.Native.Nat.{◌-◌, ◌+◌, ◌≤◌, ◌<◌}
-use mathlib.Core.Path.{◌≡◌, sym, refl, ap, ◌∙◌}
-use Prim.Native.Nat.{◌-◌, ◌≤◌}
-use mathlib.Core.Path.{◌≡◌}
-use lib.ListN.{length, drop}
 use borrow.Author.Rules.{rules}
 use Rattle.writer.proofs.page.put_parts.Goals as goal
 

@@ -1,13 +1,7 @@
-use Rattle.writer.proofs.PutLaws.{PutsLeft, puts_first, puts_same, puts_next, puts_all}
-use Rattle.writer.proofs.PageLaws.{parts_step, parts_none}
+use Rattle.writer.proofs.PutLaws.{PutsLeft}
 use Rattle.writer.specs.BoardTexts.{parts_held}
-use native.Mathlib.Omega.{arith}
-use Prim.Native.Nat.{◌-◌, ◌+◌, ◌≤◌, ◌<◌}
-use mathlib.Core.Path.{◌≡◌, sym, refl, ap, ◌∙◌}
 use Prim.Native.Nat.{◌-◌, ◌≤◌}
-use mathlib.Core.Path.{◌≡◌}
-use lib.ListN.{length, drop}
-use borrow.Author.Rules.{rules}
+use Prim.Native.Nat.{◌-◌, ◌≤◌}
 use Rattle.writer.proofs.page.put_parts.Given as goal
 
 abbrev pub invariant-loop-b : goal.invariant-loop-b

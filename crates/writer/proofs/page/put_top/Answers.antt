@@ -1,6 +1,4 @@
 use Rattle.writer.proofs.PageLaws.{header_built, header_own}
-use borrow.Author.Rules.{rules}
-use borrow.Author.Tests.{eq-eqb, ne_eqb}
 use Rattle.writer.proofs.page.put_top.Goals as goal
 
 pub returns-then-d-at : goal.returns-then-d-at

@@ -1,13 +1,7 @@
 use Rattle.writer.proofs.RemarkLaws.{items_none}
 use Rattle.writer.proofs.PageLaws.{scan_met, scan_pass}
-use Rattle.writer.specs.Items.{has_remarks}
-use Rattle.writer.specs.Held.{items_at}
 use native.Mathlib.Omega.{arith}
-use Prim.Native.Nat.{◌-◌, ◌+◌, ◌≤◌, ◌<◌}
-use mathlib.Core.Path.{◌≡◌, sym, refl, ap, ◌∙◌}
-use Prim.Native.Nat.{◌-◌, ◌≤◌}
-use mathlib.Core.Path.{◌≡◌}
-use lib.ListN.{length, drop}
+use mathlib.Core.Path.{sym, refl, ◌∙◌}
 use borrow.Author.Rules.{rules}
 use Rattle.writer.proofs.page.scan_count.Goals as goal
 

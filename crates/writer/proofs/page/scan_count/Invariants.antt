@@ -1,14 +1,9 @@
-use Rattle.writer.proofs.RemarkLaws.{items_none}
-use Rattle.writer.proofs.PageLaws.{scan_met, scan_pass}
 use Rattle.writer.specs.Items.{has_remarks}
 use Rattle.writer.specs.Held.{items_at}
-use native.Mathlib.Omega.{arith}
-use Prim.Native.Nat.{◌-◌, ◌+◌, ◌≤◌, ◌<◌}
-use mathlib.Core.Path.{◌≡◌, sym, refl, ap, ◌∙◌}
-use Prim.Native.Nat.{◌-◌, ◌≤◌}
+use Prim.Native.Nat.{◌+◌, ◌≤◌}
 use mathlib.Core.Path.{◌≡◌}
-use lib.ListN.{length, drop}
-use borrow.Author.Rules.{rules}
+use Prim.Native.Nat.{◌≤◌}
+use mathlib.Core.Path.{◌≡◌}
 use Rattle.writer.proofs.page.scan_count.Given as goal
 
 abbrev pub invariant-loop-left : goal.invariant-loop-left

@@ -1,7 +1,6 @@
 use Rattle.writer.specs.Held.{board_items}
 use Rattle.writer.specs.BoardTexts.{scan_of}
 use native.Mathlib.Omega.{arith}
-use borrow.Author.Rules.{rules}
 use Rattle.writer.proofs.page.scan_of.Goals as goal
 
 pub returns : goal.returns

@@ -1,6 +1,5 @@
 use native.Mathlib.Omega.{arith}
 use borrow.Author.Tests.{lt-ltb, le-ltb}
-use borrow.Author.Rules.{rules}
 use Rattle.writer.proofs.play.one_more.Goals as goal
 
 pub returns-then-k-lt52 : goal.returns-then-k-lt52

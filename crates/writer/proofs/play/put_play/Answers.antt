@@ -1,4 +1,3 @@
-use borrow.Author.Rules.{rules}
 use Rattle.writer.specs.Items.{play_text}
 use Rattle.writer.proofs.PutLaws.{puts_then}
 use Rattle.writer.proofs.play.put_play.Goals as goal

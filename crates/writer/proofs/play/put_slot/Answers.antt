@@ -1,5 +1,4 @@
 use borrow.Author.Tests.{lt-ltb, le-ltb, ne_eqb}
-use borrow.Author.Rules.{rules}
 use Rattle.writer.proofs.PutLaws.{puts_then, puts_nothing}
 use Rattle.writer.proofs.play.put_slot.Goals as goal
 

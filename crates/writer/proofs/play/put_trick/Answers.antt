@@ -1,4 +1,3 @@
-use borrow.Author.Rules.{rules}
 use Rattle.writer.proofs.PutLaws.{puts_then}
 use Rattle.writer.proofs.play.put_trick.Goals as goal
 

@@ -1,12 +1,7 @@
 use Prim.Native.Nat.{◌+◌, ◌≤◌}
-use mathlib.Core.Path.{sym, ◌∙◌}
-use native.Mathlib.Omega.{arith}
-use borrow.Author.Rules.{rules}
 use Rattle.writer.specs.Items.{tricks_text}
 use Rattle.writer.specs.Held.{items_at}
-use Rattle.writer.proofs.RemarkLaws.{items_none}
-use Rattle.writer.proofs.TokenLaws.{tricks_put, tricks_pass}
-use Rattle.writer.proofs.PutLaws.{PutsLeft, puts_first, puts_same, puts_next, puts_all}
+use Rattle.writer.proofs.PutLaws.{PutsLeft}
 use Rattle.writer.proofs.play.put_tricks.Given as goal
 
 abbrev pub invariant-loop-left : goal.invariant-loop-left

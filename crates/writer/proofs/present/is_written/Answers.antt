@@ -1,6 +1,6 @@
+use native.Mathlib.Omega.{arith}
 use Rattle.writer.specs.PresentSteps.{is_tag_written}
 use borrow.Author.Tests.{ne_eqb}
-use borrow.Author.Rules.{rules}
 use Rattle.writer.proofs.present.is_written.Goals as goal
 
 pub returns-in-1 : goal.returns-in-1
@@ -51,4 +51,5 @@ returns-in-21 c =
 pub returns-in_default : goal.returns-in_default
 unfolding is_tag_written
 returns-in_default c =
-    rw (ne_eqb _ _ c.in_default.in_default-own.rest.0.0.0.0.0.0.0.0.1, ne_eqb _ _ c.in_default.in_default-own.rest.0.0.0.0.0.0.0.1, ne_eqb _ _ c.in_default.in_default-own.rest.0.0.0.0.0.0.1, ne_eqb _ _ c.in_default.in_default-own.rest.0.0.0.0.0.1, ne_eqb _ _ c.in_default.in_default-own.rest.0.0.0.0.1, ne_eqb _ _ c.in_default.in_default-own.rest.0.0.0.1, ne_eqb _ _ c.in_default.in_default-own.rest.0.0.1, ne_eqb _ _ c.in_default.in_default-own.rest.0.1, ne_eqb _ _ c.in_default.in_default-own.rest.1)
+    let k = c.args.k in
+    rw (ne_eqb k 1 (omega arith), ne_eqb k 2 (omega arith), ne_eqb k 15 (omega arith), ne_eqb k 16 (omega arith), ne_eqb k 17 (omega arith), ne_eqb k 18 (omega arith), ne_eqb k 19 (omega arith), ne_eqb k 20 (omega arith), ne_eqb k 21 (omega arith))

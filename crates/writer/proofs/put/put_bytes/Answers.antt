@@ -1,7 +1,5 @@
 use native.Mathlib.Omega.{arith}
-use Rattle.writer.proofs.PutLaws.{puts_long, puts_within}
-use borrow.Author.Rules.{rules}
-use borrow.Author.Tests.{lt-ltb, le-ltb}
+use Rattle.writer.proofs.PutLaws.{puts_long}
 use Rattle.writer.proofs.put.put_bytes.Goals as goal
 
 pub returns-then-at-gt549755813888 : goal.returns-then-at-gt549755813888

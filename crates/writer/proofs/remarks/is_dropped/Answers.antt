@@ -1,4 +1,3 @@
-use borrow.Author.Rules.{rules}
 use Rattle.writer.proofs.remarks.is_dropped.Goals as goal
 
 pub returns : goal.returns

@@ -1,4 +1,3 @@
-use borrow.Author.Rules.{rules}
 use Rattle.writer.proofs.remarks.is_sought.Goals as goal
 
 pub returns-in-Under : goal.returns-in-Under

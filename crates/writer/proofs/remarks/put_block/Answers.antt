@@ -1,14 +1,7 @@
 use lib.ListN.{drop_of_length-le}
-use Rattle.reader.specs.Plain.{without_returns}
 use Rattle.writer.proofs.RemarkLaws.{returns_dropped, returns_kept}
-use Rattle.writer.proofs.PutLaws.{PutsLeft, puts_first, puts_same, puts_next, puts_all}
-use Prim.Native.Nat.{◌-◌, ◌+◌, ◌≤◌}
-use mathlib.Core.Path.{◌≡◌, sym, ◌∙◌}
-use native.Mathlib.Omega.{arith}
-use Prim.Native.Nat.{◌-◌, ◌≤◌}
-use mathlib.Core.Path.{◌≡◌}
-use lib.ListN.{length, drop}
-use borrow.Author.Rules.{rules}
+use Rattle.writer.proofs.PutLaws.{puts_first, puts_same, puts_next, puts_all}
+use mathlib.Core.Path.{sym, ◌∙◌}
 use Rattle.writer.proofs.remarks.put_block.Goals as goal
 
 pub loop-i-init : goal.loop-i-init

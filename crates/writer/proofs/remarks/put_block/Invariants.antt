@@ -1,14 +1,8 @@
-use lib.ListN.{drop_of_length-le}
 use Rattle.reader.specs.Plain.{without_returns}
-use Rattle.writer.proofs.RemarkLaws.{returns_dropped, returns_kept}
-use Rattle.writer.proofs.PutLaws.{PutsLeft, puts_first, puts_same, puts_next, puts_all}
-use Prim.Native.Nat.{◌-◌, ◌+◌, ◌≤◌}
-use mathlib.Core.Path.{◌≡◌, sym, ◌∙◌}
-use native.Mathlib.Omega.{arith}
-use Prim.Native.Nat.{◌-◌, ◌≤◌}
-use mathlib.Core.Path.{◌≡◌}
+use Rattle.writer.proofs.PutLaws.{PutsLeft}
+use Prim.Native.Nat.{◌-◌}
+use Prim.Native.Nat.{◌-◌}
 use lib.ListN.{length, drop}
-use borrow.Author.Rules.{rules}
 use Rattle.writer.proofs.remarks.put_block.Given as goal
 
 abbrev pub invariant-loop-i : goal.invariant-loop-i

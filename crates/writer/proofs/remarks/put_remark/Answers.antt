@@ -1,7 +1,6 @@
 use borrow.Author.Tests.{ne_eqb}
-use Rattle.writer.proofs.PutLaws.{puts_then, puts_as}
-use borrow.Author.Rules.{rules}
-use borrow.Author.Tests.{eq-eqb, ne_eqb}
+use Rattle.writer.proofs.PutLaws.{puts_then}
+use borrow.Author.Tests.{ne_eqb}
 use Rattle.writer.proofs.remarks.put_remark.Goals as goal
 
 pub returns-then-kind-eq4 : goal.returns-then-kind-eq4

@@ -1,12 +1,8 @@
 use Rattle.writer.specs.Items.{sought_by, is_first, remarks_text}
 use Rattle.writer.specs.Held.{items_at}
-use Rattle.writer.proofs.RemarkLaws.{items_none, remarks_tag, remarks_put, remarks_pass}
-use Rattle.writer.proofs.PutLaws.{PutsLeft, puts_first, puts_same, puts_next, puts_all}
-use Prim.Native.Nat.{◌-◌, ◌+◌, ◌≤◌}
-use mathlib.Core.Path.{sym, ◌∙◌}
-use native.Mathlib.Omega.{arith}
-use Prim.Native.Nat.{◌-◌, ◌≤◌}
-use borrow.Author.Rules.{rules}
+use Rattle.writer.proofs.PutLaws.{PutsLeft}
+use Prim.Native.Nat.{◌+◌, ◌≤◌}
+use Prim.Native.Nat.{◌≤◌}
 use Rattle.writer.proofs.remarks.put_remarks.Given as goal
 
 abbrev pub invariant-loop-left : goal.invariant-loop-left

@@ -1,14 +1,8 @@
 use Rattle.writer.proofs.TagLaws.{extras_put, extras_pass, extras_none}
-use Rattle.writer.proofs.PutLaws.{PutsLeft, puts_first, puts_same, puts_next, puts_all}
-use Rattle.writer.specs.Items.{extras_text}
+use Rattle.writer.proofs.PutLaws.{puts_first, puts_same, puts_next, puts_all}
 use Rattle.writer.specs.Held.{items_at}
-use Prim.Native.Nat.{◌-◌, ◌+◌, ◌≤◌, ◌<◌}
-use mathlib.Core.Bool.{cond}
-use mathlib.Core.Path.{◌≡◌, sym, refl, ◌∙◌}
+use mathlib.Core.Path.{sym, ◌∙◌}
 use native.Mathlib.Omega.{arith}
-use Prim.Native.Nat.{◌-◌, ◌≤◌}
-use mathlib.Core.Path.{◌≡◌}
-use lib.ListN.{length, drop}
 use borrow.Author.Rules.{rules}
 use Rattle.writer.proofs.tags.put_extras.Goals as goal
 

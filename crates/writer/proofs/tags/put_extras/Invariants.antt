@@ -1,15 +1,8 @@
-use Rattle.writer.proofs.TagLaws.{extras_put, extras_pass, extras_none}
-use Rattle.writer.proofs.PutLaws.{PutsLeft, puts_first, puts_same, puts_next, puts_all}
+use Rattle.writer.proofs.PutLaws.{PutsLeft}
 use Rattle.writer.specs.Items.{extras_text}
 use Rattle.writer.specs.Held.{items_at}
-use Prim.Native.Nat.{◌-◌, ◌+◌, ◌≤◌, ◌<◌}
-use mathlib.Core.Bool.{cond}
-use mathlib.Core.Path.{◌≡◌, sym, refl, ◌∙◌}
-use native.Mathlib.Omega.{arith}
-use Prim.Native.Nat.{◌-◌, ◌≤◌}
-use mathlib.Core.Path.{◌≡◌}
-use lib.ListN.{length, drop}
-use borrow.Author.Rules.{rules}
+use Prim.Native.Nat.{◌+◌, ◌≤◌}
+use Prim.Native.Nat.{◌≤◌}
 use Rattle.writer.proofs.tags.put_extras.Given as goal
 
 abbrev pub invariant-loop-left : goal.invariant-loop-left

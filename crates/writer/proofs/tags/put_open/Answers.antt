@@ -1,5 +1,4 @@
 use Rattle.writer.proofs.PutLaws.{puts_then}
-use borrow.Author.Rules.{rules}
 use Rattle.writer.proofs.tags.put_open.Goals as goal
 
 pub returns : goal.returns

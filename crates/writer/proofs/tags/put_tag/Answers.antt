@@ -1,6 +1,5 @@
 use Rattle.writer.specs.Items.{tag_line_text}
 use Rattle.writer.proofs.PutLaws.{puts_then}
-use borrow.Author.Rules.{rules}
 use Rattle.writer.proofs.tags.put_tag.Goals as goal
 
 pub returns : goal.returns

@@ -1,6 +1,5 @@
 use Rattle.writer.specs.Items.{tagged_text}
 use Rattle.writer.proofs.PutLaws.{puts_then}
-use borrow.Author.Rules.{rules}
 use Rattle.writer.proofs.tags.put_tagged.Goals as goal
 
 pub returns : goal.returns

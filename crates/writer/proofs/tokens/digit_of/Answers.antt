@@ -1,6 +1,5 @@
 use native.Mathlib.Omega.{arith}
 use borrow.Author.Tests.{le-ltb}
-use borrow.Author.Rules.{rules}
 use Rattle.tables.specs.Tables.{digit_byte}
 use Rattle.writer.proofs.tokens.digit_of.Goals as goal
 

@@ -1,5 +1,4 @@
 use borrow.Author.Tests.{ne_eqb}
-use borrow.Author.Rules.{rules}
 use Rattle.writer.proofs.PutLaws.{puts_then}
 use Rattle.writer.proofs.tokens.put_bid.Goals as goal
 

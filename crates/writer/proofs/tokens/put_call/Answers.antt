@@ -1,20 +1,7 @@
 use native.Mathlib.Omega.{arith}
 use borrow.Author.Tests.{lt-ltb, le-ltb, ne_eqb}
-use borrow.Author.Rules.{rules}
 use Rattle.reader.specs.Words.{call_token}
 use Rattle.writer.proofs.tokens.put_call.Goals as goal
-
-pub overflow_sub-code : goal.overflow_sub-code
-overflow_sub-code c =
-    omega (arith, c.in-1-to-35.in_default-own.rest.0.0.0.1)
-
-pub put_bid-requires : goal.put_bid-requires
-put_bid-requires c =
-    omega (arith, c.in-1-to-35.in_default-own.rest.0.0.0.1, c.in-1-to-35.if-code-lt36-own.true)
-
-pub overflow_sub-code-in_default : goal.overflow_sub-code-in_default
-overflow_sub-code-in_default c =
-    omega (arith, c.in_default.if-code-lt36-own.false, c.in_default.in_default-own.rest.0.0.1, c.in_default.in_default-own.rest.0.1, c.in_default.in_default-own.rest.1)
 
 pub returns-in-0 : goal.returns-in-0
 unfolding call_token
@@ -39,9 +26,11 @@ returns-in-38 c =
 pub returns-in-1-to-35 : goal.returns-in-1-to-35
 unfolding call_token
 returns-in-1-to-35 c =
-    rw (ne_eqb _ _ c.in-1-to-35.in_default-own.rest.0.0.0.1, lt-ltb _ _ c.in-1-to-35.if-code-lt36-own.true) c.put_bid.ensures
+    let k = c.args.code in
+    rw (ne_eqb k 0 (omega arith), lt-ltb k 36 (omega arith)) c.put_bid.ensures
 
 pub returns-in_default : goal.returns-in_default
 unfolding call_token
 returns-in_default c =
-    rw (ne_eqb _ _ c.in_default.in_default-own.rest.0.0.0.1, le-ltb _ _ c.in_default.if-code-lt36-own.false, ne_eqb _ _ c.in_default.in_default-own.rest.0.0.1, ne_eqb _ _ c.in_default.in_default-own.rest.0.1, ne_eqb _ _ c.in_default.in_default-own.rest.1) c.put_underscores.ensures
+    let k = c.args.code in
+    rw (ne_eqb k 0 (omega arith), le-ltb k 36 (omega arith), ne_eqb k 36 (omega arith), ne_eqb k 37 (omega arith), ne_eqb k 38 (omega arith)) c.put_underscores.ensures

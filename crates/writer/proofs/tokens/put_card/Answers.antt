@@ -1,4 +1,3 @@
-use borrow.Author.Rules.{rules}
 use Rattle.writer.proofs.PutLaws.{puts_then}
 use Rattle.writer.proofs.tokens.put_card.Goals as goal
 

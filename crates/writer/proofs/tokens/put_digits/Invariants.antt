@@ -1,10 +1,7 @@
 use Prim.Native.Nat.{◌+◌, ◌≤◌}
-use native.Mathlib.Omega.{arith}
-use borrow.Author.Rules.{rules}
 use Rattle.tables.specs.Tables.{digits_text}
 use Rattle.writer.specs.Held.{card_part}
-use Rattle.writer.proofs.TokenLaws.{digits_step, digits_none}
-use Rattle.writer.proofs.PutLaws.{PutsLeft, puts_first, puts_same, puts_next, puts_all}
+use Rattle.writer.proofs.PutLaws.{PutsLeft}
 use Rattle.writer.proofs.tokens.put_digits.Given as goal
 
 abbrev pub invariant-loop-left : goal.invariant-loop-left

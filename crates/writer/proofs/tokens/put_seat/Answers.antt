@@ -1,5 +1,4 @@
 use borrow.Author.Tests.{lt-ltb, le-ltb}
-use borrow.Author.Rules.{rules}
 use Rattle.writer.specs.Tags.{seat_text}
 use Rattle.writer.proofs.PutLaws.{puts_nothing}
 use Rattle.writer.proofs.tokens.put_seat.Goals as goal

@@ -1,7 +1,5 @@
-use lib.ListN.{replicate}
-use borrow.Author.Rules.{rules}
 use Rattle.writer.proofs.TokenLaws.{repeat_step, repeat_none}
-use Rattle.writer.proofs.PutLaws.{PutsLeft, puts_first, puts_same, puts_next, puts_all}
+use Rattle.writer.proofs.PutLaws.{puts_first, puts_same, puts_next, puts_all}
 use Rattle.writer.proofs.tokens.put_underscores.Goals as goal
 
 pub loop-left-init : goal.loop-left-init

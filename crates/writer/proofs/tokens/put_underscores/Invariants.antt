@@ -1,7 +1,5 @@
 use lib.ListN.{replicate}
-use borrow.Author.Rules.{rules}
-use Rattle.writer.proofs.TokenLaws.{repeat_step, repeat_none}
-use Rattle.writer.proofs.PutLaws.{PutsLeft, puts_first, puts_same, puts_next, puts_all}
+use Rattle.writer.proofs.PutLaws.{PutsLeft}
 use Rattle.writer.proofs.tokens.put_underscores.Given as goal
 
 abbrev pub invariant-loop-left : goal.invariant-loop-left

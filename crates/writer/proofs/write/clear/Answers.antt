@@ -1,5 +1,4 @@
 use Rattle.writer.proofs.WriteLaws.{cleared_none}
-use borrow.Author.Rules.{rules}
 use Rattle.writer.proofs.write.clear.Goals as goal
 
 pub returns : goal.returns

@@ -1,6 +1,4 @@
 use Rattle.writer.proofs.WriteLaws.{ended_in, ended_out}
-use borrow.Author.Rules.{rules}
-use borrow.Author.Tests.{le-leb, lt-leb}
 use Rattle.writer.proofs.write.end_writing.Goals as goal
 
 pub returns-then-n-page : goal.returns-then-n-page

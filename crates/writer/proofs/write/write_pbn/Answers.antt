@@ -1,4 +1,3 @@
-use borrow.Author.Rules.{rules}
 use Rattle.writer.proofs.write.write_pbn.Goals as goal
 
 pub returns : goal.returns
