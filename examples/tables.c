@@ -1,4 +1,4 @@
-/* rt staticlib golavimes && cc -Iinclude examples/tables.c target/staticlib/libgolavimes.a -o target/tables && target/tables */
+/* tools/archive && cc -Iinclude examples/tables.c target/staticlib/libgolavimes.a -o target/tables && target/tables */
 
 /*
  * Prints a table both ways: as digits, and as a header with rows. Then it reads both texts again and compares.

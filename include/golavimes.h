@@ -1,7 +1,7 @@
 /*
  * Golavimes: PBN (Portable Bridge Notation) for C and C++.
  *
- * Link with libgolavimes.a, which `rt staticlib golavimes` writes to
+ * Link with libgolavimes.a, which tools/archive writes to
  * target/staticlib. It is for x86-64 Linux. docs/FORMAT.md says what every
  * answer means. Here are
  *   - reading: golavimes_read;

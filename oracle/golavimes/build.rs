@@ -25,7 +25,7 @@ fn main() {
     println!("cargo:rerun-if-changed={}", archive.display());
     assert!(
         archive.is_file(),
-        "{} is not there: make it with `rt staticlib golavimes`, or name its folder in GOLAVIMES_LIB",
+        "{} is not there: make it with tools/archive, or name its folder in GOLAVIMES_LIB",
         archive.display()
     );
     println!("cargo:rustc-link-search=native={}", folder.display());

@@ -1,4 +1,6 @@
-// The C boundary: thin functions on byte and number slices over the layers. include/golavimes.h is kept by hand beside this file.
+// The boundary: thin functions on byte and number slices over the layers. golavimes_c exports them to C.
+#![tactic(auto)]
+
 ghost use Rattle.std.specs.Prelude.{◌≡◌, ◌-◌, get_or};
 ghost use Rattle.golavimes.specs.Answers.{written_numbers, decoded_numbers, reading_numbers, writing_numbers, converted_numbers, finishing_numbers, refused_head, editions_head, plan_numbers, state_numbers, record_numbers, boards_numbers, searches_numbers, WroteOut, ReadOut, EditionOut, WritingOut, LinOut, PlanOut, StateOut, BehindOut, BoardsOut, SearchesOut, FinishOut};
 ghost use Rattle.tables.specs.Letters.{built_in};
@@ -39,12 +41,7 @@ fn decoded_numbers(d: Decoded) -> [u64; 3]
 }
 
 // The digits of a table, the value of a DoubleDummyTricks tag.
-#[unsafe(no_mangle)]
-pub extern "C" fn golavimes_dd_table_to_pbn(
-    table: &[u8; 20],
-    page: &mut [u8],
-    answer: &mut [u64; 4],
-) -> u64
+pub fn golavimes_dd_table_to_pbn(table: &[u8; 20], page: &mut [u8], answer: &mut [u64; 4]) -> u64
     ensures { WroteOut (digits_text table.now) page.old page.new answer.new result }
 {
     let numbers = written_numbers(tables::dd::dd_table_to_pbn(table, page));
@@ -53,8 +50,7 @@ pub extern "C" fn golavimes_dd_table_to_pbn(
 }
 
 // The value of an OptimumResultTable tag.
-#[unsafe(no_mangle)]
-pub extern "C" fn golavimes_optimum_result_table_header(
+pub fn golavimes_optimum_result_table_header(
     table: &[u8; 20],
     page: &mut [u8],
     answer: &mut [u64; 4],
@@ -67,8 +63,7 @@ pub extern "C" fn golavimes_optimum_result_table_header(
 }
 
 // The twenty rows of an OptimumResultTable section, an LF after each.
-#[unsafe(no_mangle)]
-pub extern "C" fn golavimes_optimum_result_table_rows(
+pub fn golavimes_optimum_result_table_rows(
     table: &[u8; 20],
     page: &mut [u8],
     answer: &mut [u64; 4],
@@ -93,20 +88,14 @@ fn hand_out(read: TableRead, table: &mut [u8; 20], answer: &mut [u64; 3]) -> u64
 }
 
 // Reads the value of a DoubleDummyTricks tag.
-#[unsafe(no_mangle)]
-pub extern "C" fn golavimes_dd_table_from_pbn(
-    value: &[u8],
-    table: &mut [u8; 20],
-    answer: &mut [u64; 3],
-) -> u64
+pub fn golavimes_dd_table_from_pbn(value: &[u8], table: &mut [u8; 20], answer: &mut [u64; 3]) -> u64
     ensures { ReadOut (table_of_digits value.now) table.new answer.new result }
 {
     hand_out(tables::dd::dd_table_from_pbn(value), table, answer)
 }
 
 // Reads the data rows of an OptimumResultTable section, a text cut at each LF.
-#[unsafe(no_mangle)]
-pub extern "C" fn golavimes_optimum_result_table_from_rows(
+pub fn golavimes_optimum_result_table_from_rows(
     rows: &[u8],
     table: &mut [u8; 20],
     answer: &mut [u64; 3],
@@ -136,8 +125,7 @@ fn reading_numbers(r: Reading) -> [u64; 5]
 }
 
 // Reads a text into cards of 64 words and entries of 4.
-#[unsafe(no_mangle)]
-pub extern "C" fn golavimes_read(
+pub fn golavimes_read(
     text: &[u8],
     cards: &mut [u32],
     entries: &mut [u32],
@@ -165,8 +153,7 @@ fn writing_numbers(w: Writing) -> [u64; 4]
 }
 
 // Reads a text and writes it on a page, every comment and directive beside its tag.
-#[unsafe(no_mangle)]
-pub extern "C" fn golavimes_write(
+pub fn golavimes_write(
     text: &[u8],
     cards: &mut [u32],
     entries: &mut [u32],
@@ -196,8 +183,7 @@ fn converted_numbers(r: Converted) -> [u64; 5]
 }
 
 // Converts a LIN text to the page of a PBN edition.
-#[unsafe(no_mangle)]
-pub extern "C" fn golavimes_lin_to_pbn(text: &[u8], page: &mut [u8], answer: &mut [u64; 5]) -> u64
+pub fn golavimes_lin_to_pbn(text: &[u8], page: &mut [u8], answer: &mut [u64; 5]) -> u64
     ensures { LinOut built_in text.now page.old page.new answer.new result }
 {
     let numbers = converted_numbers(lin::convert::lin_to_pbn(text, page));
@@ -251,8 +237,7 @@ fn plan_numbers(p: Planning) -> [u64; 10]
 }
 
 // Plans two editions: totals, and a slip for each board to solve.
-#[unsafe(no_mangle)]
-pub extern "C" fn golavimes_plan(
+pub fn golavimes_plan(
     old: &[u8],
     new: &[u8],
     old_cards: &mut [u32],
@@ -296,8 +281,7 @@ fn state_numbers(r: Editions, s: BoardState) -> [u64; 5]
 }
 
 // The state of the new edition's board at a position from 1.
-#[unsafe(no_mangle)]
-pub extern "C" fn golavimes_state(
+pub fn golavimes_state(
     old: &[u8],
     new: &[u8],
     old_cards: &mut [u32],
@@ -350,8 +334,7 @@ fn behind_numbers(r: Editions, b: Behind) -> [u64; 6]
 }
 
 // The record behind the new edition's board at a position from 1: which edition's, its start and its length.
-#[unsafe(no_mangle)]
-pub extern "C" fn golavimes_record_behind(
+pub fn golavimes_record_behind(
     old: &[u8],
     new: &[u8],
     old_cards: &mut [u32],
@@ -393,8 +376,7 @@ fn boards_numbers(r: Editions) -> [u64; 4]
 }
 
 // Five numbers for each board of the new edition: state, source board, and edition, start and end of the record behind it.
-#[unsafe(no_mangle)]
-pub extern "C" fn golavimes_boards(
+pub fn golavimes_boards(
     old: &[u8],
     new: &[u8],
     old_cards: &mut [u32],
@@ -432,8 +414,7 @@ fn searches_numbers(r: Editions, words: u64) -> [u64; 5]
 }
 
 // Five numbers for each board of the new edition: state, source board, and the hand words compared in the searches for old, near and twin.
-#[unsafe(no_mangle)]
-pub extern "C" fn golavimes_searches(
+pub fn golavimes_searches(
     old: &[u8],
     new: &[u8],
     old_cards: &mut [u32],
@@ -480,8 +461,7 @@ fn finishing_numbers(w: Finishing) -> [u64; 4]
 }
 
 // Finishes the new edition on a page, given an old one and 20 answers for each board to solve.
-#[unsafe(no_mangle)]
-pub extern "C" fn golavimes_finish(
+pub fn golavimes_finish(
     old: &[u8],
     new: &[u8],
     old_cards: &mut [u32],
