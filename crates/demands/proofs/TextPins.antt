@@ -22,17 +22,17 @@ use Rattle.planning.specs.States.{BoardPlan, first_with, state_of, board_plans}
 use Rattle.planning.specs.Slips.{slip_of, slips_of}
 use Rattle.planning.specs.Plans.{plans_of}
 
-abbrev deal_a_lem : List ℕ
-deal_a_lem = ascii "[Deal \"N:AKQJT98765432... .AKQJT98765432.. ..AKQJT98765432. ...AKQJT98765432\"]\n"
+abbrev deal_a_tag : List ℕ
+deal_a_tag = ascii "[Deal \"N:AKQJT98765432... .AKQJT98765432.. ..AKQJT98765432. ...AKQJT98765432\"]\n"
 
-abbrev deal_b_lem : List ℕ
-deal_b_lem = ascii "[Deal \"E:AKQJT98765432... .AKQJT98765432.. ..AKQJT98765432. ...AKQJT98765432\"]\n"
+abbrev deal_b_tag : List ℕ
+deal_b_tag = ascii "[Deal \"E:AKQJT98765432... .AKQJT98765432.. ..AKQJT98765432. ...AKQJT98765432\"]\n"
 
 abbrev old : List ℕ
-old = deal_a_lem ++ ascii "[DoubleDummyTricks \"00000000000000000000\"]\n"
+old = deal_a_tag ++ ascii "[DoubleDummyTricks \"00000000000000000000\"]\n"
 
 abbrev new : List ℕ
-new = deal_a_lem ++ ascii "\n" ++ deal_b_lem ++ ascii "\n" ++ deal_b_lem ++ ascii "\n[Event \"x\"]\n"
+new = deal_a_tag ++ ascii "\n" ++ deal_b_tag ++ ascii "\n" ++ deal_b_tag ++ ascii "\n[Event \"x\"]\n"
 
 -- ---- the cards
 

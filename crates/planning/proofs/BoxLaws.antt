@@ -89,13 +89,13 @@ cards_back xs l w h = cards_front (replicate (l - length (flat xs)) 0) w
 
 -- ---- a taken edition fits
 
-abbrev boards_in_lem : Reading → ℕ
-boards_in_lem (Taken b e) = b
-boards_in_lem (Refused f) = 0
+abbrev boards_told : Reading → ℕ
+boards_told (Taken b e) = b
+boards_told (Refused f) = 0
 
-abbrev entries_in_lem : Reading → ℕ
-entries_in_lem (Taken b e) = e
-entries_in_lem (Refused f) = 0
+abbrev entries_told : Reading → ℕ
+entries_told (Taken b e) = e
+entries_told (Refused f) = 0
 
 -- An edition that was taken: its counts, and that everything fits.
 pub record TakenFits (boards entries lc le b e : ℕ) : Type 0 where
@@ -114,8 +114,8 @@ verdict_fits lc le n m b e h =
     (λ g.
     let k = rw (f, g) at h in
     record {
-      boards_are = sym (ap boards_in_lem k);
-      entries_are = sym (ap entries_in_lem k);
+      boards_are = sym (ap boards_told k);
+      entries_are = sym (ap entries_told k);
       cards_fit = omega (arith, ltb-false (lc / 64) n f);
       entries_fit = omega (arith, ltb-false (le / 4) m g);
     }))

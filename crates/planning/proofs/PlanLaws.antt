@@ -41,7 +41,7 @@ slip_in false slips n x xs = refl
 -- ---- totals and slips, board after board: the boards left, with what was counted and stored, give what all give
 
 pub record Left (all : List BoardPlan) (slips₀ : List ℕ) (rest : List BoardPlan) (t : Totals) (slips : List ℕ) : Type 0 where
-  pub boards_in_lem : t.boards + length rest ≡ length all
+  pub boards_in : t.boards + length rest ≡ length all
   pub blank_in : t.blank + count_of 0 rest ≡ count_of 0 all
   pub own_in : t.own + count_of 1 rest ≡ count_of 1 all
   pub old_in : t.old + count_of 2 rest ≡ count_of 2 all
@@ -53,7 +53,7 @@ pub record Left (all : List BoardPlan) (slips₀ : List ℕ) (rest : List BoardP
 left_all : (all : List BoardPlan) (slips : List ℕ) → Left all slips all no_totals slips
 left_all all slips =
     record {
-      boards_in_lem = omega arith;
+      boards_in = omega arith;
       blank_in = omega arith;
       own_in = omega arith;
       old_in = omega arith;
@@ -69,7 +69,7 @@ unfolding counted
 left_less {all} {slips₀} {j} {rest} {t} {slips} l =
     let s = j.state in
     record {
-      boards_in_lem = omega (arith, l.boards_in_lem);
+      boards_in = omega (arith, l.boards_in);
       blank_in = tally_in 0 s t.blank (count_of 0 rest) ∙ l.blank_in;
       own_in = tally_in 1 s t.own (count_of 1 rest) ∙ l.own_in;
       old_in = tally_in 2 s t.old (count_of 2 rest) ∙ l.old_in;
@@ -87,7 +87,7 @@ totals_are t ea eb ec ed ee ef eg = rw (← ea, ← eb, ← ec, ← ed, ← ee, 
 left_nothing : {all : List BoardPlan} {slips₀ : List ℕ} {t : Totals} {slips : List ℕ} → Left all slips₀ [] t slips → (t ≡ totals_of all) × (slips ≡ put_all 5 slips₀ 0 (slips_of all))
 unfolding totals_of
 left_nothing {all} {slips₀} {t} {slips} l = (
-  totals_are t (omega (arith, l.boards_in_lem)) (omega (arith, l.blank_in)) (omega (arith, l.own_in)) (omega (arith, l.old_in)) (omega (arith, l.near_in)) (omega (arith, l.twin_in)) (omega (arith, l.solve_in_lem)),
+  totals_are t (omega (arith, l.boards_in)) (omega (arith, l.blank_in)) (omega (arith, l.own_in)) (omega (arith, l.old_in)) (omega (arith, l.near_in)) (omega (arith, l.twin_in)) (omega (arith, l.solve_in_lem)),
   l.slips_in,
 )
 
@@ -134,7 +134,7 @@ module _ {os : List (List ℕ)} {n : ℕ} {box slips₀ : List ℕ} {t : Totals}
       let e : length all ≡ n = boards_count os n box in
       let l = i.left in
       record {
-        boards = omega (arith, l.boards_in_lem, e);
+        boards = omega (arith, l.boards_in, e);
         blank = omega (arith, l.blank_in, count_few 0 all, e);
         own = omega (arith, l.own_in, count_few 1 all, e);
         old = omega (arith, l.old_in, count_few 2 all, e);

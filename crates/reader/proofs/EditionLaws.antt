@@ -106,8 +106,8 @@ record_in {c} {r} {a} {e} {k} {n} {cards} {entries} {s} m cards' entries' ee em 
 -- ---- record after record: those left, with the words and counts so far, give what all give
 
 pub record Left (c : Conventions) (text cards₀ entries₀ : List ℕ) (rest : List (List ℕ)) (a : ℕ) (cards entries : List ℕ) (boards n : ℕ) : Type 0 where
-  pub boards_in_lem : boards + length (cards_from c a n rest) ≡ length (cards_of c text)
-  pub entries_in_lem : n + length (entries_from c a rest) ≡ length (entries_of c text)
+  pub boards_in : boards + length (cards_from c a n rest) ≡ length (cards_of c text)
+  pub entries_in : n + length (entries_from c a rest) ≡ length (entries_of c text)
   pub words_of_card : put_all 64 cards boards (cards_from c a n rest) ≡ put_all 64 cards₀ 0 (cards_of c text)
   pub words_of_entry : put_all 4 entries n (entries_from c a rest) ≡ put_all 4 entries₀ 0 (entries_of c text)
   pub all_whole : FullCards (cards_from c a n rest) → FullCards (cards_of c text)
@@ -115,7 +115,7 @@ pub record Left (c : Conventions) (text cards₀ entries₀ : List ℕ) (rest : 
 pub left_all : (c : Conventions) (text cards entries : List ℕ) → Left c text cards entries (records_of text) 0 cards entries 0 0
 unfolding cards_of entries_of
 left_all c text cards entries =
-    record { boards_in_lem = omega arith; entries_in_lem = omega arith; words_of_card = refl; words_of_entry = refl; all_whole = λ w. w }
+    record { boards_in = omega arith; entries_in = omega arith; words_of_card = refl; words_of_entry = refl; all_whole = λ w. w }
 
 pub left_less : {c : Conventions} {text cards₀ entries₀ : List ℕ} {r : List ℕ} {rest : List (List ℕ)} {a : ℕ} {cards entries : List ℕ} {boards n m : ℕ} {cards' entries' : List ℕ}
     → Left c text cards₀ entries₀ (r ∷ rest) a cards entries boards n → RecordIn c r a boards n cards entries m cards' entries'
@@ -126,8 +126,8 @@ left_less {c} {r = r} {rest = rest} {a = a} {entries = entries} {boards = boards
     let later : List (List ℕ) = entries_from c (a + length r) rest in
     let both : length (es ++ later) ≡ length es + length later = length-append es later in
     record {
-      boards_in_lem = rw k.answer (omega (arith, l.boards_in_lem));
-      entries_in_lem = omega (arith, l.entries_in_lem, k.answer);
+      boards_in = rw k.answer (omega (arith, l.boards_in));
+      entries_in = omega (arith, l.entries_in, k.answer);
       words_of_card = rw (k.card, k.answer) l.words_of_card;
       words_of_entry = rw (k.words, k.answer) (rw (sym el) (sym (put_all_append 4 entries n es later) ∙ l.words_of_entry));
       all_whole = λ w. l.all_whole (one k.whole (rw k.answer at w));
@@ -137,8 +137,8 @@ pub left_none : {c : Conventions} {text cards₀ entries₀ : List ℕ} {a : ℕ
     → AllIn c text cards₀ entries₀ (record { boards = boards; entries = n }) cards entries
 left_none l =
     record {
-      boards = omega (arith, l.boards_in_lem);
-      count = omega (arith, l.entries_in_lem);
+      boards = omega (arith, l.boards_in);
+      count = omega (arith, l.entries_in);
       cards_put = l.words_of_card;
       entries_put = l.words_of_entry;
       whole = l.all_whole none;
@@ -167,7 +167,7 @@ met_so false e = clash (sym e)
 module _ {c : Conventions} {text cards₀ entries₀ cards entries : List ℕ} {a boards n : ℕ} (i : Turn c text cards₀ entries₀ cards entries a boards n) where
   -- There are never more entries than those of the text.
   pub turn_few : n ≤ 4 * length text
-  turn_few = omega (arith, i.left.entries_in_lem, TextEntriesFew c text)
+  turn_few = omega (arith, i.left.entries_in, TextEntriesFew c text)
 
   -- A record is read.
   pub turn_next : {r : RecordEnd} (m : ℕ) (cards' entries' : List ℕ) → EndsAt text a r → not r.met ≡ false → length cards' ≡ length cards → length entries' ≡ length entries

@@ -215,8 +215,8 @@ fn cell_of(seat: u8, strain: u8) -> usize
     (5 * row_order(seat) + (4 - strain)) as usize
 }
 
-fn read_fields(c: Conventions, declarer: &[u8], denomination: &[u8], res: &[u8], n: u64) -> Row
-    ensures { result ≡ fields_row c n declarer.now denomination.now res.now }
+fn read_fields(c: Conventions, declarer: &[u8], denomination: &[u8], outcome: &[u8], n: u64) -> Row
+    ensures { result ≡ fields_row c n declarer.now denomination.now outcome.now }
 {
     let seat = seat_of(c, first_character(declarer));
     if seat > 3 {
@@ -226,7 +226,7 @@ fn read_fields(c: Conventions, declarer: &[u8], denomination: &[u8], res: &[u8],
     if strain > 4 {
         return Row::Fault(Refusal::Denomination(n));
     }
-    let Number::Value(v) = parse_number(res, 255) else {
+    let Number::Value(v) = parse_number(outcome, 255) else {
         return Row::Fault(Refusal::Outcome(n));
     };
     if v > 13 {

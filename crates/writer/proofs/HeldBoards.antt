@@ -238,11 +238,11 @@ module _ (c : Conventions) (text cards entries : List ℕ) (t : Holds c text car
     pub card_is : (i : ℕ) → i < 64 → card_word cards k i ≡ get_or (card_of c a n r) i 0
     card_is i g = card_get k i (omega (arith, stands_fit b.card_is)) g ∙ ap (λ (ws : List ℕ). get_or ws i 0) (stands_get [] b.card_is)
 
-    entries_in_lem : n + length (record_out c r).entries ≤ length (entries_of c text)
-    entries_in_lem = rw length-map at (stands_fit b.entries_are)
+    entries_in : n + length (record_out c r).entries ≤ length (entries_of c text)
+    entries_in = rw length-map at (stands_fit b.entries_are)
 
     entries_low : n + length (record_out c r).entries < 4294967295
-    entries_low = omega (arith, entries_in_lem, TextEntriesFew c text, t.short)
+    entries_low = omega (arith, entries_in, TextEntriesFew c text, t.short)
 
     pub first_is : card_word cards k 0 ≡ n
     first_is = card_is 0 (omega arith) ∙ word_0 c a n r ∙ omega (arith, entries_low)

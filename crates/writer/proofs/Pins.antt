@@ -42,13 +42,13 @@ tail = ascii "[Scoring \"\"]\n[Declarer \"\"]\n[Contract \"\"]\n[Result \"\"]\n"
 abbrev pub up_to_deal : List ℕ
 up_to_deal = head ++ (names ++ ascii "[Vulnerable \"None\"]\n[Deal \"N:- - - -\"]\n")
 
-abbrev pub built_in_header_lem : List ℕ
-built_in_header_lem = ascii "% PBN 2.1\n% EXPORT\n\n"
+abbrev pub header_bytes : List ℕ
+header_bytes = ascii "% PBN 2.1\n% EXPORT\n\n"
 
 -- ---- the page
 
 -- No boards: the 20 bytes of the header and the blank line.
-pin_none : page "; c\n" ≡ built_in_header_lem
+pin_none : page "; c\n" ≡ header_bytes
 unfolding page
 pin_none = refl
 
@@ -58,7 +58,7 @@ pin_header : page "; h\n{b}\n[Event \"\"]\n\n; d\n{e}\n[Event \"\"]\n"
 unfolding page
 pin_header = refl
 
-pin_block_alone : page "{b}\n[Event \"\"]\n" ≡ built_in_header_lem ++ (ascii "{b}\n" ++ (up_to_deal ++ tail))
+pin_block_alone : page "{b}\n[Event \"\"]\n" ≡ header_bytes ++ (ascii "{b}\n" ++ (up_to_deal ++ tail))
 unfolding page
 pin_block_alone = refl
 
@@ -67,30 +67,30 @@ pin_block_alone = refl
 -- A repeated supplemental tag is written once, with its first value. One whose name stands before the first Deal tag is written before
 -- the deal; Scoring never is, and is always written.
 pin_extras : page "[X \"1\"]\n[Scoring \"IMP\"]\n[Deal \"\"]\n[Y \"2\"]\n[X \"3\"]\n[Scoring \"MP\"]\n"
-    ≡ built_in_header_lem ++ (head ++ (names ++ ascii "[Vulnerable \"None\"]\n[X \"1\"]\n[Deal \"N:- - - -\"]\n[Scoring \"IMP\"]\n[Declarer \"\"]\n[Contract \"\"]\n[Result \"\"]\n[Y \"2\"]\n"))
+    ≡ header_bytes ++ (head ++ (names ++ ascii "[Vulnerable \"None\"]\n[X \"1\"]\n[Deal \"N:- - - -\"]\n[Scoring \"IMP\"]\n[Declarer \"\"]\n[Contract \"\"]\n[Result \"\"]\n[Y \"2\"]\n"))
 unfolding page
 pin_extras = refl
 
 -- Without a Deal tag no supplemental tag stands before the deal.
-pin_no_deal : page "[X \"1\"]\n" ≡ built_in_header_lem ++ (up_to_deal ++ (tail ++ ascii "[X \"1\"]\n"))
+pin_no_deal : page "[X \"1\"]\n" ≡ header_bytes ++ (up_to_deal ++ (tail ++ ascii "[X \"1\"]\n"))
 unfolding page
 pin_no_deal = refl
 
 -- The deal is written from the dealer's seat, from high to low; `...` is an empty hand. Values that are kept, and a bad one after them.
 pin_deal : page "[Deal \"N:23... ... .A.. -\"]\n[Dealer \"south\"]\n[Board \"1-7\"]\n[Vulnerable \"both\"]\n[Event \"e\"]\n[Event \"\"]\n[Declarer \"w\"]\n[Contract \"4H\"]\n[Contract \"?\"]\n"
-    ≡ built_in_header_lem ++ (ascii "[Event \"e\"]\n[Site \"\"]\n[Date \"\"]\n[Board \"1-7\"]\n" ++ (names ++ ascii "[Dealer \"S\"]\n[Vulnerable \"All\"]\n[Deal \"S:.A.. - 32... -\"]\n[Scoring \"\"]\n[Declarer \"W\"]\n[Contract \"4H\"]\n[Result \"\"]\n"))
+    ≡ header_bytes ++ (ascii "[Event \"e\"]\n[Site \"\"]\n[Date \"\"]\n[Board \"1-7\"]\n" ++ (names ++ ascii "[Dealer \"S\"]\n[Vulnerable \"All\"]\n[Deal \"S:.A.. - 32... -\"]\n[Scoring \"\"]\n[Declarer \"W\"]\n[Contract \"4H\"]\n[Result \"\"]\n"))
 unfolding page
 pin_deal = refl
 
 -- A deal that did not parse is written as it was read.
 pin_unparsed : page "[Deal \"N:23... - - -\"]\n[Deal \" x\"]\n"
-    ≡ built_in_header_lem ++ (head ++ (names ++ (ascii "[Vulnerable \"None\"]\n[Deal \" x\"]\n" ++ tail)))
+    ≡ header_bytes ++ (head ++ (names ++ (ascii "[Vulnerable \"None\"]\n[Deal \" x\"]\n" ++ tail)))
 unfolding page
 pin_unparsed = refl
 
 -- A table is written as digits, whichever tag it was read from. Results are decimal, with no sign but `-`.
 pin_table : page "[DoubleDummyTricks \"0123456789ABCD012345\"]\n[Result \"-007\"]\n[ParContract \"\"]\n"
-    ≡ built_in_header_lem ++ (up_to_deal ++ ascii "[Scoring \"\"]\n[Declarer \"\"]\n[Contract \"\"]\n[Result \"-7\"]\n[DoubleDummyTricks \"0123456789abcd012345\"]\n[ParContract \"\"]\n")
+    ≡ header_bytes ++ (up_to_deal ++ ascii "[Scoring \"\"]\n[Declarer \"\"]\n[Contract \"\"]\n[Result \"-7\"]\n[DoubleDummyTricks \"0123456789abcd012345\"]\n[ParContract \"\"]\n")
 unfolding page
 pin_table = refl
 
@@ -98,28 +98,28 @@ pin_table = refl
 
 -- Four calls a line, each with its annotations; the end on a line of its own.
 pin_auction : page "[Auction \"e\"]\np 1n =1= ! x\nxx ap\n[Play \"N\"]\n"
-    ≡ built_in_header_lem ++ (up_to_deal ++ (tail ++ ascii "[Auction \"E\"]\nPass 1NT=1=! X XX\nPass Pass Pass\n"))
+    ≡ header_bytes ++ (up_to_deal ++ (tail ++ ascii "[Auction \"E\"]\nPass 1NT=1=! X XX\nPass Pass Pass\n"))
 unfolding page
 pin_auction = refl
 
-pin_end : page "[Auction \"N\"]\n+ p\n" ≡ built_in_header_lem ++ (up_to_deal ++ (tail ++ ascii "[Auction \"N\"]\n+ Pass\n+\n"))
+pin_end : page "[Auction \"N\"]\n+ p\n" ≡ header_bytes ++ (up_to_deal ++ (tail ++ ascii "[Auction \"N\"]\n+ Pass\n+\n"))
 unfolding page
 pin_end = refl
 
 -- `+ *` ends with `*` and writes no mark, since the last call is `+`.
-pin_continued : page "[Auction \"N\"]\n+! *\n" ≡ built_in_header_lem ++ (up_to_deal ++ (tail ++ ascii "[Auction \"N\"]\n+!\n"))
+pin_continued : page "[Auction \"N\"]\n+! *\n" ≡ header_bytes ++ (up_to_deal ++ (tail ++ ascii "[Auction \"N\"]\n+!\n"))
 unfolding page
 pin_continued = refl
 
 -- Notes by number, the last of a number; those of an earlier auction are gone.
 pin_notes : page "[Auction \"N\"]\np\n[Note \"3:c\"]\n[Auction \"N\"]\np\n[Note \" 2 :b\"]\n[Note \"+01:a:\"]\n[Note \"2:d\"]\n[Note \"256:e\"]\n[Note \"7\"]\n"
-    ≡ built_in_header_lem ++ (up_to_deal ++ (tail ++ ascii "[Auction \"N\"]\nPass\n[Note \"1:a:\"]\n[Note \"2:d\"]\n"))
+    ≡ header_bytes ++ (up_to_deal ++ (tail ++ ascii "[Auction \"N\"]\nPass\n[Note \"1:a:\"]\n[Note \"2:d\"]\n"))
 unfolding page
 pin_notes = refl
 
 -- Each trick from its own leader and without gaps; a trick without cards has no line.
 pin_play : page "[Play \"N\"]\nS2 S3 S4 S5\nH2 H3 - H5\n*\n"
-    ≡ built_in_header_lem ++ (up_to_deal ++ (tail ++ ascii "[Play \"N\"]\nS2 S3 S4 S5\nH5 H2 H3\n*\n"))
+    ≡ header_bytes ++ (up_to_deal ++ (tail ++ ascii "[Play \"N\"]\nS2 S3 S4 S5\nH5 H2 H3\n*\n"))
 unfolding page
 pin_play = refl
 
@@ -127,80 +127,80 @@ pin_play = refl
 
 -- A directive goes after the first written tag of the name and value of the tag before it, else of that name, else to the end. Only Note is
 -- written more than once. The value counts as it is written: `01:a` is written `1:a`.
-pin_note_own : page "[Auction \"N\"]\n1C\n[Note \"1:a\"]\n;c\n[Note \"2:b\"]\n" ≡ built_in_header_lem ++ (up_to_deal ++ (tail ++ ascii "[Auction \"N\"]\n1C\n[Note \"1:a\"]\n;c\n[Note \"2:b\"]\n"))
+pin_note_own : page "[Auction \"N\"]\n1C\n[Note \"1:a\"]\n;c\n[Note \"2:b\"]\n" ≡ header_bytes ++ (up_to_deal ++ (tail ++ ascii "[Auction \"N\"]\n1C\n[Note \"1:a\"]\n;c\n[Note \"2:b\"]\n"))
 unfolding page
 pin_note_own = refl
 
-pin_note_second : page "[Auction \"N\"]\n1C\n[Note \"1:a\"]\n[Note \"2:b\"]\n;c\n" ≡ built_in_header_lem ++ (up_to_deal ++ (tail ++ ascii "[Auction \"N\"]\n1C\n[Note \"1:a\"]\n[Note \"2:b\"]\n;c\n"))
+pin_note_second : page "[Auction \"N\"]\n1C\n[Note \"1:a\"]\n[Note \"2:b\"]\n;c\n" ≡ header_bytes ++ (up_to_deal ++ (tail ++ ascii "[Auction \"N\"]\n1C\n[Note \"1:a\"]\n[Note \"2:b\"]\n;c\n"))
 unfolding page
 pin_note_second = refl
 
-pin_note_sorted : page "[Auction \"N\"]\n1C\n[Note \"2:b\"]\n;c\n[Note \"1:a\"]\n" ≡ built_in_header_lem ++ (up_to_deal ++ (tail ++ ascii "[Auction \"N\"]\n1C\n[Note \"1:a\"]\n[Note \"2:b\"]\n;c\n"))
+pin_note_sorted : page "[Auction \"N\"]\n1C\n[Note \"2:b\"]\n;c\n[Note \"1:a\"]\n" ≡ header_bytes ++ (up_to_deal ++ (tail ++ ascii "[Auction \"N\"]\n1C\n[Note \"1:a\"]\n[Note \"2:b\"]\n;c\n"))
 unfolding page
 pin_note_sorted = refl
 
-pin_note_zeros : page "[Auction \"N\"]\n1C\n[Note \"01:a\"]\n;c\n[Note \"0:z\"]\n" ≡ built_in_header_lem ++ (up_to_deal ++ (tail ++ ascii "[Auction \"N\"]\n1C\n[Note \"0:z\"]\n;c\n[Note \"1:a\"]\n"))
+pin_note_zeros : page "[Auction \"N\"]\n1C\n[Note \"01:a\"]\n;c\n[Note \"0:z\"]\n" ≡ header_bytes ++ (up_to_deal ++ (tail ++ ascii "[Auction \"N\"]\n1C\n[Note \"0:z\"]\n;c\n[Note \"1:a\"]\n"))
 unfolding page
 pin_note_zeros = refl
 
-pin_note_replaced : page "[Auction \"N\"]\n1C\n[Note \"1:a\"]\n;c\n[Note \"1:b\"]\n[Note \"2:d\"]\n" ≡ built_in_header_lem ++ (up_to_deal ++ (tail ++ ascii "[Auction \"N\"]\n1C\n[Note \"1:b\"]\n;c\n[Note \"2:d\"]\n"))
+pin_note_replaced : page "[Auction \"N\"]\n1C\n[Note \"1:a\"]\n;c\n[Note \"1:b\"]\n[Note \"2:d\"]\n" ≡ header_bytes ++ (up_to_deal ++ (tail ++ ascii "[Auction \"N\"]\n1C\n[Note \"1:b\"]\n;c\n[Note \"2:d\"]\n"))
 unfolding page
 pin_note_replaced = refl
 
-pin_note_both : page "[Auction \"N\"]\n1C\n[Note \"1:a\"]\n;p\n[Note \"2:b\"]\n;q\n[Note \"1:d\"]\n" ≡ built_in_header_lem ++ (up_to_deal ++ (tail ++ ascii "[Auction \"N\"]\n1C\n[Note \"1:d\"]\n;p\n[Note \"2:b\"]\n;q\n"))
+pin_note_both : page "[Auction \"N\"]\n1C\n[Note \"1:a\"]\n;p\n[Note \"2:b\"]\n;q\n[Note \"1:d\"]\n" ≡ header_bytes ++ (up_to_deal ++ (tail ++ ascii "[Auction \"N\"]\n1C\n[Note \"1:d\"]\n;p\n[Note \"2:b\"]\n;q\n"))
 unfolding page
 pin_note_both = refl
 
-pin_note_order : page "[Auction \"N\"]\n1C\n[Note \"9\"]\n;p\n[Note \"1:a\"]\n;q\n[Note \"2:b\"]\n" ≡ built_in_header_lem ++ (up_to_deal ++ (tail ++ ascii "[Auction \"N\"]\n1C\n[Note \"1:a\"]\n;p\n;q\n[Note \"2:b\"]\n"))
+pin_note_order : page "[Auction \"N\"]\n1C\n[Note \"9\"]\n;p\n[Note \"1:a\"]\n;q\n[Note \"2:b\"]\n" ≡ header_bytes ++ (up_to_deal ++ (tail ++ ascii "[Auction \"N\"]\n1C\n[Note \"1:a\"]\n;p\n;q\n[Note \"2:b\"]\n"))
 unfolding page
 pin_note_order = refl
 
-pin_note_block : page "[Auction \"N\"]\n1C\n[Note \"1:a\"]\n[Note \"2:b\"]\n{x}\n;c\n" ≡ built_in_header_lem ++ (up_to_deal ++ (tail ++ ascii "[Auction \"N\"]\n1C\n[Note \"1:a\"]\n{x}\n[Note \"2:b\"]\n;c\n"))
+pin_note_block : page "[Auction \"N\"]\n1C\n[Note \"1:a\"]\n[Note \"2:b\"]\n{x}\n;c\n" ≡ header_bytes ++ (up_to_deal ++ (tail ++ ascii "[Auction \"N\"]\n1C\n[Note \"1:a\"]\n{x}\n[Note \"2:b\"]\n;c\n"))
 unfolding page
 pin_note_block = refl
 
-pin_note_behind : page "[Auction \"N\"]\n1C\n[Note \"1:a\"] ;c\n[Note \"2:b\"] {d}\n" ≡ built_in_header_lem ++ (up_to_deal ++ (tail ++ ascii "[Auction \"N\"]\n1C\n[Note \"1:a\"]\n;c\n[Note \"2:b\"]\n{d}\n"))
+pin_note_behind : page "[Auction \"N\"]\n1C\n[Note \"1:a\"] ;c\n[Note \"2:b\"] {d}\n" ≡ header_bytes ++ (up_to_deal ++ (tail ++ ascii "[Auction \"N\"]\n1C\n[Note \"1:a\"]\n;c\n[Note \"2:b\"]\n{d}\n"))
 unfolding page
 pin_note_behind = refl
 
 -- Read from that page, `{d}` is a block, and goes after the first Note.
 pin_note_braces : page "[Auction \"N\"]\n1C\n[Note \"1:a\"]\n;c\n[Note \"2:b\"]\n{d}\n"
-    ≡ built_in_header_lem ++ (up_to_deal ++ (tail ++ ascii "[Auction \"N\"]\n1C\n[Note \"1:a\"]\n;c\n{d}\n[Note \"2:b\"]\n"))
+    ≡ header_bytes ++ (up_to_deal ++ (tail ++ ascii "[Auction \"N\"]\n1C\n[Note \"1:a\"]\n;c\n{d}\n[Note \"2:b\"]\n"))
 unfolding page
 pin_note_braces = refl
 
 -- A later tag of that name and value; the notes of another auction; a section's directives after its data.
-pin_note_later : page "[Note \"2:b\"]\n;p\n[Auction \"N\"]\n1C\n[Note \"1:a\"]\n[Note \"2:b\"]\n" ≡ built_in_header_lem ++ (up_to_deal ++ (tail ++ ascii "[Auction \"N\"]\n1C\n[Note \"1:a\"]\n[Note \"2:b\"]\n;p\n"))
+pin_note_later : page "[Note \"2:b\"]\n;p\n[Auction \"N\"]\n1C\n[Note \"1:a\"]\n[Note \"2:b\"]\n" ≡ header_bytes ++ (up_to_deal ++ (tail ++ ascii "[Auction \"N\"]\n1C\n[Note \"1:a\"]\n[Note \"2:b\"]\n;p\n"))
 unfolding page
 pin_note_later = refl
 
-pin_note_auction : page "[Auction \"N\"]\n1C\n[Note \"1:a\"]\n;c\n[Auction \"E\"]\n1D\n[Note \"2:b\"]\n[Note \"3:d\"]\n" ≡ built_in_header_lem ++ (up_to_deal ++ (tail ++ ascii "[Auction \"E\"]\n1D\n[Note \"2:b\"]\n;c\n[Note \"3:d\"]\n"))
+pin_note_auction : page "[Auction \"N\"]\n1C\n[Note \"1:a\"]\n;c\n[Auction \"E\"]\n1D\n[Note \"2:b\"]\n[Note \"3:d\"]\n" ≡ header_bytes ++ (up_to_deal ++ (tail ++ ascii "[Auction \"E\"]\n1D\n[Note \"2:b\"]\n;c\n[Note \"3:d\"]\n"))
 unfolding page
 pin_note_auction = refl
 
-pin_note_section : page "[Auction \"N\"]\n1C\n;e\n[Note \"1:a\"]\n;c\n[Play \"N\"]\nSA\n;f\n[Note \"2:b\"]\n;g\n" ≡ built_in_header_lem ++ (up_to_deal ++ (tail ++ ascii "[Auction \"N\"]\n1C\n;e\n[Note \"1:a\"]\n;c\n[Note \"2:b\"]\n;g\n[Play \"N\"]\nSA\n;f\n"))
+pin_note_section : page "[Auction \"N\"]\n1C\n;e\n[Note \"1:a\"]\n;c\n[Play \"N\"]\nSA\n;f\n[Note \"2:b\"]\n;g\n" ≡ header_bytes ++ (up_to_deal ++ (tail ++ ascii "[Auction \"N\"]\n1C\n;e\n[Note \"1:a\"]\n;c\n[Note \"2:b\"]\n;g\n[Play \"N\"]\nSA\n;f\n"))
 unfolding page
 pin_note_section = refl
 
-pin_note_none : page "[Note \"2:b\"]\n;c\n[Note \"1:a\"]\n;d\n" ≡ built_in_header_lem ++ (up_to_deal ++ (tail ++ ascii ";c\n;d\n"))
+pin_note_none : page "[Note \"2:b\"]\n;c\n[Note \"1:a\"]\n;d\n" ≡ header_bytes ++ (up_to_deal ++ (tail ++ ascii ";c\n;d\n"))
 unfolding page
 pin_note_none = refl
 
-pin_note_table : page "[OptimumResultTable \"\"]\n;c\n{b}\n" ≡ built_in_header_lem ++ (up_to_deal ++ (tail ++ ascii "{b}\n;c\n"))
+pin_note_table : page "[OptimumResultTable \"\"]\n;c\n{b}\n" ≡ header_bytes ++ (up_to_deal ++ (tail ++ ascii "{b}\n;c\n"))
 unfolding page
 pin_note_table = refl
 
-pin_note_repeated : page "[X \"1\"]\n[X \"2\"]\n;c\n" ≡ built_in_header_lem ++ (up_to_deal ++ (tail ++ ascii "[X \"1\"]\n;c\n"))
+pin_note_repeated : page "[X \"1\"]\n[X \"2\"]\n;c\n" ≡ header_bytes ++ (up_to_deal ++ (tail ++ ascii "[X \"1\"]\n;c\n"))
 unfolding page
 pin_note_repeated = refl
 
 pin_note_event : page "[Event \"a\"]\n;c\n[Event \"b\"]\n;d\n"
-    ≡ built_in_header_lem ++ (ascii "[Event \"b\"]\n;c\n;d\n[Site \"\"]\n[Date \"\"]\n" ++ (names ++ (ascii "[Vulnerable \"None\"]\n[Deal \"N:- - - -\"]\n" ++ tail)))
+    ≡ header_bytes ++ (ascii "[Event \"b\"]\n;c\n;d\n[Site \"\"]\n[Date \"\"]\n" ++ (names ++ (ascii "[Vulnerable \"None\"]\n[Deal \"N:- - - -\"]\n" ++ tail)))
 unfolding page
 pin_note_event = refl
 
 -- After a section's data. What is anchored to a tag that is not written goes to the end: blocks, then directives.
 pin_remarks : page "[Dealer \"?\"]\n; a\n{b}\n[Play \"N\"] ; c\nSA\n{d\r\n}\n% e\n"
-    ≡ built_in_header_lem ++ (up_to_deal ++ (tail ++ ascii "[Play \"N\"]\nSA\n; c\n% e\n{d\n}\n{b}\n; a\n"))
+    ≡ header_bytes ++ (up_to_deal ++ (tail ++ ascii "[Play \"N\"]\nSA\n; c\n% e\n{d\n}\n{b}\n; a\n"))
 unfolding page
 pin_remarks = refl

@@ -85,18 +85,18 @@ pub fn put_vulnerability(page: &mut [u8], at: usize, v: usize) -> usize
 }
 
 // A result, kept as the result plus 128, in decimal.
-pub(crate) fn put_result(page: &mut [u8], at: usize, met: usize, res: usize) -> usize
-    requires { res < 4294967296 }
-    ensures { Puts page.old at (result_text (result_in met res)) page.new result }
+pub(crate) fn put_result(page: &mut [u8], at: usize, met: usize, outcome: usize) -> usize
+    requires { outcome < 4294967296 }
+    ensures { Puts page.old at (result_text (result_in met outcome)) page.new result }
 {
     if met == 0 {
         return at;
     }
-    if res < 128 {
+    if outcome < 128 {
         let a = put_byte(page, at, 45);
-        return put_number(page, a, (128 - res) as u32);
+        return put_number(page, a, (128 - outcome) as u32);
     }
-    put_number(page, at, (res - 128) as u32)
+    put_number(page, at, (outcome - 128) as u32)
 }
 
 // A cell's digit; a larger count is written as 13 is.
