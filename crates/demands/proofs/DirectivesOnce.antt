@@ -43,8 +43,8 @@ pub directive_place : DirectivePlace
 unfolding with_table
 directive_place c r t play front back i x k e h =
     let s = (nothing_is_lost.finished c r t play).placed directive front back i x e in
-    let same-remark : s.remark ≡ k = some_same s.remark k (sym s.met ∙ h) in
-    subst (λ (j : Remark). Place (lines_with c r t play) front back directive (anchor_in (plain_of c r) j)) same-remark s.place
+    let same_remark : s.remark ≡ k = some_same s.remark k (sym s.met ∙ h) in
+    subst (λ (j : Remark). Place (lines_with c r t play) front back directive (anchor_in (plain_of c r) j)) same_remark s.place
   where
     some_same : (j k : Remark) → some j ≡ some k → j ≡ k
     some_same j k e = cc

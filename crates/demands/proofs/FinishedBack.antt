@@ -91,7 +91,7 @@ record TableTwenty (t : TableCard) : Type 0 where
 record Sources (olds news : List (List ℕ)) (answers : List ℕ) : Type 0 where
   of_old : All CellsTwenty olds
   of_new : All CellsTwenty news
-  of_answers_lem : every (λ n. leb n 13) answers ≡ true
+  of_answers : every (λ n. leb n 13) answers ≡ true
 
 module _ (olds news : List (List ℕ)) (js : List BoardPlan) (answers : List ℕ) (s : Sources olds news answers) where
   for_twenty : (p : ℕ) (card : List ℕ) → Twenty (cells_of card) → (state : BoardState) → Reaches (length olds) (length news) state
@@ -100,8 +100,8 @@ module _ (olds news : List (List ℕ)) (js : List BoardPlan) (answers : List ℕ
   for_twenty p card w Own r = w
   for_twenty p card w (Old k) r = at_twenty s.of_old k r.0 r.1
   for_twenty p card w (Near k) r = at_twenty s.of_new k r.0 r.1
-  for_twenty p card w (Twin k) r = answer_twenty answers s.of_answers_lem (slip_index js k)
-  for_twenty p card w Solve r = answer_twenty answers s.of_answers_lem (slip_index js p)
+  for_twenty p card w (Twin k) r = answer_twenty answers s.of_answers (slip_index js k)
+  for_twenty p card w Solve r = answer_twenty answers s.of_answers (slip_index js p)
 
   all_twenty : (p : ℕ) (earlier xs : List (List ℕ)) → All CellsTwenty xs → length earlier + length xs ≤ length news
       → All TableTwenty (map (table_of olds news js answers) (board_plans_from olds news p earlier xs))
@@ -117,7 +117,7 @@ tables_twenty : (c : Conventions) (old new answers : List ℕ) → every (λ n. 
 unfolding tables_of board_plans
 tables_twenty c old new answers e =
     all_twenty (cards_of c old) (cards_of c new) (plans_of c old new) answers
-    (record { of_old = edition_twenty c old; of_new = edition_twenty c new; of_answers_lem = e })
+    (record { of_old = edition_twenty c old; of_new = edition_twenty c new; of_answers = e })
     1 [] (cards_of c new) (edition_twenty c new) (omega arith)
 
 tables_count : (c : Conventions) (old new answers : List ℕ) → length (tables_of c old new answers) ≡ length (records_of new)

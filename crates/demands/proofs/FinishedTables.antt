@@ -100,8 +100,8 @@ module _ (c : Conventions) (old new answers : List ℕ) (k : ℕ) (below : k < l
   blank_cells w = ap (λ (x : TableCard). x.cells) (blank_table w)
 
   module _ (old_cards new_cards slips : List ℕ) (n : ℕ)
-      (olds-are : (j : ℕ) → j < boards_in c old → card_here j old_cards ≡ card_from (cards_of c old) j)
-      (news-are : (j : ℕ) → j < boards_in c new → card_here j new_cards ≡ card_from (cards_of c new) j)
+      (olds_are : (j : ℕ) → j < boards_in c old → card_here j old_cards ≡ card_from (cards_of c old) j)
+      (news_are : (j : ℕ) → j < boards_in c new → card_here j new_cards ≡ card_from (cards_of c new) j)
       (twenty : length answers ≡ 20 * count_of 5 (plans_of c old new))
       (are : slips ≡ padded n (flat (slips_of (plans_of c old new)))) where
     abbrev Cells : BoardState → Type 0
@@ -121,12 +121,12 @@ module _ (c : Conventions) (old new answers : List ℕ) (k : ℕ) (below : k < l
     cells_of_lem (Old (suc j)) q e w =
         let m : suc j - 1 ≡ j = omega arith in
         let l : j < boards_in c old = omega (arith, e.1.is_there) in
-        cells.old refl (record { from_one = e.1.from_one; tabled = rw (m, olds-are j l) e.1.holds; cells_are = rw (m, olds-are j l) })
+        cells.old refl (record { from_one = e.1.from_one; tabled = rw (m, olds_are j l) e.1.holds; cells_are = rw (m, olds_are j l) })
     cells_of_lem (Near zero) q e w = absurd (omega (arith, e.2.from_one))
     cells_of_lem (Near (suc j)) q e w =
         let m : suc j - 1 ≡ j = omega arith in
         let l : j < boards_in c new = omega (arith, e.2.is_there) in
-        cells.near refl (record { from_one = e.2.from_one; tabled = rw (m, news-are j l) e.2.holds; cells_are = rw (m, news-are j l) })
+        cells.near refl (record { from_one = e.2.from_one; tabled = rw (m, news_are j l) e.2.holds; cells_are = rw (m, news_are j l) })
     cells_of_lem (Twin zero) q e w = absurd (omega (arith, e.3.from_one))
     cells_of_lem (Twin (suc j)) q e w =
         let t = twins_of_solve c old new (suc k) (suc j) q in

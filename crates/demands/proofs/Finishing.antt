@@ -195,7 +195,7 @@ module _ (c : Conventions) (old new answers finished : List ℕ) (e : FinishedEd
       → (k : ℕ) → k < length (cards_of c new)
       → FinishedAt c old new old_cards new_cards (count_of 5 (plans_of c old new)) slips answers k
       (card_from (cards_of c new) k) (card_from (cards_of c finished) k)
-  board_finished old_cards new_cards slips n olds-are news-are twenty are k l =
+  board_finished old_cards new_cards slips n olds_are news_are twenty are k l =
       let f = e.each k l in
       record {
         same_deal = same_deal k l;
@@ -209,7 +209,7 @@ module _ (c : Conventions) (old new answers finished : List ℕ) (e : FinishedEd
             let m : k + 1 ≡ suc k = omega arith in
             let s = rw m at (state_told (editions_of c old new boxes) (plans_of c old new) (k + 1) answer' o.told o.returned) in
             rw (s.0, s.1, f.cells (whole_kind c old new answers k l d.whole), ← d.hands)
-            (cells_from c old new answers k l old_cards new_cards slips n olds-are news-are twenty are d.whole);
+            (cells_from c old new answers k l old_cards new_cards slips n olds_are news_are twenty are d.whole);
       }
 
 -- ---- nothing to solve
@@ -238,11 +238,11 @@ lists_nothing c old new all boxes slips boxes' slips' answer' r o to tn =
     (planned_when_taken c old new boxes slips boxes' slips' answer' r o).1
     (record { old_taken = to; new_taken = tn; slips_enough = λ h. omega (arith, solve_sum js) }) in
     let p = slipped c old new boxes slips boxes' slips' answer' (rw z at o) in
-    let no-slips : slips_of js ≡ [] = sym (take_all 0 (slips_of js) (omega (arith, slips_count js))) in
-    let all-zero : length slips - 0 ≡ length slips = omega arith in (
+    let no_slips : slips_of js ≡ [] = sym (take_all 0 (slips_of js) (omega (arith, slips_count js))) in
+    let all_zero : length slips - 0 ≡ length slips = omega arith in (
       z,
       p.solve_is ∙ none,
-      p.slips_are ∙ rw (no-slips, all-zero),
+      p.slips_are ∙ rw (no_slips, all_zero),
     )
 
 -- ---- the theorems
@@ -259,28 +259,28 @@ finished_right c a old new boxes answers page boxes' page' answer' o lent slips 
     let js = plans_of c old new in
     let p = slipped c old new lent slips lent' slips' plan po in
     let twenty : length answers ≡ 20 * count_of 5 js = d.answered.twenty_each ∙ ap (λ (n : ℕ). 20 * n) (solve_sum js) in
-    let olds-are = cards_handed c old oc oe ho in
-    let news-are = cards_handed c new nc ne hn in
+    let olds_are = cards_handed c old oc oe ho in
+    let news_are = cards_handed c new nc ne hn in
     record {
       as_many = e.as_many;
       each = λ k l.
-          rw (p.solve_is, news-are k l, cards_handed c finished cards entries hf k (omega (arith, e.as_many)))
-          (board_finished c old new answers finished e oc nc slips' (length slips) olds-are news-are twenty p.slips_are k l);
+          rw (p.solve_is, news_are k l, cards_handed c finished cards entries hf k (omega (arith, e.as_many)))
+          (board_finished c old new answers finished e oc nc slips' (length slips) olds_are news_are twenty p.slips_are k l);
     }
 
 pub nothing_left : NothingLeft
-nothing_left c a old new boxes answers page boxes' page' answer' o other other-boxes slips other-boxes' slips' other-answer' r po to tn =
+nothing_left c a old new boxes answers page boxes' page' answer' o other other_boxes slips other_boxes' slips' other_answer' r po to tn =
     let d = done c old new boxes answers page boxes' page' answer' o in
     let finished = finished_part page' answer' in
     lists_nothing c other finished (all_tables c old new answers finished (edition c a old new boxes answers page' answer' d))
-    other-boxes slips other-boxes' slips' other-answer' r po to tn
+    other_boxes slips other_boxes' slips' other_answer' r po to tn
 
 pub never_twice : NeverTwice
-never_twice c a old new boxes answers page boxes' page' answer' o later later-boxes slips later-boxes' slips' later-answer' po h s l =
+never_twice c a old new boxes answers page boxes' page' answer' o later later_boxes slips later_boxes' slips' later_answer' po h s l =
     let d = done c old new boxes answers page boxes' page' answer' o in
     let finished = finished_part page' answer' in
     let t = some_tabled c old new answers finished (edition c a old new boxes answers page' answer' d) h s in
-    ((listed_exactly c finished later later-boxes slips later-boxes' slips' later-answer' po h).0 l).none_old t.card t.among t.holds
+    ((listed_exactly c finished later later_boxes slips later_boxes' slips' later_answer' po h).0 l).none_old t.card t.among t.holds
 
 -- ---- where no board gets a table
 
@@ -318,7 +318,7 @@ written_part c text cards entries page cards' entries' page' answer' o =
     rw (a, p) (take_at bs (replicate (length page - length bs) 0) (length bs) refl)
 
 pub written_when_none_wanted : WrittenWhenNoneWanted
-written_when_none_wanted c old new boxes answers page boxes' page' answer' o cards entries w-page cards' entries' w-page' w-answer' wo h =
+written_when_none_wanted c old new boxes answers page boxes' page' answer' o cards entries w_page cards' entries' w_page' w_answer' wo h =
     let d = done c old new boxes answers page boxes' page' answer' o in
     let e = editions_of c old new boxes in
     let js = plans_of c old new in
@@ -328,4 +328,4 @@ written_when_none_wanted c old new boxes answers page boxes' page' answer' o car
     let l = h p boxes (boxes_after c (are_both e) old new boxes) (state_numbers e (state_by e js p))
     (record { told = refl; boxes_left = boxes_are c (are_both e) old new boxes; returned = s.0 }) in
     rw s.1 at l in
-    d.part ∙ none_wanted c old new answers low ∙ sym (written_part c new cards entries w-page cards' entries' w-page' w-answer' wo)
+    d.part ∙ none_wanted c old new answers low ∙ sym (written_part c new cards entries w_page cards' entries' w_page' w_answer' wo)

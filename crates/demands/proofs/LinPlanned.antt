@@ -79,12 +79,12 @@ lin_whole c ok text page page' answer' o k h t =
 
 -- THEOREM. It is listed as any other.
 pub lin_listed : LinListed
-lin_listed c ok text page page' answer' o old boxes slips boxes' slips' plan-answer' p k h t =
+lin_listed c ok text page page' answer' o old boxes slips boxes' slips' plan_answer' p k h t =
     let d = lin_told c text page page' answer' o in
     let bs = lin_boards c text in
     let news = cards_of c (finished_part page' answer') in
     let deal = dealt_hands (get_or bs k no_lin_board).dealing in
-    let e = listed_exactly c old (finished_part page' answer') boxes slips boxes' slips' plan-answer' p deal in
+    let e = listed_exactly c old (finished_part page' answer') boxes slips boxes' slips' plan_answer' p deal in
     let m : length news ≡ length bs = rw d.part_is (PageCount c ok bs d.all_well) in
     let l : k < length news = omega arith in
     let bare : None (Tabled deal) news = rw d.part_is (page_bare c ok bs d.all_well deal) in (

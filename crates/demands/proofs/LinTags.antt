@@ -37,7 +37,7 @@ use Rattle.lin.specs.Dealing.{all_cards, dealt_hands}
 use Rattle.lin.specs.LinBoards.{LinBoard, declarer_in, has_bid, auction_of, play_of, lin_plain, lin_play, lin_lines}
 use Rattle.demands.specs.PageBack.{tag_pair}
 use Rattle.demands.specs.Lin.{WellBoard, lin_own, LinRecord, last, ended, only, first}
-use Rattle.demands.proofs.WrittenTagsBack.{lines_tags, body_pairs, header_tags, Holds, alone, ended as ended-tags}
+use Rattle.demands.proofs.WrittenTagsBack.{lines_tags, body_pairs, header_tags, Holds, alone, ended as ended_tags}
 use Rattle.demands.proofs.TablesBack.{deal_told, table_told, no_rows}
 use Rattle.demands.proofs.BoardWritable.{every_implied}
 use Rattle.demands.proofs.SectionsBack.{seat_read}
@@ -65,9 +65,9 @@ module _ (c : Conventions) (ok : Accepted c) (b : LinBoard) (w : WellBoard b) wh
   -- THEOREM. The tags of its record, read with any letters, are those written.
   pub LinTagsBack : (d : Conventions) (r : List ℕ) → LinRecord c b r → (plain_of d r).tags ≡ lin_tags c b
   LinTagsBack d r last = alone d (lin_own c b) (lin_tags c b) own_holds
-  LinTagsBack d r ended = ended-tags d (lin_own c b) (lin_tags c b) own_holds
+  LinTagsBack d r ended = ended_tags d (lin_own c b) (lin_tags c b) own_holds
   LinTagsBack d r only = alone d (built_in_header ++ lin_own c b) (lin_tags c b) first_holds
-  LinTagsBack d r first = ended-tags d (built_in_header ++ lin_own c b) (lin_tags c b) first_holds
+  LinTagsBack d r first = ended_tags d (built_in_header ++ lin_own c b) (lin_tags c b) first_holds
 
 -- ---- the hands of a deal
 

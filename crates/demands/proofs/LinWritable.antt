@@ -62,11 +62,11 @@ module _ (c : Conventions) (ok : Accepted c) where
       (λ t. rw t)
       (λ t. rw (t, capital_safe (suit_letter c (n % 5)) (every_at is_capital c.letters (7 - n % 5) ok.capitals (rw ok.thirteen (omega arith))))))
 
-  module _ (k : Contract) (h : FineContract k) (some-bid : 0 < k.bid) where
+  module _ (k : Contract) (h : FineContract k) (some_bid : 0 < k.bid) where
     text_good : good_value (contract_token c k) ≡ true
     text_good =
         let d = doubling_text c k.doubling in
-        rw (bid_token_lem c k.bid some-bid h.bid_low)
+        rw (bid_token_lem c k.bid some_bid h.bid_low)
         (safe_good (bid_token c (k.bid - 1) ++ d)
         (every_append is_safe (bid_token c (k.bid - 1)) d (bid_safe (k.bid - 1) (omega (arith, h.bid_low))) (doubling_cases (λ x. every is_safe x ≡ true) c k.doubling h.doubling_is refl refl refl)))
 
@@ -74,13 +74,13 @@ module _ (c : Conventions) (ok : Accepted c) where
     text_kept =
         let t = bid_token c (k.bid - 1) ++ doubling_text c k.doubling in
         let l : eqb (length t) 0 ≡ false = ne_eqb (length t) 0 (λ e. omega arith) in
-        rw (bid_token_lem c k.bid some-bid h.bid_low, l, ne_eqb 63 (49 + (k.bid - 1) / 5) (λ e. omega (arith, h.bid_low)))
+        rw (bid_token_lem c k.bid some_bid h.bid_low, l, ne_eqb 63 (49 + (k.bid - 1) / 5) (λ e. omega (arith, h.bid_low)))
 
     text_trump : contract_trump c (contract_token c k) ≡ trump_suit (strain k.bid)
     unfolding is_doubling capital
     text_trump =
         let d = doubling_text c k.doubling in
-        rw (bid_token_lem c k.bid some-bid h.bid_low)
+        rw (bid_token_lem c k.bid some_bid h.bid_low)
         (contract_back c ok (k.bid - 1) d (omega (arith, h.bid_low)) (doubling_cases (λ x. is_doubling x ≡ true) c k.doubling h.doubling_is refl refl refl))
 
   bid_there : (b : LinBoard) → has_bid b ≡ true → 0 < (contract_of b).bid

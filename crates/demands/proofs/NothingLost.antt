@@ -41,7 +41,7 @@ until_all (block_line i x ∷ xs) ys e = let t : until_tag xs ≡ xs = cc in rw 
 nothing_lost : (b : PlainBoard) (ws : List WrittenTag) → Anchors (length b.tags) b.directives b.blocks
     → ((n : List ℕ) → same (ascii "Note") n ≡ false → times_written n ws ≤ 1)
     → NothingLost b (all_lines (anchored_from b.tags 0 b.directives) (anchored_from b.tags 0 b.blocks) ws)
-nothing_lost b ws reached once-each =
+nothing_lost b ws reached once_each =
     let ds = anchored_from b.tags 0 b.directives in
     let ks = anchored_from b.tags 0 b.blocks in
     let L = all_lines ds ks ws in
@@ -65,7 +65,7 @@ nothing_lost b ws reached once-each =
     record {
       placed = λ kind front back i x e. from_good b L kind i x front back (each_at front (line_of kind i x) back (subst (Each (Good b L) []) e good));
       once = counted;
-      only_notes = λ n h. rw (all_named n ds ks ws) (once-each n h);
+      only_notes = λ n h. rw (all_named n ds ks ws) (once_each n h);
       in_order = λ p q front between back i j x y e u.
           from_behind rk q (rk p i) i j y
           (all_at between (line_of q j y) (until_tag back)

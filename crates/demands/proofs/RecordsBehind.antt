@@ -73,12 +73,12 @@ behind_here olds news i h = rw (plan_here_lem olds news i h)
 at_position : (text : List ℕ) (k : ℕ) {part : List ℕ} → WholeRecord text k part → part ≡ record_at text (suc k)
 at_position text k w = let e : suc k - 1 ≡ k = omega arith in rw e w.is
 
-module _ (c : Conventions) (old new : List ℕ) (short-old : length old ≤ 16777215) (short-new : length new ≤ 16777215) where
+module _ (c : Conventions) (old new : List ℕ) (short_old : length old ≤ 16777215) (short_new : length new ≤ 16777215) where
   in_old : (k : ℕ) → k < length (cards_of c old) → WholeRecord old k (part_here old (card_from (cards_of c old) k))
-  in_old k h = whole_record c old k short-old h
+  in_old k h = whole_record c old k short_old h
 
   in_new : (k : ℕ) → k < length (cards_of c new) → WholeRecord new k (part_here new (card_from (cards_of c new) k))
-  in_new k h = whole_record c new k short-new h
+  in_new k h = whole_record c new k short_new h
 
   behind_is : (i : ℕ) → i < length (cards_of c new) → (s : BoardState) → Reaches (length (cards_of c old)) (length (cards_of c new)) s
       → IsBehind old new (suc i) s (part_of old new (behind_state (cards_of c old) (cards_of c new) (card_from (cards_of c new) i) s))

@@ -50,9 +50,9 @@ remark_times : (kind : Kind) (t : Anchored → Bool) (ts : List TagPair) (i j m 
     → times (is_remark_line kind i) (remark_lines kind (those t (anchored_from ts j rs))) ≡ once (t (numbered ts i k))
 remark_times kind t ts i j m [] k q h = let z : ◌≡◌ {A = ℕ} 0 1 = cc in absurd (omega arith)
 remark_times kind t ts i j zero (r ∷ rs) k q h =
-    let same-remark : r ≡ k = cc in
-    let j-is : j ≡ i = omega arith in
-    rw (← same-remark, ← j-is)
+    let same_remark : r ≡ k = cc in
+    let j_is : j ≡ i = omega arith in
+    rw (← same_remark, ← j_is)
     (those_times kind j t (numbered ts j r) (anchored_from ts (j + 1) rs)
     ∙ rw (number_low kind t ts j (j + 1) rs (omega arith), eq-eqb j j refl, and-true, add-zero))
 remark_times kind t ts i j (suc m) (r ∷ rs) k q h =

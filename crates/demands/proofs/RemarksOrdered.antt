@@ -126,22 +126,22 @@ module _ (rk : Kind → ℕ → ℕ) where
       let tag = tag_line n w.value in
       let D = map data_line w.lines in
       let R = remark_lines directive (directives_under ds earlier w ws) in
-      let under-ks = blocks_under ks earlier w in
-      let B = remark_lines block under-ks in
+      let under_ks = blocks_under ks earlier w in
+      let B = remark_lines block under_ks in
       let T = tags_lines ds ks (earlier ++ w ∷ []) ws in
       let here : wrote n (earlier ++ w ∷ ws) ≡ true = rw (wrote_append n earlier (w ∷ ws), same_self n, or-true) in
       let inside : length earlier < length (earlier ++ w ∷ ws) = simp length-append (omega arith) in
-      let ranks : All (λ k. rk block k.number ≡ 1) under-ks = by_cases (wrote n earlier) (λ x. rw x no_more) (λ x. rw x (r.blocks_are_under n here)) in
-      let rises : Rising under-ks = by_cases (wrote n earlier) (λ x. rw x no_rise) (λ x. rw x (r.blocks_rise (is_under n))) in
+      let ranks : All (λ k. rk block k.number ≡ 1) under_ks = by_cases (wrote n earlier) (λ x. rw x no_more) (λ x. rw x (r.blocks_are_under n here)) in
+      let rises : Rising under_ks = by_cases (wrote n earlier) (λ x. rw x no_rise) (λ x. rw x (r.blocks_rise (is_under n))) in
       let soon = soon_higher 1 ds ks (earlier ++ w ∷ []) ws ys h in
-      let above-directives : All (Higher 0) (until_tag (B ++ (T ++ ys))) =
-      subst (All (Higher 0)) (sym (until_remarks block under-ks (T ++ ys)))
+      let above_directives : All (Higher 0) (until_tag (B ++ (T ++ ys))) =
+      subst (All (Higher 0)) (sym (until_remarks block under_ks (T ++ ys)))
       (all_append (higher_lines block 0 1 (omega arith) ranks) (all_map (higher_less 0 1 (omega arith)) soon)) in
       subst (λ (X : List WrittenLine). Each Ordered f (X ++ ys)) (sym (tag_lines ds ks earlier ws w))
       (simp append_assoc
       (next tt
       (each_quiet (f ++ tag ∷ []) (R ++ (B ++ (T ++ ys))) (all_data w.lines (λ d g back. tt))
-      (each_ordered directive 0 (f ++ tag ∷ [] ++ D) (B ++ (T ++ ys)) (r.directives_under_lem (length earlier) inside) (r.directives_rise (goes_after (earlier ++ w ∷ ws) (length earlier))) above-directives
+      (each_ordered directive 0 (f ++ tag ∷ [] ++ D) (B ++ (T ++ ys)) (r.directives_under_lem (length earlier) inside) (r.directives_rise (goes_after (earlier ++ w ∷ ws) (length earlier))) above_directives
       (each_ordered block 1 (f ++ tag ∷ [] ++ D ++ R) (T ++ ys) ranks rises soon
       (each_ordered_tags ds ks (earlier ++ w ∷ []) ws (f ++ tag ∷ [] ++ D ++ R ++ B) ys (rw append_assoc r) h
       (simp append_assoc (subst (λ (X : List WrittenLine). Each Ordered (f ++ X) ys) (tag_lines ds ks earlier ws w) e))))))))

@@ -154,29 +154,29 @@ module _ (b : PlainBoard) (ls : List WrittenLine) where
   each_tags ds ks earlier (w ∷ ws) f ys hd hk tags t z e =
       let tag = tag_line w.name w.value in
       let D = map data_line w.lines in
-      let under-ds = directives_under ds earlier w ws in
-      let under-ks = blocks_under ks earlier w in
+      let under_ds = directives_under ds earlier w ws in
+      let under_ks = blocks_under ks earlier w in
       let T = tags_lines ds ks (earlier ++ w ∷ []) ws in
       let g = f ++ tag ∷ [] ++ D in
-      let h = g ++ remark_lines directive under-ds in
+      let h = g ++ remark_lines directive under_ds in
       let last : last_tag g ≡ some (record { name = w.name; value = w.value }) =
       last_append none (f ++ tag ∷ []) D ∙ (last_data (last_tag (f ++ tag ∷ [])) w.lines ∙ last_append none f (tag ∷ [])) in
       let front : TagsAre g (earlier ++ w ∷ []) =
       λ p q. omega (arith, times_append p (f ++ tag ∷ []) D, times_append p f (tag ∷ []), times_data p w.lines q.not_data, t p q, met_append (on_tag p) earlier (w ∷ [])) in
-      let front-h : TagsAre h (earlier ++ w ∷ []) = tags_after_lem g directive under-ds (earlier ++ w ∷ []) front in
+      let front_h : TagsAre h (earlier ++ w ∷ []) = tags_after_lem g directive under_ds (earlier ++ w ∷ []) front in
       let soon = soon_none ds ks (earlier ++ w ∷ []) ws ys z in
-      let back = remark_lines block under-ks ++ (T ++ ys) in
-      let directives-stand = directives_placed earlier w ws g back tags front last (soon_after block under-ks (T ++ ys) soon) ds hd in
-      let blocks-stand = blocks_placed earlier w ws h (T ++ ys) tags front-h (last_after_lem g directive under-ds ∙ last) soon ks hk in
+      let back = remark_lines block under_ks ++ (T ++ ys) in
+      let directives_stand = directives_placed earlier w ws g back tags front last (soon_after block under_ks (T ++ ys) soon) ds hd in
+      let blocks_stand = blocks_placed earlier w ws h (T ++ ys) tags front_h (last_after_lem g directive under_ds ∙ last) soon ks hk in
       subst (λ (X : List WrittenLine). Each Good f (X ++ ys)) (sym (tag_lines ds ks earlier ws w))
       (simp append_assoc
       (next tt
-      (each_quiet (f ++ tag ∷ []) (remark_lines directive under-ds ++ back) (all_data w.lines (λ k g back. tt))
-      (each_remarks directive under-ds g back directives-stand
-      (each_remarks block under-ks h (T ++ ys) blocks-stand
-      (each_tags ds ks (earlier ++ w ∷ []) ws (h ++ remark_lines block under-ks) ys hd hk
+      (each_quiet (f ++ tag ∷ []) (remark_lines directive under_ds ++ back) (all_data w.lines (λ k g back. tt))
+      (each_remarks directive under_ds g back directives_stand
+      (each_remarks block under_ks h (T ++ ys) blocks_stand
+      (each_tags ds ks (earlier ++ w ∷ []) ws (h ++ remark_lines block under_ks) ys hd hk
       (rw append_assoc tags)
-      (tags_after_lem h block under-ks (earlier ++ w ∷ []) front-h)
+      (tags_after_lem h block under_ks (earlier ++ w ∷ []) front_h)
       z
       (simp append_assoc (subst (λ (X : List WrittenLine). Each Good (f ++ X) ys) (tag_lines ds ks earlier ws w) e))))))))
 
@@ -202,7 +202,7 @@ module _ (b : PlainBoard) (ls : List WrittenLine) where
       let T = tags_lines ds ks [] ws in
       let Y = remark_lines block (those (tag_unwritten ws) ks) in
       let Z = remark_lines directive (those (tag_unwritten ws) ds) in
-      let none-Z = times_never is_tag_or_data directive (those (tag_unwritten ws) ds) (either_never directive) in
+      let none_Z = times_never is_tag_or_data directive (those (tag_unwritten ws) ds) (either_never directive) in
       let soon = no_data (those (tag_unwritten ws) ks) (those (tag_unwritten ws) ds) in
       each_remarks directive (those is_leading ds) [] (B ++ (T ++ (Y ++ Z)))
       (all_those is_leading (λ k o u. stands_by directive k [] (B ++ (T ++ (Y ++ Z))) o (rw (leading_none k u) (above refl))) hd)
@@ -213,7 +213,7 @@ module _ (b : PlainBoard) (ls : List WrittenLine) where
       (tags_after_lem A block (those is_leading ks) [] (λ p t. times_never p directive (those is_leading ds) (t.not_remark directive)))
       soon
       (each_remarks block (those (tag_unwritten ws) ks) (A ++ B ++ T) Z
-      (all_those (tag_unwritten ws) (λ k o u. stands_by block k (A ++ B ++ T) Z o (lost_behind ds ks ws block k (A ++ B ++ T) Z q u none-Z (λ x. no_directive x))) hk)
+      (all_those (tag_unwritten ws) (λ k o u. stands_by block k (A ++ B ++ T) Z o (lost_behind ds ks ws block k (A ++ B ++ T) Z q u none_Z (λ x. no_directive x))) hk)
       (subst (λ (X : List WrittenLine). Each Good (A ++ B ++ T ++ Y) X) (append-nil Z)
       (each_remarks directive (those (tag_unwritten ws) ds) (A ++ B ++ T ++ Y) []
       (all_those (tag_unwritten ws) (λ k o u. stands_by directive k (A ++ B ++ T ++ Y) [] o (lost_behind ds ks ws directive k (A ++ B ++ T ++ Y) [] q u refl (λ x. refl))) hd)

@@ -44,13 +44,13 @@ up_to_more (suc k) x xs = refl
 
 module _ (tabled : Bool) (d : List ℕ) where
   -- The words compared up to the card found.
-  abbrev wordsUpTo : List (List ℕ) → ℕ
-  wordsUpTo xs = compared_on tabled d (up_to (first_from (fits tabled d) 1 xs) xs)
+  abbrev words_up_to : List (List ℕ) → ℕ
+  words_up_to xs = compared_on tabled d (up_to (first_from (fits tabled d) 1 xs) xs)
 
-  words_more : (x : List ℕ) (xs : List (List ℕ)) → fits tabled d x ≡ false → wordsUpTo (x ∷ xs) ≡ compared tabled d x + wordsUpTo xs
+  words_more : (x : List ℕ) (xs : List (List ℕ)) → fits tabled d x ≡ false → words_up_to (x ∷ xs) ≡ compared tabled d x + words_up_to xs
   words_more x xs t = rw (t, first_more (fits tabled d) 1 (omega arith) xs, up_to_more (first_from (fits tabled d) 1 xs) x xs)
 
-  words_from : (k w : ℕ) (xs : List (List ℕ)) → (search_from tabled d k w xs).words ≡ w + wordsUpTo xs
+  words_from : (k w : ℕ) (xs : List (List ℕ)) → (search_from tabled d k w xs).words ≡ w + words_up_to xs
   words_from k w [] = omega arith
   words_from k w (x ∷ xs) =
       let c = compared tabled d x in
@@ -97,7 +97,7 @@ module _ (olds news : List (List ℕ)) (card : List ℕ) where
 
   all_made : (s : BoardState) → old_sought s ≡ true → near_sought s ≡ true → twin_sought s ≡ true
       → Bare card → None (Tabled (hands_of card)) olds → None (Tabled (hands_of card)) news → SearchesMade olds news card s
-  all_made s o n t b no_old no-new = record { old = yes o b; near = yes n (b, no_old); twin = yes t (b, no_old, no-new) }
+  all_made s o n t b no_old no_new = record { old = yes o b; near = yes n (b, no_old); twin = yes t (b, no_old, no_new) }
 
   searches_made : (earlier : List (List ℕ)) (s : BoardState) → StateIs olds news earlier card s → SearchesMade olds news card s
   searches_made earlier Blank e = none_made Blank refl refl refl (λ b. clash (sym e ∙ b.whole))

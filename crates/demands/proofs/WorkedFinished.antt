@@ -76,9 +76,9 @@ finish_out c old new boxes answers page f l =
     let r = get_or (finishing_numbers w) 0 0 in
     let well = is_finished w in
     let after = boxes_after c well old new boxes in
-    let on-page = page_after well text (length page) in
+    let on_page = page_after well text (length page) in
     let z =
-    (finished_when_answered c old new boxes answers page after on-page (finishing_numbers w) r
+    (finished_when_answered c old new boxes answers page after on_page (finishing_numbers w) r
     (record {
       told = refl;
       lent_after = record { answer = refl; boxes_left = boxes_are c well old new boxes; page_left = refl };

@@ -85,9 +85,9 @@ module _ {c : Conventions} {text page page₁ page' : List ℕ} {g : Progress} {
       let good : g.good ≡ true = n.good_is ∙ f in
       let any : g.any ≡ true = n.any_is good ∙ e in
       let count = n.boards_are good in
-      let text-put : Puts page 0 (lin_text c text) page₁ g.at = rw (some_board bs e) at (n.puts good) in
+      let text_put : Puts page 0 (lin_text c text) page₁ g.at = rw (some_board bs e) at (n.puts good) in
       let few = lin_text_few c text h in
-      let put = text-put.put (omega (arith, few)) in
+      let put = text_put.put (omega (arith, few)) in
       let en : g.at ≡ length (lin_text c text) = omega (arith, put.next) in
       let el = n.kept in
       let told : r ≡ lin_page_answer g.at g.boards (length page₁) = d.told ∙ rw (any, good) in

@@ -47,7 +47,7 @@ pub record Left (all : List BoardPlan) (slips₀ : List ℕ) (rest : List BoardP
   pub old_in : t.old + count_of 2 rest ≡ count_of 2 all
   pub near_in : t.near + count_of 3 rest ≡ count_of 3 all
   pub twin_in : t.twin + count_of 4 rest ≡ count_of 4 all
-  pub solve_in_lem : t.solve + count_of 5 rest ≡ count_of 5 all
+  pub solve_in : t.solve + count_of 5 rest ≡ count_of 5 all
   pub slips_in : put_all 5 slips t.solve (slips_of rest) ≡ put_all 5 slips₀ 0 (slips_of all)
 
 left_all : (all : List BoardPlan) (slips : List ℕ) → Left all slips all no_totals slips
@@ -59,7 +59,7 @@ left_all all slips =
       old_in = omega arith;
       near_in = omega arith;
       twin_in = omega arith;
-      solve_in_lem = omega arith;
+      solve_in = omega arith;
       slips_in = refl;
     }
 
@@ -75,7 +75,7 @@ left_less {all} {slips₀} {j} {rest} {t} {slips} l =
       old_in = tally_in 2 s t.old (count_of 2 rest) ∙ l.old_in;
       near_in = tally_in 3 s t.near (count_of 3 rest) ∙ l.near_in;
       twin_in = tally_in 4 s t.twin (count_of 4 rest) ∙ l.twin_in;
-      solve_in_lem = tally_in 5 s t.solve (count_of 5 rest) ∙ l.solve_in_lem;
+      solve_in = tally_in 5 s t.solve (count_of 5 rest) ∙ l.solve_in;
       slips_in = slip_in (is_solve s) slips t.solve (slip_of j.position j.card) (slips_of rest) ∙ l.slips_in;
     }
 
@@ -87,7 +87,7 @@ totals_are t ea eb ec ed ee ef eg = rw (← ea, ← eb, ← ec, ← ed, ← ee, 
 left_nothing : {all : List BoardPlan} {slips₀ : List ℕ} {t : Totals} {slips : List ℕ} → Left all slips₀ [] t slips → (t ≡ totals_of all) × (slips ≡ put_all 5 slips₀ 0 (slips_of all))
 unfolding totals_of
 left_nothing {all} {slips₀} {t} {slips} l = (
-  totals_are t (omega (arith, l.boards_in)) (omega (arith, l.blank_in)) (omega (arith, l.own_in)) (omega (arith, l.old_in)) (omega (arith, l.near_in)) (omega (arith, l.twin_in)) (omega (arith, l.solve_in_lem)),
+  totals_are t (omega (arith, l.boards_in)) (omega (arith, l.blank_in)) (omega (arith, l.own_in)) (omega (arith, l.old_in)) (omega (arith, l.near_in)) (omega (arith, l.twin_in)) (omega (arith, l.solve_in)),
   l.slips_in,
 )
 
@@ -140,7 +140,7 @@ module _ {os : List (List ℕ)} {n : ℕ} {box slips₀ : List ℕ} {t : Totals}
         old = omega (arith, l.old_in, count_few 2 all, e);
         near = omega (arith, l.near_in, count_few 3 all, e);
         twin = omega (arith, l.twin_in, count_few 4 all, e);
-        solve = omega (arith, l.solve_in_lem, count_few 5 all, e);
+        solve = omega (arith, l.solve_in, count_few 5 all, e);
       }
 
 -- ---- five numbers a board, stored board after board: row gives those of a board

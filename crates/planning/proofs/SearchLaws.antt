@@ -176,27 +176,27 @@ few_words tabled d cards = omega (arith, few_from tabled d 1 0 cards)
 
 module _ (tabled : Bool) (d : List ℕ) (n : ℕ) (box : List ℕ) where
   -- What is left to search from index k on, w words having been compared.
-  abbrev pub searchLeft : ℕ → ℕ → Found
-  searchLeft k w = search_from tabled d (k + 1) w (cards_in (n - k) (drop (64 * k) box))
+  abbrev pub search_left : ℕ → ℕ → Found
+  search_left k w = search_from tabled d (k + 1) w (cards_in (n - k) (drop (64 * k) box))
 
-  pub search_first : searchLeft 0 0 ≡ searched tabled d (cards_in n box)
+  pub search_first : search_left 0 0 ≡ searched tabled d (cards_in n box)
   unfolding searched
   search_first =
       let e : n - 0 ≡ n = omega arith in
       rw e
 
   search_next : (k w : ℕ) → k < n
-      → searchLeft k w ≡ cond (fits tabled d (card_here k box)) (record { board = k + 1; words = w + compared tabled d (card_here k box) }) (searchLeft (k + 1) (w + compared tabled d (card_here k box)))
+      → search_left k w ≡ cond (fits tabled d (card_here k box)) (record { board = k + 1; words = w + compared tabled d (card_here k box) }) (search_left (k + 1) (w + compared tabled d (card_here k box)))
   search_next k w h = rw (card_step n k box h) (search_step tabled d (k + 1) w (card_here k box) (cards_in (n - (k + 1)) (drop (64 * (k + 1)) box)))
 
   module _ {f : Bool} {v : ℕ} (k w : ℕ) (h : k < n) (ef : f ≡ fits tabled d (card_here k box)) (ev : v ≡ compared tabled d (card_here k box)) where
-    pub search_found : f ≡ true → record { board = k + 1; words = w + v } ≡ searchLeft k w
+    pub search_found : f ≡ true → record { board = k + 1; words = w + v } ≡ search_left k w
     search_found t = rw (ev) (sym (search_next k w h ∙ rw (← ef, t)))
 
-    pub search_past : f ≡ false → searchLeft (k + 1) (w + v) ≡ searchLeft k w
+    pub search_past : f ≡ false → search_left (k + 1) (w + v) ≡ search_left k w
     search_past t = rw (ev) (sym (search_next k w h ∙ rw (← ef, t)))
 
-  pub search_stop : (k w : ℕ) → n ≤ k → record { board = 0; words = w } ≡ searchLeft k w
+  pub search_stop : (k w : ℕ) → n ≤ k → record { board = 0; words = w } ≡ search_left k w
   search_stop k w h =
       let e : n - k ≡ 0 = omega arith in
       rw e

@@ -82,7 +82,7 @@ state_reach olds news earlier card h =
     let a = first_with true d olds in
     let b = first_with true d news in
     let e = first_with false d earlier in
-    let e-low : e ≤ n = omega (arith, first_low false d earlier) in
+    let e_low : e ≤ n = omega (arith, first_low false d earlier) in
     by_cases (is_whole card)
     (λ w.
     by_cases (has_table card)
@@ -91,5 +91,5 @@ state_reach olds news earlier card h =
     rw (w, t)
     (else_reach m n Old a (or_else Near b (or_else Twin e Solve)) (λ k. (k, first_low true d olds))
     (else_reach m n Near b (or_else Twin e Solve) (λ k. (k, first_low true d news))
-    (else_reach m n Twin e Solve (λ k. (k, e-low)) tt)))))
+    (else_reach m n Twin e Solve (λ k. (k, e_low)) tt)))))
     (λ w. rw w tt)

@@ -250,7 +250,7 @@ contract_low c k value trump h = go (eqb k 9 && is_kept_contract value)
 
 pub record Bounded (b : Board) : Type 0 where
   pub id_low : IdentityLow b.id
-  pub deal_in_lem : DealSized b.deal
+  pub deal_in : DealSized b.deal
   pub table_in : TableKept b.table
   pub contract_in : b.contract ≤ 4
 
@@ -258,7 +258,7 @@ pub no_board_bounded : Bounded no_board
 no_board_bounded =
     record {
       id_low = record { number_met_low = omega arith; number_low = omega arith; dealer_low = omega arith; vulnerable_low = omega arith; declarer_low = omega arith; result_met_low = omega arith; result_low = omega arith };
-      deal_in_lem = record { deal_kind_low = omega arith; words_eight = refl };
+      deal_in = record { deal_kind_low = omega arith; words_eight = refl };
       table_in = record { kind_low = omega arith; twenty = refl; cells_low = refl; none_zero = λ k. refl };
       contract_in = omega arith;
     }
@@ -268,7 +268,7 @@ unfolding applied
 applied_bounded c k value place b h =
     record {
       id_low = identity_low c k value b.id h.id_low;
-      deal_in_lem = deal_sized c k value b.deal h.deal_in_lem;
+      deal_in = deal_sized c k value b.deal h.deal_in;
       table_in = table_kept k value b.table h.table_in;
       contract_in = contract_low c k value b.contract h.contract_in;
     }

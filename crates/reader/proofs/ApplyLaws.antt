@@ -266,7 +266,7 @@ pub record AllPlaces (P : ℕ → Type 0) (v : Values) : Type 0 where
   pub east_place : P v.east
   pub south_place : P v.south
   pub west_place : P v.west
-  pub deal_place_lem : P v.deal
+  pub deal_place : P v.deal
   pub score_place : P v.score
   pub par_place : P v.par
 
@@ -286,7 +286,7 @@ all_from P place v w p a f =
       east_place = either P place v.east w.east p a.east_place f.east_from;
       south_place = either P place v.south w.south p a.south_place f.south_from;
       west_place = either P place v.west w.west p a.west_place f.west_from;
-      deal_place_lem = either P place v.deal w.deal p a.deal_place_lem f.deal_from;
+      deal_place = either P place v.deal w.deal p a.deal_place f.deal_from;
       score_place = either P place v.score w.score p a.score_place f.score_from;
       par_place = either P place v.par w.par p a.par_place f.par_from;
     }

@@ -28,9 +28,9 @@ CardKept c a n r =
     let z = back_words a (a + length r) n b in
     let split : w ++ x ++ z ≡ w ++ (x ++ z) = append_assoc w x z in
     record {
-      word_9 = word_small b.deal.kind (omega (arith, h.deal_in_lem.deal_kind_low)) ∙ ap (λ (d : DealCard). d.kind) (sym k.deal_kept);
-      words_10 = ap (take 8) split ∙ take_at w (x ++ z) 8 h.deal_in_lem.words_eight ∙ ap (λ (d : DealCard). d.words) (sym k.deal_kept);
-      words_18 = ap (λ (l : List ℕ). take 20 (drop 8 l)) split ∙ ap (take 20) (drop_at w (x ++ z) 8 h.deal_in_lem.words_eight) ∙ take_at x z 20 h.table_in.twenty
+      word_9 = word_small b.deal.kind (omega (arith, h.deal_in.deal_kind_low)) ∙ ap (λ (d : DealCard). d.kind) (sym k.deal_kept);
+      words_10 = ap (take 8) split ∙ take_at w (x ++ z) 8 h.deal_in.words_eight ∙ ap (λ (d : DealCard). d.words) (sym k.deal_kept);
+      words_18 = ap (λ (l : List ℕ). take 20 (drop 8 l)) split ∙ ap (take 20) (drop_at w (x ++ z) 8 h.deal_in.words_eight) ∙ take_at x z 20 h.table_in.twenty
           ∙ ap (λ (t : TableCard). t.cells) (sym k.table_kept);
       word_38 = word_back c a n r 0 ∙ word_small b.table.kind (omega (arith, h.table_in.kind_low)) ∙ ap (λ (t : TableCard). t.kind) (sym k.table_kept);
     }

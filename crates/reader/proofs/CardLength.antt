@@ -15,7 +15,7 @@ use Rattle.reader.proofs.PlainBounds.{RecordBounded}
 pub CardLength : (c : Conventions) (a n : ℕ) (r : List ℕ) → length (card_of c a n r) ≡ 64
 CardLength c a n r =
     let h = RecordBounded c r in
-    card_length a (a + length r) n (length (record_out c r).entries) (record_out c r).state.board h.deal_in_lem.words_eight h.table_in.twenty
+    card_length a (a + length r) n (length (record_out c r).entries) (record_out c r).state.board h.deal_in.words_eight h.table_in.twenty
 
 cards_whole : (c : Conventions) (a n : ℕ) (rs : List (List ℕ)) → FullCards (cards_from c a n rs)
 cards_whole c a n [] = none

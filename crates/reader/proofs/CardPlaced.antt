@@ -85,7 +85,7 @@ places_map f a =
       east_place = f _ a.east_place;
       south_place = f _ a.south_place;
       west_place = f _ a.west_place;
-      deal_place_lem = f _ a.deal_place_lem;
+      deal_place = f _ a.deal_place;
       score_place = f _ a.score_place;
       par_place = f _ a.par_place;
     }
@@ -302,7 +302,7 @@ no_kept =
           east_place = absent refl;
           south_place = absent refl;
           west_place = absent refl;
-          deal_place_lem = absent refl;
+          deal_place = absent refl;
           score_place = absent refl;
           par_place = absent refl;
         };

@@ -30,7 +30,7 @@ first_length c n r =
     let b = (record_out c r).state.board in
     let h = RecordBounded c r in
     let w = head_words n (length (record_out c r).entries) b in
-    let g : length (w ++ b.deal.words) ≡ 18 = length-append w b.deal.words ∙ omega (arith, h.deal_in_lem.words_eight) in
+    let g : length (w ++ b.deal.words) ≡ 18 = length-append w b.deal.words ∙ omega (arith, h.deal_in.words_eight) in
     length-append (w ++ b.deal.words) b.table.cells ∙ omega (arith, h.table_in.twenty)
 
 module _ (c : Conventions) (a n : ℕ) (r : List ℕ) where

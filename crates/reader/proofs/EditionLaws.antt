@@ -236,17 +236,17 @@ pub read_all : {c : Conventions} {t cs es zc ze : List ℕ} {r : Counts} {a : Re
     → AllIn c t zc ze r cards entries → ReadingEnded cards entries r.boards r.entries a cards' entries'
     → IsRead c t cs es a cards' entries'
 unfolding reading_of
-read_all {c} {t} {cs} {es} {zc} {ze} {r} {a} cards entries cards' entries' short zc-is ze-is kc ke s f =
+read_all {c} {t} {cs} {es} {zc} {ze} {r} {a} cards entries cards' entries' short zc_is ze_is kc ke s f =
     let lc = length cs in
     let le = length es in
-    let ec : length cards ≡ lc = kc ∙ rw zc-is (length-replicate lc 0) in
-    let ee : length entries ≡ le = ke ∙ rw ze-is (length-replicate le 0) in
+    let ec : length cards ≡ lc = kc ∙ rw zc_is (length-replicate lc 0) in
+    let ee : length entries ≡ le = ke ∙ rw ze_is (length-replicate le 0) in
     let ans : a ≡ counts_answer lc le (length (cards_of c t)) (length (entries_of c t)) = rw (ec, ee, s.boards, s.count) at f.answer in
     let fits : is_taken a ≡ true → (64 * length (cards_of c t) ≤ lc) × (4 * length (entries_of c t) ≤ le) = λ h. taken_fits lc le (length (cards_of c t)) (length (entries_of c t)) (rw ans at h) in
     record {
       answer = ans ∙ rw (le-ltb _ _ short);
-      cards_after = ended 64 lc (is_taken a) (card_blocks s.whole) (λ h. (fits h).0) ec (rw zc-is at s.cards_put) f.cards_after;
-      entries_after = ended 4 le (is_taken a) (all_blocks c t) (λ h. (fits h).1) ee (rw ze-is at s.entries_put) f.entries_after;
+      cards_after = ended 64 lc (is_taken a) (card_blocks s.whole) (λ h. (fits h).0) ec (rw zc_is at s.cards_put) f.cards_after;
+      entries_after = ended 4 le (is_taken a) (all_blocks c t) (λ h. (fits h).1) ee (rw ze_is at s.entries_put) f.entries_after;
     }
 
 pub read_none : {c : Conventions} {t cs es : List ℕ} {cards' entries' : List ℕ} → 16777215 < length t → cards' ≡ zeros cs → entries' ≡ zeros es

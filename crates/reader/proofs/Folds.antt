@@ -186,11 +186,11 @@ pub PartFolds : {A : Type 0} (c : Conventions) (r : List ℕ) (g : Board → A) 
     → ((k : ℕ) (value : List ℕ) (place : ℕ) (b : Board) → g (applied c k value place b) ≡ f k value (g b))
     → ((b : Board) (t : TableCard) (a p : Section) (trump : ℕ) → g (with_sections b t a p trump) ≡ g b)
     → g (record_out c r).state.board ≡ fold_tags f (g no_board) (plain_of c r).tags
-PartFolds c r g f by_tag by-section =
+PartFolds c r g f by_tag by_section =
     RecordFolds c r g f (λ k. Unit {0}) (λ o. Unit {0})
     record {
       by_tag = by_tag;
-      kept = λ s k. closed_board c r s (λ (b : Board). g b ≡ g s.board) refl (λ t a p trump e. by-section s.board t a p trump);
+      kept = λ s k. closed_board c r s (λ (b : Board). g b ≡ g s.board) refl (λ t a p trump e. by_section s.board t a p trump);
       none_open = tt;
       opened = λ k value q split n. tt;
     }

@@ -150,7 +150,7 @@ closed_bounded c r s h =
     let l = closed_leaves c r s in
     record {
       id_low = rw l.id_left h.id_low;
-      deal_in_lem = rw l.deal_left h.deal_in_lem;
+      deal_in = rw l.deal_left h.deal_in;
       table_in = closed_kept c r s h.table_in;
       contract_in = rw l.contract_left h.contract_in;
     }
@@ -196,11 +196,11 @@ RecordBounded c r = steps.keeps no_board_bounded
 -- THEOREM. So it is on a plain board.
 pub record PlainBounded (p : PlainBoard) : Type 0 where
   pub id_in : IdentityLow p.id
-  pub deal_in_lem : DealSized p.deal
+  pub deal_in : DealSized p.deal
   pub table_in : TableKept p.table
 
 pub PlainBounds : (c : Conventions) (r : List ℕ) → PlainBounded (plain_of c r)
 unfolding plain_of plain_by
 PlainBounds c r =
     let h = RecordBounded c r in
-    record { id_in = h.id_low; deal_in_lem = h.deal_in_lem; table_in = h.table_in }
+    record { id_in = h.id_low; deal_in = h.deal_in; table_in = h.table_in }

@@ -221,12 +221,12 @@ module _ (c : Conventions) (r : List ℕ) (t : Piece) (h : Token r t) where
       let part : CallToken = cond (eqb k 0) Annotation call in
       let pass : CallToken = cond (is_all_pass t.bytes) AllPass part in
       let star : CallToken = cond (eqb (section_end t.bytes) 2) Star pass in
-      let zero-pass = code_good r t.at n 0 (omega arith) in
+      let zero_pass = code_good r t.at n 0 (omega arith) in
       chosen P (eqb (section_end t.bytes) 1) Plus star (λ e. one (code_good r t.at n 38 (omega arith)) none)
       (λ e.
       chosen P (eqb (section_end t.bytes) 2) Star pass (λ f. none)
       (λ f.
-      chosen P (is_all_pass t.bytes) AllPass part (λ g. one zero-pass (one zero-pass (one zero-pass none)))
+      chosen P (is_all_pass t.bytes) AllPass part (λ g. one zero_pass (one zero_pass (one zero_pass none)))
       (λ g.
       chosen P (eqb k 0) Annotation call
       (λ z.

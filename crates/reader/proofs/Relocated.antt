@@ -52,7 +52,7 @@ all_places n v f a =
       f _ a.east_place,
       f _ a.south_place,
       f _ a.west_place,
-      f _ a.deal_place_lem,
+      f _ a.deal_place,
       f _ a.score_place,
       f _ a.par_place,
     )

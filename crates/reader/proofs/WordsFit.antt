@@ -227,7 +227,7 @@ plays_step c lead trump t q low h = steps (played_token c lead trump) InPlay (to
 
 record InWalk (w : Walk) : Type 0 where
   calls_inside : Ends w.bidding
-  tricks_in_lem : InPlay w.tricks
+  tricks_in : InPlay w.tricks
 
 walked_step : (c : Conventions) (o : Open) (trump : ℕ) → o.seat ≤ 4 → (w : Walk) (q : Piece) → InWalk w → Step InWalk (walked c o trump w q)
 unfolding walked
@@ -240,19 +240,19 @@ walked_step c o trump low w q h =
     } in
     let row : Out Walk = record { state = record { bidding = w.bidding; tricks = w.tricks; rows = rowed_piece c w.rows q }; entries = [] } in
     let x = calls_step c w.bidding q h.calls_inside in
-    let y = plays_step c o.seat trump w.tricks q low h.tricks_in_lem in
+    let y = plays_step c o.seat trump w.tricks q low h.tricks_in in
     chosen (λ x. Step InWalk x) (eqb o.kind 1) calls (cond (eqb o.kind 2) cards row)
-    (λ e. record { left = record { calls_inside = x.left; tricks_in_lem = h.tricks_in_lem }; given = x.given })
+    (λ e. record { left = record { calls_inside = x.left; tricks_in = h.tricks_in }; given = x.given })
     (λ e.
     chosen (λ x. Step InWalk x) (eqb o.kind 2) cards row
-    (λ f. record { left = record { calls_inside = h.calls_inside; tricks_in_lem = y.left }; given = y.given })
-    (λ f. record { left = record { calls_inside = h.calls_inside; tricks_in_lem = h.tricks_in_lem }; given = none }))
+    (λ f. record { left = record { calls_inside = h.calls_inside; tricks_in = y.left }; given = y.given })
+    (λ f. record { left = record { calls_inside = h.calls_inside; tricks_in = h.tricks_in }; given = none }))
 
 section_step : (c : Conventions) (r : List ℕ) (o : Open) (trump : ℕ) → o.seat ≤ 4 → Step InWalk (walked_all c r o trump)
 unfolding walked_all no_walk
 section_step c r o trump low =
     steps (walked c o trump) InWalk (walked_step c o trump low) no_walk (section_data r o)
-    (record { calls_inside = omega arith; tricks_in_lem = record { leader_low = omega arith; winner_low = omega arith; end_low = omega arith; slots_low = no_slots_lem } })
+    (record { calls_inside = omega arith; tricks_in = record { leader_low = omega arith; winner_low = omega arith; end_low = omega arith; slots_low = no_slots_lem } })
 
 last_said : (kind : ℕ) (w : Walk) → InWalk w → All Said (last_entries kind w)
 unfolding last_trick
@@ -261,7 +261,7 @@ last_said kind w h =
     chosen (λ es. All Said es) (eqb kind 2) (last_trick t).entries []
     (λ e.
     chosen (λ (o : Out Tricks). All Said o.entries) t.any (record { state = one_more t; entries = trick_entry t ∷ [] }) (record { state = t; entries = [] })
-    (λ f. one (trick_said t h.tricks_in_lem) none)
+    (λ f. one (trick_said t h.tricks_in) none)
     (λ f. none))
     (λ e. none)
 
@@ -299,7 +299,7 @@ module _ (b : Board) (o : Open) (n : ℕ) (w : Walk) (low : o.seat ≤ 4) (i : I
       chosen (λ x. SectionsLow x) w.tricks.any
       (with_sections b b.table b.auction (record { first = n + 1; count = (last_trick w.tricks).state.count; seat = o.seat; end = w.tricks.end }) b.contract)
       b
-      (λ e. record { auction_seat = h.auction_seat; auction_end = h.auction_end; play_seat = low; play_end = i.tricks_in_lem.end_low; trump_in = h.trump_of_contract; trump_of_contract = h.trump_of_contract })
+      (λ e. record { auction_seat = h.auction_seat; auction_end = h.auction_end; play_seat = low; play_end = i.tricks_in.end_low; trump_in = h.trump_of_contract; trump_of_contract = h.trump_of_contract })
       (λ e. h)
 
   table_low : SectionsLow (table_closed b w)

@@ -68,7 +68,7 @@ points_word low a n s fit (absent e) = no_word (rw e)
 points_word {K} low {E} {es} a n {first} {count} s fit (there j run e t l ks) =
     let u = stands_within s (stands_map (entry_words a) t) in
     let own = rw length-map at (stands_fit s) in
-    let in-own = stands_fit t in
+    let in_own = stands_fit t in
     let en : low_word n ≡ n = omega arith in
     let ee : low_word (length es) ≡ length es = omega arith in
     let ec : low_word count ≡ count = omega arith in
@@ -92,7 +92,7 @@ values_all n v f a =
     (one (f _ a.east_place)
     (one (f _ a.south_place)
     (one (f _ a.west_place)
-    (one (f _ a.deal_place_lem)
+    (one (f _ a.deal_place)
     (one (f _ a.score_place)
     (one (f _ a.par_place) none)))))))))))
 

@@ -224,13 +224,13 @@ module _ {c : Conventions} {old new : List ℕ} {boxes boxes₁ : Boxes} {q : Ed
     abbrev boards : List BoardPlan
     boards = plans_of c old new
 
-    abbrev givenAll : List (List ℕ)
-    givenAll = given_cards (cards_of c old) (cards_of c new) boards answers
+    abbrev given_all : List (List ℕ)
+    given_all = given_cards (cards_of c old) (cards_of c new) boards answers
 
     abbrev rest : List ℕ
     rest = replicate (length boxes.new_cards - length (flat (cards_of c new))) 0
 
-    all_given_lem : AllGiven (cards_of c new) (tables_of c old new answers) givenAll
+    all_given_lem : AllGiven (cards_of c new) (tables_of c old new answers) given_all
     unfolding tables_of board_plans
     all_given_lem = boards_given (cards_of c old) (cards_of c new) (CardsFit c old) (CardsFit c new) boards answers 1 [] (CardsFit c new)
 
@@ -240,24 +240,24 @@ module _ {c : Conventions} {old new : List ℕ} {boxes boxes₁ : Boxes} {q : Ed
     count_is : n ≡ length (cards_of c new)
     count_is = (there b e).1.count
 
-    box_given : given_box m n boxes₁ answers ≡ flat givenAll ++ rest
+    box_given : given_box m n boxes₁ answers ≡ flat given_all ++ rest
     box_given =
         let l : length (flat (cards_of c new)) ≡ 64 * n =
         length_flat (card_blocks (CardsWhole c new)) ∙ ap (λ (k : ℕ). 64 * k) (sym count_is) in
         let d : drop (64 * n) boxes₁.new_cards ≡ rest = ap (drop (64 * n)) box_read ∙ drop_at (flat (cards_of c new)) rest (64 * n) l in
         rw (d, (there b e).0.cards, (there b e).1.cards)
 
-    box_marked : changed_all marked n (given_box m n boxes₁ answers) ≡ flat (map marked givenAll) ++ rest
+    box_marked : changed_all marked n (given_box m n boxes₁ answers) ≡ flat (map marked given_all) ++ rest
     box_marked =
-        let l : n ≡ length givenAll = count_is ∙ sym (given_count all_given_lem) in
+        let l : n ≡ length given_all = count_is ∙ sym (given_count all_given_lem) in
         ap (changed_all marked n) box_given
-        ∙ ap (λ (k : ℕ). changed_all marked k (flat givenAll ++ rest)) l
+        ∙ ap (λ (k : ℕ). changed_all marked k (flat given_all ++ rest)) l
         ∙ changed_flat marked (given_whole all_given_lem) rest
 
     -- The given tables taken away, the cards are what was read.
     box_back : changed_all given_cleared n (changed_all marked n (given_box m n boxes₁ answers)) ≡ boxes₁.new_cards
     box_back =
-        let ys = map marked givenAll in
+        let ys = map marked given_all in
         let l : n ≡ length ys = count_is ∙ sym (tabled_count all_given_lem (CardsWhole c new) rest) in
         ap (changed_all given_cleared n) box_marked
         ∙ ap (λ (k : ℕ). changed_all given_cleared k (flat ys ++ rest)) l
@@ -270,9 +270,9 @@ module _ {c : Conventions} {old new : List ℕ} {boxes boxes₁ : Boxes} {q : Ed
     unfolding finished_text finished_boards
     page_is =
         let ts = tables_of c old new answers in
-        let other : OtherTables boxes₁.new_cards (flat (map marked givenAll) ++ rest) ts =
+        let other : OtherTables boxes₁.new_cards (flat (map marked given_all) ++ rest) ts =
         rw box_read (GivenTables all_given_lem (CardsWhole c new) rest) in
-        let tabled = flat (map marked givenAll) ++ rest in
+        let tabled = flat (map marked given_all) ++ rest in
         let count = TablesCount c old new answers in
         rw (box_marked, count_is) (PageWith c new boxes₁.new_cards tabled boxes₁.new_entries ts new_holds other count)
 

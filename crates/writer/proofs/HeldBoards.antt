@@ -276,11 +276,11 @@ module _ (c : Conventions) (text cards entries : List ℕ) (t : Holds c text car
         let q : w ≡ n + j + 1 = e ∙ rw nx (omega (arith, entries_low)) in
         let m : n + j + 1 - 1 ≡ n + j = omega arith in
         let nw : eqb (n + j + 1) 0 ≡ false = ne_eqb (n + j + 1) 0 (λ v. omega arith) in
-        let y-bytes : place_bytes text entries (n + j) ≡ (item_of r y).bytes = sym (item_bytes text entries (n + j) 2 (kind_is j y s ∙ u) (omega arith)) ∙ ap (λ (i : Item). i.bytes) (item_held j y s) in
-        let there-is : value_at x (items_of r (record_out c r).entries) ≡ some (item_of r y).bytes =
+        let y_bytes : place_bytes text entries (n + j) ≡ (item_of r y).bytes = sym (item_bytes text entries (n + j) 2 (kind_is j y s ∙ u) (omega arith)) ∙ ap (λ (i : Item). i.bytes) (item_held j y s) in
+        let there_is : value_at x (items_of r (record_out c r).entries) ≡ some (item_of r y).bytes =
         let zx : x ≡ length s.before + 1 = omega (arith, s.count) in
         ap (λ (es : List Entry). value_at x (items_of r es)) s.whole ∙ rw zx (value_there r s.before y s.after) in
-        rw (q, nw, m, y-bytes, there-is)
+        rw (q, nw, m, y_bytes, there_is)
     value_is w x e (there j (y ∷ y₁ ∷ run) z s l ks) = absurd (omega arith)
 
     values_are : values_held text cards entries k ≡ (plain_of c r).values
@@ -297,7 +297,7 @@ module _ (c : Conventions) (text cards entries : List ℕ) (t : Holds c text car
           value_is (card_word cards k 45) _ (back_is 7 (omega arith)) p.east_place,
           value_is (card_word cards k 46) _ (back_is 8 (omega arith)) p.south_place,
           value_is (card_word cards k 47) _ (back_is 9 (omega arith)) p.west_place,
-          value_is (card_word cards k 48) _ (back_is 10 (omega arith)) p.deal_place_lem,
+          value_is (card_word cards k 48) _ (back_is 10 (omega arith)) p.deal_place,
           value_is (card_word cards k 49) _ (back_is 11 (omega arith)) p.score_place,
           value_is (card_word cards k 50) _ (back_is 12 (omega arith)) p.par_place,
         )
@@ -367,7 +367,7 @@ module _ (c : Conventions) (text cards entries : List ℕ) (t : Holds c text car
     words_are =
         let bd = (record_out c r).state.board in
         let ws = bd.deal.words in
-        let l = (RecordBounded c r).deal_in_lem.words_eight in
+        let l = (RecordBounded c r).deal_in.words_eight in
         let at : (j : ℕ) → j < length ws → card_word cards k (10 + j) ≡ get_or ws j 0 = λ j g.
         card_is (10 + j) (omega arith)
         ∙ get_or-append-add (head_words n (length (record_out c r).entries) bd) (ws ++ bd.table.cells ++ back_words a (a + length r) n bd) j 0
@@ -381,7 +381,7 @@ module _ (c : Conventions) (text cards entries : List ℕ) (t : Holds c text car
         let bd = (record_out c r).state.board in
         let ws = bd.deal.words in
         let cs = bd.table.cells in
-        let lw = (RecordBounded c r).deal_in_lem.words_eight in
+        let lw = (RecordBounded c r).deal_in.words_eight in
         let l = (RecordBounded c r).table_in.twenty in
         let at : (j : ℕ) → j < length cs → card_word cards k (18 + j) ≡ get_or cs j 0 = λ j g.
         let z : 18 + j ≡ 10 + (length ws + j) = omega arith in
@@ -407,7 +407,7 @@ module _ (c : Conventions) (text cards entries : List ℕ) (t : Holds c text car
         let e6 : card_word cards k 6 ≡ bd.id.declarer = head_is 6 (omega arith) ∙ omega (arith, low.declarer_low) in
         let e7 : card_word cards k 7 ≡ bd.id.result_met = head_is 7 (omega arith) ∙ omega (arith, low.result_met_low) in
         let e8 : card_word cards k 8 ≡ bd.id.result = head_is 8 (omega arith) ∙ omega (arith, low.result_low) in
-        let e9 : card_word cards k 9 ≡ bd.deal.kind = head_is 9 (omega arith) ∙ omega (arith, (RecordBounded c r).deal_in_lem.deal_kind_low) in
+        let e9 : card_word cards k 9 ≡ bd.deal.kind = head_is 9 (omega arith) ∙ omega (arith, (RecordBounded c r).deal_in.deal_kind_low) in
         let e38 : card_word cards k 38 ≡ bd.table.kind = back_is 0 (omega arith) ∙ omega (arith, (RecordBounded c r).table_in.kind_low) in
         let e59 : card_word cards k 59 ≡ bd.trump = back_is 21 (omega arith) ∙ omega (arith, (SectionsFit c r).trump_in) in
         rw (e2, e3, e4, e5, e6, e7, e8, e9, e38, e59, words_are, cells_are, values_are, items_are, auction_is, play_is)

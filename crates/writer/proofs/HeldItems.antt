@@ -94,11 +94,11 @@ EveryHeldBoard c text cards entries t k h =
     let r = b.text_of in
     let a = b.place in
     let n = b.entries_before in
-    let word-is : (i : ℕ) → i < 64 → card_word cards k i ≡ _ = card_is c text cards entries t k a n r b.is in
+    let word_is : (i : ℕ) → i < 64 → card_word cards k i ≡ _ = card_is c text cards entries t k a n r b.is in
     let own = items_are c text cards entries t k a n r b.is in
     let p = CardsPlaced c text k a n r t.short b.is in
-    let e0 = word-is 0 (omega arith) in
-    let e1 = word-is 1 (omega arith) in
+    let e0 = word_is 0 (omega arith) in
+    let e1 = word_is 1 (omega arith) in
     let fit : card_word cards k 0 + card_word cards k 1 ≤ length (entries_of c text) = rw (e0, e1) p.own in
     record {
       record_text = r;
@@ -109,9 +109,9 @@ EveryHeldBoard c text cards entries t k h =
       entries_held = record {
         marked = rw own (RecordMarked c r);
         paired = rw own (RecordPaired c r);
-        auction_inside = λ z. section_inside {K = IsCallKind} {E = entries_of c text} cards k 51 (rw (e0, e1, word-is 51 (omega arith), word-is 52 (omega arith)) p.auction) z;
+        auction_inside = λ z. section_inside {K = IsCallKind} {E = entries_of c text} cards k 51 (rw (e0, e1, word_is 51 (omega arith), word_is 52 (omega arith)) p.auction) z;
       };
-      play_inside = λ z. section_inside {K = IsTrickKind} {E = entries_of c text} cards k 55 (rw (e0, e1, word-is 55 (omega arith), word-is 56 (omega arith)) p.play) z;
+      play_inside = λ z. section_inside {K = IsTrickKind} {E = entries_of c text} cards k 55 (rw (e0, e1, word_is 55 (omega arith), word_is 56 (omega arith)) p.play) z;
     }
 
 -- The board is one of its entries.

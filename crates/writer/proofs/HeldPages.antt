@@ -102,8 +102,8 @@ module _ (c : Conventions) (text cards entries : List ℕ) (k : ℕ) where
 
   -- ---- sections
 
-  abbrev ownAuction : PlainAuction
-  ownAuction =
+  abbrev own_auction : PlainAuction
+  own_auction =
       record {
         dealer = card_word cards k 53;
         end = card_word cards k 54;
@@ -117,10 +117,10 @@ module _ (c : Conventions) (text cards entries : List ℕ) (k : ℕ) where
   auction_group_lem f is =
       by_cases (eqb (card_word cards k 51) 0)
       (λ q. rw q)
-      (λ q. rw (q, AuctionText c ownAuction (section_items text cards entries k 51) refl, NotesHeld f (eqb-false (card_word cards k 51) 0 q)))
+      (λ q. rw (q, AuctionText c own_auction (section_items text cards entries k 51) refl, NotesHeld f (eqb-false (card_word cards k 51) 0 q)))
 
-  abbrev playOn : PlainPlay
-  playOn = record { leader = card_word cards k 57; end = card_word cards k 58; tricks = tricks_in (section_items text cards entries k 55) }
+  abbrev play_on : PlainPlay
+  play_on = record { leader = card_word cards k 57; end = card_word cards k 58; tricks = tricks_in (section_items text cards entries k 55) }
 
   play_group : (is : List Item)
       → cards_text c text cards entries k is ≡ group_text (play_tags c (own_play c (board_held text cards entries k).play) (board_held text cards entries k).play) is
@@ -128,7 +128,7 @@ module _ (c : Conventions) (text cards entries : List ℕ) (k : ℕ) where
   play_group is =
       by_cases (eqb (card_word cards k 55) 0)
       (λ q. rw q)
-      (λ q. rw (q, PlayText c playOn (section_items text cards entries k 55) refl) (sym (append-nil _)))
+      (λ q. rw (q, PlayText c play_on (section_items text cards entries k 55) refl) (sym (append-nil _)))
 
   -- ---- what there is
 

@@ -184,16 +184,16 @@ extra_times n seen (t ∷ ts) h =
   where
     met : same n t.name ≡ true → times_written n (extras_from (seen ++ t ∷ []) ts) ≡ 0
         → times_written n (extras_from seen (t ∷ ts)) ≡ once ((same n t.name || named n ts) && not (named n seen))
-    met e None-more =
+    met e None_more =
         let i = same_is n t.name e in
         let k : is_extra t ≡ true = extra_is t ∙ eq-eqb (number t.name) 0 (ap number (sym i) ∙ h) in
         by_cases (named n seen)
         (λ u.
         let v = ap (λ (m : List ℕ). named m seen) (sym i) ∙ u in
-        rw (k, v, u, e) None-more)
+        rw (k, v, u, e) None_more)
         (λ u.
         let v = ap (λ (m : List ℕ). named m seen) (sym i) ∙ u in
-        rw (k, v, u, e, None-more))
+        rw (k, v, u, e, None_more))
 
 -- Any other name is not written among them.
 other_times : (n : List ℕ) (seen ts : List TagPair) → 0 < number n → times_written n (extras_from seen ts) ≡ 0

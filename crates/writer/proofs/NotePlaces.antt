@@ -193,9 +193,9 @@ module _ (text entries : List ℕ) where
   -- ---- places
 
   -- The values of the notes that have a place, from the number n on, k numbers long.
-  abbrev placedNotes : List ℕ → ℕ → ℕ → List (List ℕ)
-  placedNotes places zero n = []
-  placedNotes places (suc k) n = placed_note text entries places n ++ placedNotes places k (n + 1)
+  abbrev placed_notes : List ℕ → ℕ → ℕ → List (List ℕ)
+  placed_notes places zero n = []
+  placed_notes places (suc k) n = placed_note text entries places n ++ placed_notes places k (n + 1)
 
   pub places_on : (places : List ℕ) (e left : ℕ) → 0 < left
       → note_places text entries places e left ≡ note_places text entries (set places (note_number_at text entries e) (e + 1)) (e + 1) (left - 1)
@@ -207,11 +207,11 @@ module _ (text entries : List ℕ) where
   places_over places e (suc n) h = absurd (omega arith)
 
   -- The text of the note m by its place.
-  abbrev placedText : List ℕ → ℕ → Option (List ℕ)
-  placedText places m = cond (eqb (get_or places m 0) 0) none (some (behind_colon (place_bytes text entries (get_or places m 0))))
+  abbrev placed_text : List ℕ → ℕ → Option (List ℕ)
+  placed_text places m = cond (eqb (get_or places m 0) 0) none (some (behind_colon (place_bytes text entries (get_or places m 0))))
 
   placed_tag : (places : List ℕ) (e m : ℕ) → entry_word entries e 0 ≡ 1 → length places ≡ 256 → m < 256
-      → placedText (set places (note_number_at text entries e) (e + 1)) m ≡ later (note_in m (tag_at e)) (placedText places m)
+      → placed_text (set places (note_number_at text entries e) (e + 1)) m ≡ later (note_in m (tag_at e)) (placed_text places m)
   placed_tag places e m k l h =
       by_cases (eqb (note_number_at text entries e) m)
       (λ q.
@@ -223,7 +223,7 @@ module _ (text entries : List ℕ) where
       rw (get_or-set_other places (note_number_at text entries e) m (e + 1) 0 (λ z. d (sym z)), note_in_lem text entries e m k h, q))
 
   placed_all : (places : List ℕ) (e n m : ℕ) → length places ≡ 256 → m < 256
-      → placedText (note_places text entries places e n) m ≡ later (note_at m (tags_at text entries e n)) (placedText places m)
+      → placed_text (note_places text entries places e n) m ≡ later (note_at m (tags_at text entries e n)) (placed_text places m)
   placed_all places e zero m l h = refl
   placed_all places e (suc n) m l h =
       let next = set places (note_number_at text entries e) (e + 1) in
@@ -232,16 +232,16 @@ module _ (text entries : List ℕ) where
       (λ k.
       r
       ∙ rw (k, placed_tag places e m (eqb-true (entry_word entries e 0) 1 k) l h)
-      (sym (later_later (note_at m (tags_at text entries (e + 1) n)) (note_in m (tag_at e)) (placedText places m))))
+      (sym (later_later (note_at m (tags_at text entries (e + 1) n)) (note_in m (tag_at e)) (placed_text places m))))
       (λ k.
       let z = note_256 text entries e (eqb-false (entry_word entries e 0) 1 k) in
       let g : get_or next m 0 ≡ get_or places m 0 = get_or-set_other places (note_number_at text entries e) m (e + 1) 0 (λ w. omega (arith, w, z)) in
       r ∙ rw (k, g))
 
-  no_places : (m : ℕ) → m < 256 → placedText (replicate 256 0) m ≡ none
+  no_places : (m : ℕ) → m < 256 → placed_text (replicate 256 0) m ≡ none
   no_places m h = rw (get_or-replicate {A = ℕ} 256 m 0 0 h)
 
-  note_placed : (places : List ℕ) (n : ℕ) → placed_note text entries places n ≡ note_value n (placedText places n)
+  note_placed : (places : List ℕ) (n : ℕ) → placed_note text entries places n ≡ note_value n (placed_text places n)
   unfolding note_text
   note_placed places n =
       by_cases (eqb (get_or places n 0) 0)
@@ -252,17 +252,17 @@ module _ (text entries : List ℕ) where
   later_none none = refl
   later_none (some x) = refl
 
-  notes_placed : (k n e m : ℕ) → n + k ≤ 256 → placedNotes (note_places text entries (replicate 256 0) e m) k n ≡ notes_from k n (tags_at text entries e m)
+  notes_placed : (k n e m : ℕ) → n + k ≤ 256 → placed_notes (note_places text entries (replicate 256 0) e m) k n ≡ notes_from k n (tags_at text entries e m)
   unfolding notes_from
   notes_placed zero n e m h = refl
   notes_placed (suc k) n e m h =
       let places = note_places text entries (replicate 256 0) e m in
-      let t : placedText places n ≡ note_at n (tags_at text entries e m)
+      let t : placed_text places n ≡ note_at n (tags_at text entries e m)
       = placed_all (replicate 256 0) e m n (length-replicate {A = ℕ} 256 0) (omega arith) ∙ rw (no_places n (omega arith)) (later_none (note_at n (tags_at text entries e m))) in
       rw (note_placed places n, t, notes_placed k (n + 1) e m (omega arith))
 
   -- THEOREM. The notes that have a place are the notes of the tags among the entries.
-  NotesPlaced : (e m : ℕ) → placedNotes (note_places text entries (replicate 256 0) e m) 256 0 ≡ note_values (tags_at text entries e m)
+  NotesPlaced : (e m : ℕ) → placed_notes (note_places text entries (replicate 256 0) e m) 256 0 ≡ note_values (tags_at text entries e m)
   unfolding note_values
   NotesPlaced e m = notes_placed 256 0 e m (omega arith)
 
@@ -318,33 +318,33 @@ module _ (text entries : List ℕ) where
         (λ x. absurd (d (e ∙ holds_one v n h x)))
         (λ x. x)))
 
-    of_some : (v : List ℕ) (k n : ℕ) → n + k ≤ 256 → has_value v (placedNotes places k n) ≡ (leb n (note_of text entries places v) && ltb (note_of text entries places v) (n + k))
+    of_some : (v : List ℕ) (k n : ℕ) → n + k ≤ 256 → has_value v (placed_notes places k n) ≡ (leb n (note_of text entries places v) && ltb (note_of text entries places v) (n + k))
     of_some v zero n h =
         by_cases (leb n (note_of text entries places v))
         (λ e. rw (e, le-ltb (note_of text entries places v) (n + 0) (omega (arith, leb-true n (note_of text entries places v) e))))
         (λ e. rw e)
     of_some v (suc k) n h =
-        holds_append v (placed_note text entries places n) (placedNotes places k (n + 1))
+        holds_append v (placed_note text entries places n) (placed_notes places k (n + 1))
         ∙ rw (← of_one v n (omega arith), of_some v k (n + 1) (omega arith)) (between (note_of text entries places v) n k)
 
     -- ---- which directives a note takes
 
-    placed_more : (j m : ℕ) → placedNotes places (suc j) m ≡ placedNotes places j m ++ placed_note text entries places (m + j)
+    placed_more : (j m : ℕ) → placed_notes places (suc j) m ≡ placed_notes places j m ++ placed_note text entries places (m + j)
     placed_more zero m = let z : m + 0 ≡ m = omega arith in rw (z, append-nil (placed_note text entries places m))
     placed_more (suc j) m =
         let z : m + 1 + j ≡ m + suc j = omega arith in
         ap (λ (vs : List (List ℕ)). placed_note text entries places m ++ vs) (placed_more j (m + 1))
-        ∙ rw (z, append_assoc (placed_note text entries places m) (placedNotes places j (m + 1)) (placed_note text entries places (m + suc j)))
+        ∙ rw (z, append_assoc (placed_note text entries places m) (placed_notes places j (m + 1)) (placed_note text entries places (m + suc j)))
 
     module _ (k n : ℕ) (h : n + suc k ≡ 256) (there : eqb (get_or places n 0) 0 ≡ false) where
       abbrev before : List (List ℕ)
-      before = placedNotes places n 0
+      before = placed_notes places n 0
 
       abbrev own : List ℕ
       own = note_text text entries n (get_or places n 0)
 
       abbrev behind : List (List ℕ)
-      behind = placedNotes places k (n + 1)
+      behind = placed_notes places k (n + 1)
 
       taken_same : (v : List ℕ) → cond (has_value v (before ++ own ∷ behind)) (same v own && not (has_value v before)) (not (is_any before)) ≡ takes_value text entries places n (not (is_any before)) v
       unfolding takes_value
@@ -360,22 +360,22 @@ module _ (text entries : List ℕ) where
       takes_same t = rw (taken_same t.value)
 
     note_full : (k n : ℕ) (is : List Item) → n + k ≡ 256
-        → full_notes text entries places k n (not (is_any (placedNotes places n 0))) is
-        ≡ notes_text (placedNotes places n 0) (placedNotes places k n) is
+        → full_notes text entries places k n (not (is_any (placed_notes places n 0))) is
+        ≡ notes_text (placed_notes places n 0) (placed_notes places k n) is
     unfolding full_note
     note_full zero n is h = refl
     note_full (suc k) n is h =
-        let pre = placedNotes places n 0 in
-        let more : placedNotes places (n + 1) 0 ≡ pre ++ placed_note text entries places n
+        let pre = placed_notes places n 0 in
+        let more : placed_notes places (n + 1) 0 ≡ pre ++ placed_note text entries places n
         = rw add-one (placed_more n 0 ∙ rw zero-add) in
         by_cases (eqb (get_or places n 0) 0)
         (λ e.
-        let q : placedNotes places (n + 1) 0 ≡ pre = more ∙ rw (e, append-nil pre) in
+        let q : placed_notes places (n + 1) 0 ≡ pre = more ∙ rw (e, append-nil pre) in
         rw e (rw q at (note_full k (n + 1) is (omega arith))))
         (λ e.
         let v = note_text text entries n (get_or places n 0) in
-        let vs = placedNotes places k (n + 1) in
-        let q : placedNotes places (n + 1) 0 ≡ pre ++ v ∷ [] = more ∙ rw e in
+        let vs = placed_notes places k (n + 1) in
+        let q : placed_notes places (n + 1) 0 ≡ pre ++ v ∷ [] = more ∙ rw e in
         let r : full_notes text entries places k (n + 1) false is ≡ notes_text (pre ++ v ∷ []) vs is
         = ap (λ (f : Bool). full_notes text entries places k (n + 1) f is) (sym (ap not (any_last pre v))) ∙ (rw q at (note_full k (n + 1) is (omega arith))) in
         rw (
@@ -398,7 +398,7 @@ module _ (text entries : List ℕ) where
     full_over n first is h = let z : 256 - n ≡ 0 = omega arith in rw z
 
     -- THEOREM. The notes that have a place are put as notes in a row.
-    NotesFull : (is : List Item) → full_notes text entries places 256 0 true is ≡ notes_text [] (placedNotes places 256 0) is
+    NotesFull : (is : List Item) → full_notes text entries places 256 0 true is ≡ notes_text [] (placed_notes places 256 0) is
     NotesFull is = note_full 256 0 is refl
 
   -- Where there is no note, nothing is put.
@@ -415,4 +415,4 @@ module _ (text entries : List ℕ) where
   unfolding all_notes
   NotesPut places e m is q =
       NotesFull places is
-      ∙ ap (λ (vs : List (List ℕ)). notes_text [] vs is) (ap (λ (ps : List ℕ). placedNotes ps 256 0) q ∙ NotesPlaced e m)
+      ∙ ap (λ (vs : List (List ℕ)). notes_text [] vs is) (ap (λ (ps : List ℕ). placed_notes ps 256 0) q ∙ NotesPlaced e m)

@@ -68,11 +68,11 @@ written_taken {c} {text} {cards} {entries} {page} {cards₁} {entries₁} {page�
     let t = taken_holds i in
     let nb = taken_boards c text (length cards) (length entries) b e i.answer in
     let w = rw nb at p in
-    let text-put : Puts page 0 (written_text c text) page₁ n = rw (PageHeld c text cards₁ entries₁ t) at w in
+    let text_put : Puts page 0 (written_text c text) page₁ n = rw (PageHeld c text cards₁ entries₁ t) at w in
     let few = BytesFew c text t.short in
-    let put = text-put.put (omega arith) in
+    let put = text_put.put (omega arith) in
     let en : n ≡ length (written_text c text) = omega (arith, put.next) in
-    let el = text-put.kept in
+    let el = text_put.kept in
     let ended : PageEnded n page₁ page₂ (cond (leb n (length page₁)) (Bytes n) (paged.Refused (refusal.PageFull n))) = record { told = refl; page_left = d.page_left } in
     let out : r ≡ page_answer (length (written_text c text)) (length page) = rw (← en, ← el) d.answer in
     let lent : is_written r ≡ leb n (length page₁) = ap is_written d.answer ∙ out_is n (length page₁) in

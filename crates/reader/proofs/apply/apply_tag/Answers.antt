@@ -1,3 +1,4 @@
+use native.Mathlib.Omega.{arith}
 use Rattle.reader.proofs.ApplyLaws.{applied_note, applied_other, applied_digits, applied_plain}
 use mathlib.Core.Logic.{inl, inr}
 use borrow.Author.Tests.{ne_eqb}
@@ -24,4 +25,4 @@ returns-in-18 c =
 pub returns-in_default : goal.returns-in_default
 returns-in_default c =
     let a = c.args in
-    rw (applied_plain a.c a.k a.value.now a.place a.b (ne_eqb _ _ c.in_default.in_default-own.rest.0.1) (ne_eqb _ _ c.in_default.in_default-own.rest.1), ← c.identity_by-id.ensures, ← c.values_by-values.ensures, ← c.contract_by.ensures)
+    rw (applied_plain a.c a.k a.value.now a.place a.b (ne_eqb a.k 4 (omega arith)) (ne_eqb a.k 18 (omega arith)), ← c.identity_by-id.ensures, ← c.values_by-values.ensures, ← c.contract_by.ensures)

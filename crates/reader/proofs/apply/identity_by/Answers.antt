@@ -1,3 +1,4 @@
+use native.Mathlib.Omega.{arith}
 use borrow.Author.Tests.{ne_eqb}
 use Rattle.reader.specs.Boards.{identity_by}
 use Rattle.reader.proofs.apply.identity_by.Goals as goal
@@ -30,4 +31,4 @@ returns-in-10 c =
 pub returns-in_default : goal.returns-in_default
 unfolding identity_by
 returns-in_default c =
-    rw (ne_eqb _ _ c.in_default.in_default-own.rest.0.0.0.0.1, ne_eqb _ _ c.in_default.in_default-own.rest.0.0.0.1, ne_eqb _ _ c.in_default.in_default-own.rest.0.0.1, ne_eqb _ _ c.in_default.in_default-own.rest.0.1, ne_eqb _ _ c.in_default.in_default-own.rest.1)
+    rw (ne_eqb c.args.k 1 (omega arith), ne_eqb c.args.k 2 (omega arith), ne_eqb c.args.k 3 (omega arith), ne_eqb c.args.k 8 (omega arith), ne_eqb c.args.k 10 (omega arith))

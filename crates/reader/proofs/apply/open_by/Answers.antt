@@ -1,3 +1,4 @@
+use native.Mathlib.Omega.{arith}
 use Rattle.reader.proofs.ApplyLaws.{opened}
 use borrow.Author.Tests.{ne_eqb}
 use Rattle.reader.specs.Boards.{open_by}
@@ -25,4 +26,4 @@ pub returns-in_default : goal.returns-in_default
 unfolding open_by
 returns-in_default c =
     let a = c.args in
-    opened a.c a.k a.value.now a.at a.split _ (rw (ne_eqb _ _ c.in_default.in_default-own.rest.0.0.1, ne_eqb _ _ c.in_default.in_default-own.rest.0.1, ne_eqb _ _ c.in_default.in_default-own.rest.1) c.no_open.ensures)
+    opened a.c a.k a.value.now a.at a.split _ (rw (ne_eqb a.k 15 (omega arith), ne_eqb a.k 16 (omega arith), ne_eqb a.k 19 (omega arith)) c.no_open.ensures)

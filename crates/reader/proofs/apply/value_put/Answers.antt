@@ -1,3 +1,4 @@
+use native.Mathlib.Omega.{arith}
 use borrow.Author.Tests.{ne_eqb}
 use Rattle.reader.proofs.apply.value_put.Goals as goal
 
@@ -51,4 +52,4 @@ returns-in-21 c =
 
 pub returns-in_default : goal.returns-in_default
 returns-in_default c =
-    simp (ne_eqb _ _ c.in_default.in_default-own.rest.0.0.0.0.0.0.0.0.0.0.0.1, ne_eqb _ _ c.in_default.in_default-own.rest.0.0.0.0.0.0.0.0.0.0.1, ne_eqb _ _ c.in_default.in_default-own.rest.0.0.0.0.0.0.0.0.0.1, ne_eqb _ _ c.in_default.in_default-own.rest.0.0.0.0.0.0.0.0.1, ne_eqb _ _ c.in_default.in_default-own.rest.0.0.0.0.0.0.0.1, ne_eqb _ _ c.in_default.in_default-own.rest.0.0.0.0.0.0.1, ne_eqb _ _ c.in_default.in_default-own.rest.0.0.0.0.0.1, ne_eqb _ _ c.in_default.in_default-own.rest.0.0.0.0.1, ne_eqb _ _ c.in_default.in_default-own.rest.0.0.0.1, ne_eqb _ _ c.in_default.in_default-own.rest.0.0.1, ne_eqb _ _ c.in_default.in_default-own.rest.0.1, ne_eqb _ _ c.in_default.in_default-own.rest.1)
+    simp (ne_eqb c.args.k 1 (omega arith), ne_eqb c.args.k 4 (omega arith), ne_eqb c.args.k 5 (omega arith), ne_eqb c.args.k 6 (omega arith), ne_eqb c.args.k 7 (omega arith), ne_eqb c.args.k 9 (omega arith), ne_eqb c.args.k 11 (omega arith), ne_eqb c.args.k 12 (omega arith), ne_eqb c.args.k 13 (omega arith), ne_eqb c.args.k 14 (omega arith), ne_eqb c.args.k 20 (omega arith), ne_eqb c.args.k 21 (omega arith))

@@ -7,7 +7,7 @@ use Rattle.reader.proofs.reading.table_closed.Goals as goal
 pub returns-in_default : goal.returns-in_default
 returns-in_default c =
     let a = c.args in
-    rw c.if-fault.false (sym (rows_refused a.b (gathered a.w.rows.cells.tricks) c.gathered_table-read.result c.gathered_table-read.ensures (λ e. omega (arith, rw e at c.in_default.in_default-own.keys2))))
+    rw c.if-fault.false (sym (rows_refused a.b (gathered a.w.rows.cells.tricks) c.gathered_table-read.result c.gathered_table-read.ensures c.in_default.not-Table))
 
 pub returns : goal.returns
 returns c =

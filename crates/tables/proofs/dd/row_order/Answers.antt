@@ -13,4 +13,4 @@ returns-in-2 c = (rw c.in-2.is, omega (arith, c.in-2.is))
 
 pub returns-in_default : goal.returns-in_default
 unfolding row_order
-returns-in_default c = (rw (ne_eqb _ _ c.in_default.in_default-own.rest.0.1, ne_eqb _ _ c.in_default.in_default-own.rest.1), omega arith)
+returns-in_default c = (rw (ne_eqb c.args.k 1 (omega arith), ne_eqb c.args.k 2 (omega arith)), omega arith)

@@ -8,12 +8,12 @@ unfolding result_text
 returns-then-met-eq0 c =
     rw c.if-met-eq0.true (puts_nothing _ _)
 
-pub returns-then-res-lt128 : goal.returns-then-res-lt128
+pub returns-then-outcome-lt128 : goal.returns-then-outcome-lt128
 unfolding result_text
-returns-then-res-lt128 c =
-    rw (ne_eqb _ _ c.if-met-eq0.false, lt-ltb _ _ c.if-res-lt128.true) (puts_then c.put_byte-a.ensures c.put_number.ensures)
+returns-then-outcome-lt128 c =
+    rw (ne_eqb _ _ c.if-met-eq0.false, lt-ltb _ _ c.if-outcome-lt128.true) (puts_then c.put_byte-a.ensures c.put_number.ensures)
 
 pub returns : goal.returns
 unfolding result_text
 returns c =
-    rw (ne_eqb _ _ c.if-met-eq0.false, le-ltb _ _ c.if-res-lt128.false) c.put_number-2.ensures
+    rw (ne_eqb _ _ c.if-met-eq0.false, le-ltb _ _ c.if-outcome-lt128.false) c.put_number-2.ensures
