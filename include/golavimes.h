@@ -2,8 +2,8 @@
  * Golavimes: PBN (Portable Bridge Notation) for C and C++.
  *
  * Link with libgolavimes.a, which tools/archive writes to
- * target/staticlib. It is for x86-64 Linux. docs/FORMAT.md says what every
- * answer means. Here are
+ * target/staticlib. It is for Linux on x86-64 processors of level v2 or above
+ * (SSE4.2, POPCNT). docs/FORMAT.md says what every answer means. Here are
  *   - reading: golavimes_read;
  *   - writing, an edition read and written again with every comment beside its
  *     tag, or at its board's end: golavimes_write;
