@@ -20,9 +20,8 @@ use Rattle.planning.specs.declared.editions.Editions.TheVariants as editions
 use Rattle.planning.specs.Plans.{Boxes, old_reading, new_reading, editions_of, are_both, BoxesAfter}
 use Rattle.planning.proofs.BoxLaws.{taken_fits}
 use Rattle.planning.proofs.BothLaws.{both_are_taken, taken_short}
-use Rattle.writer.specs.declared.write.Writing.TheVariants.{Written}
 use Rattle.writer.specs.Pages.{written_text}
-use Rattle.writer.specs.Writings.{written_by, writing_of, is_written}
+use Rattle.writer.specs.Writings.{written_by, writing_of}
 use Rattle.writer.specs.Given.{finished_text}
 use Rattle.writer.specs.Finishings.{finishing_of, is_finished}
 use Rattle.golavimes.specs.Answers.{reading_numbers, writing_numbers, editions_head, head_then, WritingOut, FinishOut}
@@ -74,7 +73,7 @@ reading_zero (Err f) e = absurd (read_number_lem f e)
 
 -- A writing that begins with 0: the edition was taken, and the page was long enough.
 pub writing_zero : (bs : List ℕ) (m : ℕ) (r : Result Counts ReadRefusal) → get_or (writing_numbers (written_by bs m r)) 0 0 ≡ 0
-    → (is_ok r ≡ true) × (written_by bs m r ≡ Written (length bs))
+    → (is_ok r ≡ true) × (written_by bs m r ≡ Ok (length bs))
 writing_zero bs m (Ok n) e =
     by_cases (leb (length bs) m)
     (λ t. (refl, rw t))
@@ -148,7 +147,7 @@ write_held c text cards entries page cards' entries' page' answer' o =
     let t =
     writing_zero (written_text c text) (length page) (reading_of c text (length cards) (length entries))
     (sym (ap (λ (l : List ℕ). get_or l 0 0) o.told) ∙ sym o.returned) in
-    let out = ap is_written t.1 in
+    let out = ap is_ok t.1 in
     held c text cards' entries' (length cards) (length entries) t.0
     (o.lent_after.cards_after ∙ rw out) (o.lent_after.entries_after ∙ rw out)
 

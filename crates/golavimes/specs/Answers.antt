@@ -29,8 +29,7 @@ use Rattle.planning.specs.declared.plan.Planning.TheVariants as planning
 use Rattle.planning.specs.States.{state_number, from_of}
 use Rattle.planning.specs.Slips.{slips_of}
 use Rattle.planning.specs.Plans.{plan_number, plan_edition, plan_carries, Boxes, editions_of, are_both, planning_of, is_planned, plans_of, BoxesAfter, state_by, behind_by, boards_after, searches_after, words_by}
-use Rattle.writer.specs.declared.write.Writing.{Writing}
-use Rattle.writer.specs.declared.write.Writing.TheVariants as writing
+use Rattle.writer.specs.declared.write.WriteRefusal.{WriteRefusal}
 use Rattle.writer.specs.Writings.{write_number, write_carries, writing_of, IsWritten}
 use Rattle.writer.specs.declared.finish.Finishing.{Finishing}
 use Rattle.writer.specs.declared.finish.Finishing.TheVariants as finishing
@@ -57,9 +56,9 @@ reading_numbers (Ok n) = 0 ∷ 0 ∷ 0 ∷ n.boards ∷ n.entries ∷ []
 reading_numbers (Err f) = read_number f ∷ 0 ∷ read_carries f ∷ 0 ∷ 0 ∷ []
 
 -- A written edition's answer: the bytes written.
-abbrev pub writing_numbers : Writing → List ℕ
-writing_numbers (writing.Written n) = 0 ∷ 0 ∷ 0 ∷ n ∷ []
-writing_numbers (writing.Refused f) = write_number f ∷ 0 ∷ write_carries f ∷ 0 ∷ []
+abbrev pub writing_numbers : Result ℕ WriteRefusal → List ℕ
+writing_numbers (Ok n) = 0 ∷ 0 ∷ 0 ∷ n ∷ []
+writing_numbers (Err f) = write_number f ∷ 0 ∷ write_carries f ∷ 0 ∷ []
 
 -- A finished edition's answer: the bytes written.
 abbrev pub finishing_numbers : Finishing → List ℕ

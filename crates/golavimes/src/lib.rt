@@ -15,7 +15,7 @@ use reader::edition::{Counts, ReadRefusal};
 use tables::dd::{Decoded, TableRead};
 use tables::page::Written;
 use writer::finish::Finishing;
-use writer::write::Writing;
+use writer::write::WriteRefusal;
 
 fn written_numbers(w: Written) -> [u64; 4]
     ensures { result ≡ written_numbers w }
@@ -138,12 +138,12 @@ pub fn golavimes_read(
     numbers[0]
 }
 
-fn writing_numbers(w: Writing) -> [u64; 4]
+fn writing_numbers(w: Result<u64, WriteRefusal>) -> [u64; 4]
     ensures { result ≡ writing_numbers w }
 {
     match w {
-        Writing::Written(n) => [0, 0, 0, n],
-        Writing::Refused(f) => [
+        Ok(n) => [0, 0, 0, n],
+        Err(f) => [
             writer::write::write_number(f),
             0,
             writer::write::write_carried(f),
