@@ -23,7 +23,7 @@ use Rattle.planning.proofs.BothLaws.{both_are_taken, taken_short}
 use Rattle.writer.specs.Pages.{written_text}
 use Rattle.writer.specs.Writings.{written_by, writing_of}
 use Rattle.writer.specs.Given.{finished_text}
-use Rattle.writer.specs.Finishings.{finishing_of, is_finished}
+use Rattle.writer.specs.Finishings.{finishing_of}
 use Rattle.golavimes.specs.Answers.{reading_numbers, writing_numbers, editions_head, head_then, WritingOut, FinishOut}
 use Rattle.demands.specs.Demand1.{solve_in}
 use Rattle.demands.specs.Boards.{BothBack, by_plan, by_state, by_record, by_boards, by_searches, by_finish, HandedBack, by_read, by_write, as_old, as_new}
@@ -119,8 +119,8 @@ finish_held c old new boxes answers page boxes' page' answer' o =
     let d =
     is_done (editions_of c old new boxes) (solve_in c old new) answers (length (finished_text c old new answers)) (length page)
     (sym (ap (λ (l : List ℕ). get_or l 0 0) o.told) ∙ sym o.returned) in
-    boxes_held c old new boxes boxes' (is_finished (finishing_of c old new boxes answers (length page)))
-    d.taken (ap is_finished d.is) o.lent_after.boxes_left
+    boxes_held c old new boxes boxes' (is_ok (finishing_of c old new boxes answers (length page)))
+    d.taken (ap is_ok d.is) o.lent_after.boxes_left
 
 both_handed : (c : Conventions) (old new : List ℕ) (boxes' : Boxes) → BothBack c old new boxes' → HeldBoth c old new boxes'
 both_handed c old new boxes'' (by_plan {boxes = boxes} {slips = slips} {boxes' = boxes'} {slips' = slips'} {answer' = answer'} o) =

@@ -31,8 +31,7 @@ use Rattle.planning.specs.Slips.{slips_of}
 use Rattle.planning.specs.Plans.{plan_number, plan_edition, plan_carries, Boxes, editions_of, are_both, planning_of, is_planned, plans_of, BoxesAfter, state_by, behind_by, boards_after, searches_after, words_by}
 use Rattle.writer.specs.declared.write.WriteRefusal.{WriteRefusal}
 use Rattle.writer.specs.Writings.{write_number, write_carries, writing_of, IsWritten}
-use Rattle.writer.specs.declared.finish.Finishing.{Finishing}
-use Rattle.writer.specs.declared.finish.Finishing.TheVariants as finishing
+use Rattle.writer.specs.declared.finish.FinishRefusal.{FinishRefusal}
 use Rattle.writer.specs.Finishings.{finish_number, finish_edition, finish_carries, finishing_of, IsFinished}
 use Rattle.lin.specs.declared.convert.Converted.{Converted}
 use Rattle.lin.specs.declared.convert.Converted.TheVariants.{Page}
@@ -61,9 +60,9 @@ writing_numbers (Ok n) = 0 ∷ 0 ∷ 0 ∷ n ∷ []
 writing_numbers (Err f) = write_number f ∷ 0 ∷ write_carries f ∷ 0 ∷ []
 
 -- A finished edition's answer: the bytes written.
-abbrev pub finishing_numbers : Finishing → List ℕ
-finishing_numbers (finishing.Finished n) = 0 ∷ 0 ∷ 0 ∷ n ∷ []
-finishing_numbers (finishing.Refused f) = finish_number f ∷ finish_edition f ∷ finish_carries f ∷ 0 ∷ []
+abbrev pub finishing_numbers : Result ℕ FinishRefusal → List ℕ
+finishing_numbers (Ok n) = 0 ∷ 0 ∷ 0 ∷ n ∷ []
+finishing_numbers (Err f) = finish_number f ∷ finish_edition f ∷ finish_carries f ∷ 0 ∷ []
 
 -- A converted LIN text's answer: the bytes written and the boards.
 abbrev pub converted_numbers : Converted → List ℕ

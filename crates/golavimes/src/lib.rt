@@ -14,7 +14,7 @@ use planning::state::BoardState;
 use reader::edition::{Counts, ReadRefusal};
 use tables::dd::{Decoded, TableRead};
 use tables::page::Written;
-use writer::finish::Finishing;
+use writer::finish::FinishRefusal;
 use writer::write::WriteRefusal;
 
 fn written_numbers(w: Written) -> [u64; 4]
@@ -446,12 +446,12 @@ pub fn golavimes_searches(
     numbers[0]
 }
 
-fn finishing_numbers(w: Finishing) -> [u64; 4]
+fn finishing_numbers(w: Result<u64, FinishRefusal>) -> [u64; 4]
     ensures { result ≡ finishing_numbers w }
 {
     match w {
-        Finishing::Finished(n) => [0, 0, 0, n],
-        Finishing::Refused(f) => [
+        Ok(n) => [0, 0, 0, n],
+        Err(f) => [
             writer::finish::finish_number(f),
             writer::finish::finish_edition(f),
             writer::finish::finish_carried(f),
