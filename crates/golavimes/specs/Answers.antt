@@ -34,8 +34,7 @@ use Rattle.writer.specs.Writings.{write_number, write_carries, writing_of, IsWri
 use Rattle.writer.specs.declared.finish.FinishRefusal.{FinishRefusal}
 use Rattle.writer.specs.Finishings.{finish_number, finish_edition, finish_carries, finishing_of, IsFinished}
 use Rattle.lin.specs.declared.convert.Converted.{Converted}
-use Rattle.lin.specs.declared.convert.Converted.TheVariants.{Page}
-use Rattle.lin.specs.declared.convert.Converted.TheVariants as converted
+use Rattle.lin.specs.declared.convert.LinRefusal.{LinRefusal}
 use Rattle.lin.specs.Conversions.{lin_number, lin_carries, converted_of, IsConverted}
 use Rattle.golavimes.specs.declared.Head.{Head}
 
@@ -65,9 +64,9 @@ finishing_numbers (Ok n) = 0 ∷ 0 ∷ 0 ∷ n ∷ []
 finishing_numbers (Err f) = finish_number f ∷ finish_edition f ∷ finish_carries f ∷ 0 ∷ []
 
 -- A converted LIN text's answer: the bytes written and the boards.
-abbrev pub converted_numbers : Converted → List ℕ
-converted_numbers (Page n boards) = 0 ∷ 0 ∷ 0 ∷ n ∷ boards ∷ []
-converted_numbers (converted.Refused f) = lin_number f ∷ 0 ∷ lin_carries f ∷ 0 ∷ 0 ∷ []
+abbrev pub converted_numbers : Result Converted LinRefusal → List ℕ
+converted_numbers (Ok k) = 0 ∷ 0 ∷ 0 ∷ k.bytes ∷ k.boards ∷ []
+converted_numbers (Err f) = lin_number f ∷ 0 ∷ lin_carries f ∷ 0 ∷ 0 ∷ []
 
 -- The first three numbers of planning's answers: refusal, edition (0 none, 1 old, 2 new), carried number.
 abbrev pub refused_head : PlanRefusal → Head

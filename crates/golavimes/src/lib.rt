@@ -6,7 +6,7 @@ ghost use Rattle.golavimes.specs.Answers.{written_numbers, decoded_numbers, read
 ghost use Rattle.tables.specs.Letters.{built_in};
 ghost use Rattle.tables.specs.Tables.{digits_text, header_text, rows_text, table_of_digits, table_of_rows};
 
-use lin::convert::Converted;
+use lin::convert::{Converted, LinRefusal};
 use planning::behind::Behind;
 use planning::editions::Editions;
 use planning::plan::{PlanRefusal, Planning};
@@ -167,12 +167,12 @@ pub fn golavimes_write(
     numbers[0]
 }
 
-fn converted_numbers(r: Converted) -> [u64; 5]
+fn converted_numbers(r: Result<Converted, LinRefusal>) -> [u64; 5]
     ensures { result ≡ converted_numbers r }
 {
     match r {
-        Converted::Page(bytes, boards) => [0, 0, 0, bytes, boards],
-        Converted::Refused(f) => [
+        Ok(page) => [0, 0, 0, page.bytes, page.boards],
+        Err(f) => [
             lin::convert::lin_number(f),
             0,
             lin::convert::lin_carried(f),
@@ -450,7 +450,7 @@ fn finishing_numbers(w: Result<u64, FinishRefusal>) -> [u64; 4]
     ensures { result ≡ finishing_numbers w }
 {
     match w {
-        Ok(n) => [0, 0, 0, n],
+        Ok(bytes) => [0, 0, 0, bytes],
         Err(f) => [
             writer::finish::finish_number(f),
             writer::finish::finish_edition(f),
