@@ -2,9 +2,10 @@
 ghost use Rattle.std.specs.Prelude.{◌≡◌};
 ghost use Rattle.planning.specs.Plans.{editions_number, editions_carries, edition_refused, BothRead};
 
-use reader::edition::{ReadRefusal, read_carried, read_number, read_pbn_with};
+use reader::edition::{ReadRefusal, read_pbn_with};
 use reader::store::zero;
 use tables::letters::Conventions;
+use tables::refused::Refused;
 
 // Refusals 1 to 3 of the old edition, then of the new.
 #[derive(Clone, Copy)]
@@ -24,8 +25,8 @@ pub fn editions_number(f: EditionsRefusal) -> u64
     ensures { result ≡ editions_number f }
 {
     match f {
-        EditionsRefusal::Old(g) => read_number(g),
-        EditionsRefusal::New(g) => read_number(g),
+        EditionsRefusal::Old(g) => g.number(),
+        EditionsRefusal::New(g) => g.number(),
     }
 }
 
@@ -33,8 +34,8 @@ pub fn editions_carried(f: EditionsRefusal) -> u64
     ensures { result ≡ editions_carries f }
 {
     match f {
-        EditionsRefusal::Old(g) => read_carried(g),
-        EditionsRefusal::New(g) => read_carried(g),
+        EditionsRefusal::Old(g) => g.carried(),
+        EditionsRefusal::New(g) => g.carried(),
     }
 }
 
