@@ -1,6 +1,6 @@
 // The two PBN forms of a double-dummy table (dd.rs). A table is an array of exactly 20 bytes, its cells in the order N, S, E, W,
 // each NT, S, H, D, C.
-ghost use Rattle.std.specs.Prelude.{◌≡◌, ◌+◌, ◌≤◌, ◌<◌, length, replicate};
+ghost use Rattle.std.specs.Prelude.{◌≡◌, ◌+◌, ◌≤◌, ◌<◌, length, replicate, MatchOption};
 ghost use Rattle.tables.specs.Letters.{built_in};
 ghost use Rattle.tables.specs.Text.{characters};
 ghost use Rattle.tables.specs.Page.{Wrote};
@@ -44,24 +44,22 @@ pub fn encode_tricks(tricks: u8) -> u8
     ensures { result ≡ digit_byte tricks }
 {
     match tricks {
-        0..=9 => 48 + tricks,
-        10..=12 => 87 + tricks,
-        _ => 100,
+        0..=9 => b'0' + tricks,
+        10..=12 => b'a' - 10 + tricks,
+        _ => b'd',
     }
 }
 
-// The inverse of encode_tricks, also of A to D; 14 where the byte is no digit.
-fn decode_tricks(b: u8) -> u8
-    ensures { result ≡ digit_of b }
+// The inverse of encode_tricks, also of A to D.
+#[tactic(auto, unfolding(crate::specs::Tables::digit_of))]
+fn decode_tricks(b: u8) -> Option<u8>
+    ensures { MatchOption result (13 < digit_of b) (λ d. (d ≡ digit_of b) × (d ≤ 13)) }
 {
     match b {
-        0..=47 => 14,
-        48..=57 => b - 48,
-        58..=64 => 14,
-        65..=68 => b - 55,
-        69..=96 => 14,
-        97..=100 => b - 87,
-        _ => 14,
+        b'0'..=b'9' => Some(b - b'0'),
+        b'A'..=b'D' => Some(b - b'A' + 10),
+        b'a'..=b'd' => Some(b - b'a' + 10),
+        _ => None,
     }
 }
 
@@ -70,10 +68,8 @@ fn put_digits(page: &mut [u8], at: usize, table: &[u8]) -> usize
     ensures { Put page.old at (digits_text table.now) page.new result }
 {
     let mut k = at;
-    let mut i = 0;
-    while i < table.len() {
-        k = put_byte(page, k, encode_tricks(table[i]));
-        i += 1;
+    for tricks in table {
+        k = put_byte(page, k, encode_tricks(*tricks));
     }
     k
 }
@@ -92,14 +88,11 @@ fn digits_read(value: &[u8]) -> TableRead
     ensures { result ≡ table_read (digits_reading (characters value.now)) }
 {
     let mut table = [0; 20];
-    let mut i = 0;
-    while i < 20 {
-        let d = decode_tricks(first_character(from(value, i)));
-        if d > 13 {
+    for i in 0..20 {
+        let Some(tricks) = decode_tricks(first_character(from(value, i))) else {
             return refused(Refusal::Digit(i as u64));
-        }
-        table[i] = d;
-        i += 1;
+        };
+        table[i] = tricks;
     }
     TableRead {
         answer: Decoded::Table,
@@ -123,14 +116,7 @@ pub fn dd_table_from_pbn(value: &[u8]) -> TableRead
 fn result_width(table: &[u8]) -> usize
     ensures { (result ≡ width_of table.now) × (result ≤ 2) }
 {
-    let mut i = 0;
-    while i < table.len() {
-        if table[i] > 9 {
-            return 2;
-        }
-        i += 1;
-    }
-    1
+    if table.iter().any(|tricks| *tricks > 9) { 2 } else { 1 }
 }
 
 // The value of an OptimumResultTable tag.
@@ -182,11 +168,9 @@ fn put_rows(page: &mut [u8], at: usize, c: Conventions, w: usize, table: &[u8]) 
     ensures { Put page.old at (rows_from c w 0 table.now) page.new result }
 {
     let mut k = at;
-    let mut i = 0;
-    while i < table.len() {
-        let a = put_row(page, k, c, w, i as u8, table[i]);
-        k = put_byte(page, a, 10);
-        i += 1;
+    for (i, tricks) in table.iter().enumerate() {
+        let a = put_row(page, k, c, w, i as u8, *tricks);
+        k = put_byte(page, a, b'\n');
     }
     k
 }
@@ -240,15 +224,12 @@ pub fn read_row(c: Conventions, row: &[u8], n: u64) -> Row
     ensures { result ≡ row_of c n row.now }
 {
     let first = trim_start(row);
-    if first.len() == 0 {
+    if first.is_empty() {
         return Row::Blank;
     }
     let second = next_words(first);
     let third = next_words(second);
-    if third.len() == 0 {
-        return Row::Fault(Refusal::Fields(n));
-    }
-    if next_words(third).len() > 0 {
+    if third.is_empty() || !next_words(third).is_empty() {
         return Row::Fault(Refusal::Fields(n));
     }
     read_fields(
@@ -292,13 +273,7 @@ pub fn stored_row(cells: Cells, row: Row) -> Cells
 fn count_missing(cells: &[u8]) -> usize
     ensures { (result ≡ missing cells.now) × (result ≤ length cells.now) }
 {
-    let mut n = 0;
-    let mut i = 0;
-    while i < cells.len() {
-        n = one_more_unless(n, cells[i] != 255);
-        i += 1;
-    }
-    n
+    cells.iter().filter(|tricks| **tricks == 255).count()
 }
 
 // The table of cells that all rows have given.

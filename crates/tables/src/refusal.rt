@@ -35,14 +35,14 @@ pub fn carried(r: Refusal) -> u64
     ensures { result ≡ refusal_carries r }
 {
     match r {
-        Refusal::PageFull(n) => n,
-        Refusal::Length(n) => n,
-        Refusal::Digit(n) => n,
-        Refusal::Fields(n) => n,
-        Refusal::Declarer(n) => n,
-        Refusal::Denomination(n) => n,
-        Refusal::Outcome(n) => n,
-        Refusal::Over(n) => n,
-        Refusal::Missing(n) => n,
+        Refusal::PageFull(n)
+        | Refusal::Length(n)
+        | Refusal::Digit(n)
+        | Refusal::Fields(n)
+        | Refusal::Declarer(n)
+        | Refusal::Denomination(n)
+        | Refusal::Outcome(n)
+        | Refusal::Over(n)
+        | Refusal::Missing(n) => n,
     }
 }
