@@ -1,23 +1,26 @@
 -- Laws of tables that the proofs of functions use.
 use Prim.Native.Nat.{ℕ, ◌+◌, ◌*◌, ◌%◌, ◌≤◌, ◌<◌}
 use mathlib.Core.Path.{◌≡◌, refl, sym, ap, ◌∙◌}
-use mathlib.Core.Bool.{true, cond, not}
+use mathlib.Core.Bool.{true, cond}
 use mathlib.Core.List.{List, [], ◌∷◌, ◌++◌, map, append_assoc, append-nil}
 use mathlib.Core.Option.{some}
 use native.Mathlib.Numerals.{add-one}
 use native.Mathlib.Omega.{arith}
-use lib.Dec.{eqb}
+use lib.Dec.{eqb, ltb}
 use lib.ListN.{length, drop, take, get_or, set, replicate, length-append, length-set, length-drop}
 use lib.Seq.{take-suc-set, take_all, drop-drop}
 use borrow.Author.Tests.{eqb-true, eqb-false, lt-ltb, le-ltb}
+use Rattle.std.specs.List.{count_by, list_any}
+use Rattle.std.proofs.lemmas.List.Sums.{count_by-le-length}
+use Rattle.std.proofs.lemmas.List.Recursion.{is_count_by}
 use Rattle.tables.specs.declared.letters.Conventions.{Conventions}
 use Rattle.tables.specs.declared.refusal.Refusal.{Refusal}
 use Rattle.tables.specs.declared.refusal.Refusal.TheVariants.{Digit, Fields}
 use Rattle.tables.specs.declared.dd.Row.{Row}
 use Rattle.tables.specs.declared.dd.Row.TheVariants.{Blank, Fault}
 use Rattle.tables.specs.Text.{is_inside, single, characters, first_character, fields, word, past_word, trim_start, lines, before, differs}
-use Rattle.tables.specs.Tables.{TableReading, holds, refuses, digit_of, first_bad, digits_reading, column_text, row_text, rows_from, fields_row, row_of, stored_row, unless, gather, gathered, missing}
-use Rattle.tables.proofs.Laws.{step, stop, by_cases}
+use Rattle.tables.specs.Tables.{TableReading, holds, refuses, digit_of, first_bad, digits_reading, column_text, row_text, rows_from, fields_row, row_of, stored_row, unless, gather, gathered, missing, width_of}
+use Rattle.tables.proofs.Laws.{stop, by_cases}
 use Rattle.tables.proofs.TextLaws.{first_is, characters_next, length_zero, fields_none, fields_some, lines_step, take_front}
 use Rattle.tables.proofs.PageLaws.{right_few}
 
@@ -37,11 +40,21 @@ rows_few c w cell (t ∷ ts) h = simp length-append (omega (arith, row_few c w c
 
 -- ---- cells absent
 
-pub missing_turn : (s : List ℕ) (i n m : ℕ) → i < length s → m ≡ cond (not (eqb (get_or s i 0) 255)) n (n + 1) → n + missing (drop i s) ≡ m + missing (drop (i + 1) s)
-missing_turn s i n m h e =
-    by_cases (eqb (get_or s i 0) 255)
-    (λ t. rw (step s i h, t) (omega (arith, rw t at e)))
-    (λ t. rw (step s i h, t) (omega (arith, rw t at e)))
+missing_count : (s : List ℕ) → missing s ≡ count_by (λ t. eqb t 255) s
+missing_count s = is_count_by missing (λ t. eqb t 255) refl (λ t ts. by_cases (eqb t 255) (λ e. rw e (omega arith)) (λ e. rw e)) s
+
+-- How many cells no row has given.
+pub missing_counted : (s : List ℕ) {n : ℕ} → n ≡ count_by (λ t. eqb t 255) s → (n ≡ missing s) × (n ≤ length s)
+missing_counted s e = (e ∙ sym (missing_count s), rw e (count_by-le-length (λ t. eqb t 255) s))
+
+-- The width is 2 where some cell exceeds 9.
+pub width_any : (s : List ℕ) → width_of s ≡ cond (list_any (λ t. ltb 9 t) s) 2 1
+width_any [] = refl
+width_any (t ∷ ts) = by_cases (ltb 9 t) (λ e. rw e) (λ e. rw e (width_any ts))
+
+pub width_two : (s : List ℕ) → width_of s ≤ 2
+width_two [] = omega arith
+width_two (t ∷ ts) = by_cases (ltb 9 t) (λ e. rw e (omega arith)) (λ e. rw e (width_two ts))
 
 -- ---- digits, one at a time
 
@@ -120,13 +133,13 @@ module _ (c : Conventions) (n : ℕ) (row u v w : List ℕ) (eu : u ≡ trim_sta
   third_field h = second_field (not_empty h) ∙ rw ew (ap (λ (l : List (List ℕ)). word u ∷ word v ∷ l) (fields_some (past_word v) (rw ew at h)))
 
   -- There is a fourth.
-  pub row_long : (length w ≡ 0 → ⊥) → 0 < length (trim_start (past_word w)) → Fault (Fields n) ≡ row_of c n row
+  pub row_long : (length w ≡ 0 → ⊥) → (length (trim_start (past_word w)) ≡ 0 → ⊥) → Fault (Fields n) ≡ row_of c n row
   unfolding row_of
-  row_long h k = rw (third_field h, fields_some (past_word w) (λ z. omega arith))
+  row_long h k = rw (third_field h, fields_some (past_word w) k)
 
-  pub row_three : (length w ≡ 0 → ⊥) → length (trim_start (past_word w)) ≤ 0 → fields_row c n (word u) (word v) (word w) ≡ row_of c n row
+  pub row_three : (length w ≡ 0 → ⊥) → length (trim_start (past_word w)) ≡ 0 → fields_row c n (word u) (word v) (word w) ≡ row_of c n row
   unfolding row_of
-  row_three h k = rw (third_field h, fields_none (past_word w) (omega arith))
+  row_three h k = rw (third_field h, fields_none (past_word w) k)
 
 -- ---- rows, one at a time
 

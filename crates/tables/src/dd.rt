@@ -1,19 +1,20 @@
 // The two PBN forms of a double-dummy table (dd.rs). A table is an array of exactly 20 bytes, its cells in the order N, S, E, W,
 // each NT, S, H, D, C.
-ghost use Rattle.std.specs.Prelude.{◌≡◌, ◌+◌, ◌≤◌, ◌<◌, length, replicate, MatchOption};
+ghost use Rattle.std.specs.Prelude.{◌≡◌, ◌+◌, ◌≤◌, ◌<◌, length, replicate, ltb, MatchOption};
+ghost use Rattle.std.specs.List.{list_any};
 ghost use Rattle.tables.specs.Letters.{built_in};
 ghost use Rattle.tables.specs.Text.{characters};
 ghost use Rattle.tables.specs.Page.{Wrote};
-ghost use Rattle.tables.specs.PageSteps.{Put};
+ghost use Rattle.tables.specs.Puts.{Puts};
 ghost use Rattle.tables.specs.Tables.{table_read, digit_byte, digits_text, digit_of, digits_reading, table_of_digits, width_of, header_text, row_order, cell_of, column_text, row_text, rows_from, rows_text, fields_row, row_of, stored_row, missing, gathered, table_of_rows, refuses};
 
 use crate::letters::{Conventions, built_in, seat_letter, seat_of, strain_of, suit_letter};
 use crate::numbers::{Number, parse_number};
-use crate::page::{Written, finish, put_byte, put_right, put_text};
+use crate::page::{Page, Written, finish};
 use crate::refusal::Refusal;
 use crate::text::{
-    count_characters, first_character, first_word, from, index_of, next_words, one_more_unless,
-    trim, trim_start, upto,
+    count_characters, first_character, first_word, from, index_of, next_words, trim, trim_start,
+    upto,
 };
 
 // The answer of a reader of tables.
@@ -63,22 +64,21 @@ fn decode_tricks(b: u8) -> Option<u8>
     }
 }
 
-fn put_digits(page: &mut [u8], at: usize, table: &[u8]) -> usize
-    requires { at + length table.now ≤ 1099511627776 }
-    ensures { Put page.old at (digits_text table.now) page.new result }
+fn put_digits(page: &mut Page, table: &[u8])
+    ensures { Puts page.old (digits_text table.now) page.new }
 {
-    let mut k = at;
     for tricks in table {
-        k = put_byte(page, k, encode_tricks(*tricks));
+        page.put_byte(encode_tricks(*tricks));
     }
-    k
 }
 
 // The value of a DoubleDummyTricks tag.
 pub fn dd_table_to_pbn(table: &[u8; 20], page: &mut [u8]) -> Written
     ensures { Wrote (digits_text table.now) page.old page.new result }
 {
-    let n = put_digits(page, 0, table);
+    let mut put = Page::new(page);
+    put_digits(&mut put, table);
+    let n = put.at;
     finish(page, n)
 }
 
@@ -112,21 +112,36 @@ pub fn dd_table_from_pbn(value: &[u8]) -> TableRead
     refused(Refusal::Length(n as u64))
 }
 
+// Whether a cell reaches ten tricks.
+fn has_ten(table: &[u8]) -> bool
+    ensures { result ≡ list_any (λ t. ltb 9 t) table.now }
+{
+    table.iter().any(|tricks| *tricks > 9)
+}
+
 // The width of the result column: 2 once a cell reaches ten tricks.
+#[tactic(auto, using(crate::proofs::TableLaws::width_any))]
 fn result_width(table: &[u8]) -> usize
     ensures { (result ≡ width_of table.now) × (result ≤ 2) }
 {
-    if table.iter().any(|tricks| *tricks > 9) { 2 } else { 1 }
+    if has_ten(table) { 2 } else { 1 }
+}
+
+fn put_header(page: &mut Page, table: &[u8])
+    ensures { Puts page.old (header_text table.now) page.new }
+{
+    page.put_text(b"Declarer;Denomination\\2R;Result\\");
+    page.put_byte(b'0' + result_width(table) as u8);
+    page.put_byte(b'R');
 }
 
 // The value of an OptimumResultTable tag.
 pub fn optimum_result_table_header(table: &[u8; 20], page: &mut [u8]) -> Written
     ensures { Wrote (header_text table.now) page.old page.new result }
 {
-    let w = result_width(table);
-    let a = put_text(page, 0, b"Declarer;Denomination\\2R;Result\\");
-    let b = put_byte(page, a, (48 + w) as u8);
-    let n = put_byte(page, b, 82);
+    let mut put = Page::new(page);
+    put_header(&mut put, table);
+    let n = put.at;
     finish(page, n)
 }
 
@@ -141,46 +156,46 @@ fn row_order(k: u8) -> u8
     }
 }
 
-fn put_column(page: &mut [u8], at: usize, c: Conventions, k: u8) -> usize
-    requires { (at + 2 ≤ 1099511627776) × (k < 5) }
-    ensures { Put page.old at (column_text c k) page.new result }
+fn put_column(page: &mut Page, c: Conventions, k: u8)
+    requires { k < 5 }
+    ensures { Puts page.old (column_text c k) page.new }
 {
     if k == 0 {
-        return put_text(page, at, b"NT");
+        page.put_text(b"NT");
+    } else {
+        page.put_byte(b' ');
+        page.put_byte(suit_letter(c, 4 - k));
     }
-    let a = put_byte(page, at, 32);
-    put_byte(page, a, suit_letter(c, 4 - k))
 }
 
-fn put_row(page: &mut [u8], at: usize, c: Conventions, w: usize, cell: u8, tricks: u8) -> usize
-    requires { (at ≤ 65536) × (w ≤ 2) }
-    ensures { Put page.old at (row_text c w cell tricks) page.new result }
+fn put_row(page: &mut Page, c: Conventions, w: usize, cell: u8, tricks: u8)
+    requires { w ≤ 2 }
+    ensures { Puts page.old (row_text c w cell tricks) page.new }
 {
-    let a = put_byte(page, at, seat_letter(c, row_order(cell / 5)));
-    let b = put_byte(page, a, 32);
-    let d = put_column(page, b, c, cell % 5);
-    let e = put_byte(page, d, 32);
-    put_right(page, e, w, tricks as u32)
+    page.put_byte(seat_letter(c, row_order(cell / 5)));
+    page.put_byte(b' ');
+    put_column(page, c, cell % 5);
+    page.put_byte(b' ');
+    page.put_right(w, u32::from(tricks));
 }
 
-fn put_rows(page: &mut [u8], at: usize, c: Conventions, w: usize, table: &[u8]) -> usize
-    requires { (at ≤ 1024) × (w ≤ 2) × (length table.now ≡ 20) }
-    ensures { Put page.old at (rows_from c w 0 table.now) page.new result }
+fn put_rows(page: &mut Page, c: Conventions, table: &[u8; 20])
+    ensures { Puts page.old (rows_text c table.now) page.new }
 {
-    let mut k = at;
+    let w = result_width(table);
     for (i, tricks) in table.iter().enumerate() {
-        let a = put_row(page, k, c, w, i as u8, *tricks);
-        k = put_byte(page, a, b'\n');
+        put_row(page, c, w, i as u8, *tricks);
+        page.put_byte(b'\n');
     }
-    k
 }
 
 // The twenty data rows of an OptimumResultTable section, an LF after each.
 pub fn optimum_result_table_rows(table: &[u8; 20], page: &mut [u8]) -> Written
     ensures { Wrote (rows_text built_in table.now) page.old page.new result }
 {
-    let w = result_width(table);
-    let n = put_rows(page, 0, built_in(), w, table);
+    let mut put = Page::new(page);
+    put_rows(&mut put, built_in(), table);
+    let n = put.at;
     finish(page, n)
 }
 

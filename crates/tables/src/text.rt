@@ -120,14 +120,6 @@ pub fn is_inside(b: u8) -> bool
     matches!(b, 128..=191)
 }
 
-// One more than `n`, or `n` where it is not to be counted.
-pub(crate) fn one_more_unless(n: usize, not_counted: bool) -> usize
-    requires { n < 2 ^ 63 }
-    ensures { (result ≡ cond not_counted n (n + 1)) × (result ≤ n + 1) }
-{
-    if not_counted { n } else { n + 1 }
-}
-
 // The number of characters that start after the first byte.
 fn count_starts(s: &[u8]) -> usize
     ensures { (result ≡ length (starts s.now)) × (result ≤ length s.now) }
