@@ -42,9 +42,7 @@ pub(crate) fn has_brace(line: &[u8]) -> bool
 pub(crate) fn last_brace(line: &[u8]) -> usize
     ensures { (result ≡ last_brace line.now) × (result ≤ length line.now) }
 {
-    line.iter()
-        .rposition(|b| *b == 125)
-        .unwrap_or(line.len())
+    line.iter().rposition(|b| *b == 125).unwrap_or(line.len())
 }
 
 // A line that starts with `[` and is no tag, unless section data is split off.
