@@ -14,11 +14,10 @@ use Rattle.tables.specs.Text.{before, prepend, single, is_inside, starts, charac
 use Rattle.tables.specs.Letters.{suit_of, rank_of, among, distinct, every}
 use Rattle.tables.proofs.Laws.{by_cases, both, either, neither, clash, step, stop}
 use Rattle.tables.proofs.RowLaws.{every_append}
-use Rattle.reader.specs.declared.deal.HandRead.{HandRead}
-use Rattle.reader.specs.declared.deal.HandRead.TheVariants.{Held as Placed, NoHand}
+use Rattle.std.specs.Prelude.{Some as Placed, None as NoHand}
 use Rattle.reader.specs.Words.{card_number}
 use Rattle.reader.specs.Deals.{bit, has, hand_bits, ones, card_count, Proper}
-use Rattle.reader.specs.DealSteps.{place}
+use Rattle.reader.specs.DealSteps.{HandRead, place}
 use Rattle.reader.proofs.DealLaws.{never_held, all_dealt}
 use Rattle.reader.proofs.CardSets.{bit_small, bit_high, times, times_append, distinct_times, times_distinct, distinct_front, distinct_back, bit_total, in_pack, total_below, count_total, count_deck, place_all, place_sum, place_append, down, down_none, down_more, total_deck, times_deck, count_down, among_times}
 use Rattle.lin.specs.declared.dealing.LinHand.{LinHand}

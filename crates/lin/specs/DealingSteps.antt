@@ -4,11 +4,10 @@ use Rattle.tables.specs.declared.letters.Conventions.{Conventions}
 use Rattle.tables.specs.Text.{before, single}
 use Rattle.tables.specs.Letters.{suit_of, rank_of}
 use Rattle.reader.specs.declared.deal.Hands.{Hands}
-use Rattle.reader.specs.declared.deal.HandRead.{HandRead}
-use Rattle.reader.specs.declared.deal.HandRead.TheVariants.{Held as Placed, NoHand}
+use Rattle.std.specs.Prelude.{Some as Placed, None as NoHand}
 use Rattle.reader.specs.Words.{card_number}
 use Rattle.reader.specs.Deals.{has, InDeck}
-use Rattle.reader.specs.DealSteps.{place}
+use Rattle.reader.specs.DealSteps.{HandRead, place}
 use Rattle.lin.specs.declared.dealing.LinPart.{LinPart}
 use Rattle.lin.specs.declared.dealing.LinStep.{LinStep}
 use Rattle.lin.specs.declared.dealing.LinStep.TheVariants.{To, Twice}

@@ -43,6 +43,7 @@ fn less_alerts(s: &[u8]) -> &[u8]
 }
 
 // The code of a call, 47 where the value is none.
+#[tactic(auto, unfolding(crate::specs::Bidding::call_in, crate::specs::Bidding::call_named))]
 pub(crate) fn call_in(c: Conventions, value: &[u8]) -> u8
     ensures { (result ≡ call_in c value.now) × (result ≤ 47) }
 {
@@ -53,7 +54,7 @@ pub(crate) fn call_in(c: Conventions, value: &[u8]) -> u8
     if same_word(b"R", t) {
         return 37;
     }
-    call_code(c, t)
+    call_code(c, t).unwrap_or(47)
 }
 
 // The last bid, 0 where there is none; the seat that made it, counted from the dealer; the last X (36) or XX (37) behind it, or 0.

@@ -76,6 +76,7 @@ fn card_to(h: LinPart, k: u8) -> LinStep
 }
 
 // One character of a hand: a suit's letter, a rank's, or another.
+#[tactic(auto, unfolding(crate::specs::DealingSteps::letter_step))]
 fn hand_step(c: Conventions, h: LinPart, b: u8) -> LinStep
     requires { SoundPart h × (h.count < 2 ^ 63) }
     ensures { (result ≡ letter_step c h b) × IsSoundStep h result }
@@ -88,11 +89,10 @@ fn hand_step(c: Conventions, h: LinPart, b: u8) -> LinStep
             suit: s,
         });
     }
-    let k = card_number(h.suit, rank_of(c, b));
-    if k < 52 {
-        return card_to(h, k);
-    }
-    LinStep::To(h)
+    let Some(k) = card_number(h.suit, rank_of(c, b)) else {
+        return LinStep::To(h);
+    };
+    card_to(h, k)
 }
 
 // The characters that start in s, which follows a hand's first byte.

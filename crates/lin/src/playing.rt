@@ -14,11 +14,12 @@ use writer::put::{put_byte, put_bytes};
 use writer::tokens::put_card;
 
 // A card: exactly a suit and a rank; 52 for any other text.
+#[tactic(auto, unfolding(crate::specs::Playing::card_in))]
 pub(crate) fn card_in(c: Conventions, t: &[u8]) -> u8
     ensures { (result ≡ card_in c t.now) × (result ≤ 52) }
 {
     if t.len() == 2 {
-        return card_named(c, t);
+        return card_named(c, t).unwrap_or(52);
     }
     52
 }

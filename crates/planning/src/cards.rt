@@ -2,7 +2,7 @@
 ghost use Rattle.std.specs.Prelude.{◌≡◌, ◌+◌, ◌*◌, ◌≤◌, ◌<◌, length, get_or};
 ghost use Rattle.planning.specs.Cards.{card_deal, is_whole, has_table, card_here};
 
-use reader::deal::{HandWords, hands_of_words};
+use reader::deal::hands_of_words;
 
 // Word w of the card.
 pub(crate) fn word_of(cards: &[u32], k: usize, w: usize) -> u32
@@ -13,23 +13,21 @@ pub(crate) fn word_of(cards: &[u32], k: usize, w: usize) -> u32
 }
 
 // Its deal, words 10 to 17.
-pub(crate) fn deal_at(cards: &[u32], k: usize) -> HandWords
+pub(crate) fn deal_at(cards: &[u32], k: usize) -> [u32; 8]
     requires { 64 * k + 64 ≤ length cards.now }
-    ensures { result.words ≡ card_deal (card_here k cards.now) }
+    ensures { result ≡ card_deal (card_here k cards.now) }
 {
     let at = 64 * k;
-    HandWords {
-        words: [
-            cards[at + 10],
-            cards[at + 11],
-            cards[at + 12],
-            cards[at + 13],
-            cards[at + 14],
-            cards[at + 15],
-            cards[at + 16],
-            cards[at + 17],
-        ],
-    }
+    [
+        cards[at + 10],
+        cards[at + 11],
+        cards[at + 12],
+        cards[at + 13],
+        cards[at + 14],
+        cards[at + 15],
+        cards[at + 16],
+        cards[at + 17],
+    ]
 }
 
 // Is its deal whole?

@@ -7,7 +7,6 @@ ghost use Rattle.planning.specs.States.{first_with};
 ghost use Rattle.planning.specs.Searches.{compared, searched};
 
 use crate::cards::{has_table, is_whole};
-use reader::deal::HandWords;
 
 // The board found, from 1, 0 where there is none, and the number of hand words compared.
 #[derive(Clone, Copy)]
@@ -87,15 +86,14 @@ fn try_board(cards: &[u32], k: usize, deal: &[u32], tabled: bool) -> Tried
 }
 
 // The search among n boards for the deal d, which is whole, and a table, where one is sought.
-pub(crate) fn search_with(cards: &[u32], n: usize, d: HandWords, tabled: bool) -> Found
-    requires { (64 * n ≤ length cards.now) × (whole_hands (hands_of_words d.words) ≡ true) }
-    ensures { (result ≡ searched tabled d.words (cards_in n cards.now)) × (result.board ≤ n) × (result.words ≤ 8 * n) }
+pub(crate) fn search_with(cards: &[u32], n: usize, d: [u32; 8], tabled: bool) -> Found
+    requires { (64 * n ≤ length cards.now) × (whole_hands (hands_of_words d) ≡ true) }
+    ensures { (result ≡ searched tabled d (cards_in n cards.now)) × (result.board ≤ n) × (result.words ≤ 8 * n) }
 {
-    let deal = d.words;
     let mut words = 0;
     let mut k = 0;
     while k < n {
-        let tried = try_board(cards, k, &deal, tabled);
+        let tried = try_board(cards, k, &d, tabled);
         words += tried.words;
         k += 1;
         if tried.fits {
@@ -106,9 +104,9 @@ pub(crate) fn search_with(cards: &[u32], n: usize, d: HandWords, tabled: bool) -
 }
 
 // The board that the search finds, from 1; 0 where there is none.
-pub(crate) fn first_with(cards: &[u32], n: usize, d: HandWords, tabled: bool) -> usize
-    requires { (64 * n ≤ length cards.now) × (whole_hands (hands_of_words d.words) ≡ true) }
-    ensures { (result ≡ first_with tabled d.words (cards_in n cards.now)) × (result ≤ n) }
+pub(crate) fn first_with(cards: &[u32], n: usize, d: [u32; 8], tabled: bool) -> usize
+    requires { (64 * n ≤ length cards.now) × (whole_hands (hands_of_words d) ≡ true) }
+    ensures { (result ≡ first_with tabled d (cards_in n cards.now)) × (result ≤ n) }
 {
     let found = search_with(cards, n, d, tabled);
     found.board

@@ -19,14 +19,13 @@ use Rattle.tables.specs.Tables.{TableReading, holds, refuses, digit_of, first_ba
 use Rattle.tables.specs.declared.refusal.Refusal.TheVariants.{Length}
 use Rattle.tables.proofs.Laws.{by_cases}
 use Rattle.tables.proofs.TextLaws.{front_few}
-use Rattle.reader.specs.declared.deal.DealRead.{DealRead}
-use Rattle.reader.specs.declared.deal.DealRead.TheVariants.{Dealt, NoDeal}
+use Rattle.std.specs.Prelude.{Some, None}
 use Rattle.reader.specs.declared.board.Identity.{Identity}
 use Rattle.reader.specs.declared.board.DealCard.{DealCard}
 use Rattle.reader.specs.declared.board.TableCard.{TableCard}
 use Rattle.reader.specs.declared.board.Board.{Board}
 use Rattle.reader.specs.Words.{level_of, is_doubling, trump_suit, contract_trump, is_no_side, same_word, is_both_sides, vulnerability_of}
-use Rattle.reader.specs.Deals.{deal_of, hand_words}
+use Rattle.reader.specs.Deals.{DealRead, deal_of, hand_words}
 use Rattle.reader.specs.Boards.{with_number, with_dealer, with_vulnerability, with_declarer, with_result, identity_by, deal_read, deal_by, digits_table, table_by, is_kept_contract, contract_by, applied, no_board}
 use Rattle.reader.specs.Kept.{TableKept}
 use Rattle.reader.proofs.Tags.{never}
@@ -184,8 +183,8 @@ two_one false = omega arith
 
 deal_read_sized : (r : DealRead) (value : List ℕ) (d : DealCard) → DealSized d → DealSized (deal_read r value d)
 unfolding hand_words
-deal_read_sized (Dealt h) value d s = record { deal_kind_low = two_one (eqb d.kind 2); words_eight = refl }
-deal_read_sized NoDeal value d s = record { deal_kind_low = kind_two (eqb (length (trimmed value)) 0) d.kind s.deal_kind_low; words_eight = s.words_eight }
+deal_read_sized (Some h) value d s = record { deal_kind_low = two_one (eqb d.kind 2); words_eight = refl }
+deal_read_sized None value d s = record { deal_kind_low = kind_two (eqb (length (trimmed value)) 0) d.kind s.deal_kind_low; words_eight = s.words_eight }
 
 deal_sized : (c : Conventions) (k : ℕ) (value : List ℕ) (d : DealCard) → DealSized d → DealSized (deal_by c k value d)
 unfolding deal_by

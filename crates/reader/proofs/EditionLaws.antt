@@ -14,7 +14,6 @@ use Rattle.tables.proofs.PageLaws.{sets_append}
 use Rattle.reader.specs.declared.store.Entry.{Entry}
 use Rattle.reader.specs.declared.board.Board.{Board}
 use Rattle.reader.specs.declared.board.State.{State}
-use Rattle.reader.specs.declared.record.RecordEnd.{RecordEnd}
 use Rattle.reader.specs.declared.edition.ReadRefusal.TheVariants.{Overlong, BoxFull, ListFull}
 use Rattle.reader.specs.declared.edition.Reading.{Reading}
 use Rattle.reader.specs.declared.edition.Reading.TheVariants.{Taken, Refused}
@@ -156,46 +155,32 @@ pub turn_first : (c : Conventions) (text cards entries : List ℕ) → Turn c te
 turn_first c text cards entries =
     record { inside = omega arith; few_boards = omega arith; cards_length = refl; entries_length = refl; left = left_all c text cards entries }
 
-unmet : (b : Bool) → not b ≡ true → b ≡ false
-unmet true e = clash e
-unmet false e = refl
-
-met_so : (b : Bool) → not b ≡ false → b ≡ true
-met_so true e = refl
-met_so false e = clash (sym e)
-
 module _ {c : Conventions} {text cards₀ entries₀ cards entries : List ℕ} {a boards n : ℕ} (i : Turn c text cards₀ entries₀ cards entries a boards n) where
   -- There are never more entries than those of the text.
   pub turn_few : n ≤ 4 * length text
   turn_few = omega (arith, i.left.entries_in, TextEntriesFew c text)
 
   -- A record is read.
-  pub turn_next : {r : RecordEnd} (m : ℕ) (cards' entries' : List ℕ) → EndsAt text a r → not r.met ≡ false → length cards' ≡ length cards → length entries' ≡ length entries
-      → RecordIn c (take (r.end - a) (drop a text)) a boards n cards entries m cards' entries'
-      → Turn c text cards₀ entries₀ cards' entries' r.end (boards + 1) m
-  turn_next {r} m cards' entries' e met lc le k =
-      let own : List ℕ = take (r.end - a) (drop a text) in
-      let h₁ : a < r.end = e.after in
-      let h₂ : r.end ≤ length text = e.inside in
-      let eo : length own ≡ r.end - a = length-take (r.end - a) (drop a text) ∙ omega (arith, length-drop a text) in
-      let ee : a + length own ≡ r.end = omega arith in
-      let first : records_of (drop a text) ≡ own ∷ records_of (drop r.end text) = rw (met_so r.met met) at e.first in
+  pub turn_next : {e : ℕ} (m : ℕ) (cards' entries' : List ℕ) → EndsAt text a e → length cards' ≡ length cards → length entries' ≡ length entries
+      → RecordIn c (take (e - a) (drop a text)) a boards n cards entries m cards' entries'
+      → Turn c text cards₀ entries₀ cards' entries' e (boards + 1) m
+  turn_next {e} m cards' entries' ends lc le k =
+      let own : List ℕ = take (e - a) (drop a text) in
+      let h₁ : a < e = ends.after in
+      let h₂ : e ≤ length text = ends.inside in
+      let eo : length own ≡ e - a = length-take (e - a) (drop a text) ∙ omega (arith, length-drop a text) in
+      let ee : a + length own ≡ e = omega arith in
       record {
         inside = h₂;
         few_boards = omega (arith, i.few_boards);
         cards_length = lc ∙ i.cards_length;
         entries_length = le ∙ i.entries_length;
-        left = rw ee at (left_less (rw first at i.left) k);
+        left = rw ee at (left_less (rw ends.first at i.left) k);
       }
 
   -- No record is left.
-  pub turn_stop : {r : RecordEnd} → EndsAt text a r → not r.met ≡ true → AllIn c text cards₀ entries₀ (record { boards = boards; entries = n }) cards entries
-  turn_stop {r} e met =
-      let first : records_of (drop a text) ≡ [] = rw (unmet r.met met) at e.first in
-      left_none (rw first at i.left)
-
-  pub turn_end : length text ≤ a → AllIn c text cards₀ entries₀ (record { boards = boards; entries = n }) cards entries
-  turn_end h = left_none (rw (stop text a h, no_records) at i.left)
+  pub turn_stop : records_of (drop a text) ≡ [] → AllIn c text cards₀ entries₀ (record { boards = boards; entries = n }) cards entries
+  turn_stop first = left_none (rw first at i.left)
 
 -- ---- the whole
 

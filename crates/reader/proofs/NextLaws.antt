@@ -10,15 +10,12 @@ use lib.Seq.{drop-drop}
 use Rattle.tables.specs.Text.{trim_start}
 use Rattle.tables.proofs.Laws.{by_cases, clash, stop}
 use Rattle.reader.specs.declared.tag.Span.{Span}
-use Rattle.reader.specs.declared.tag.TagLine.{TagLine}
-use Rattle.reader.specs.declared.tag.TagLine.TheVariants.{NoTag, Plain as PlainTag, WithComment as CommentTag}
-use Rattle.reader.specs.declared.tag.Split.{Split}
-use Rattle.reader.specs.declared.tag.Split.TheVariants.{Data as DataTag, NoData}
+use Rattle.std.specs.Prelude.{Some, None}
 use Rattle.reader.specs.declared.line.Line.{Line}
 use Rattle.reader.specs.declared.line.Line.TheVariants.{Blank, Brace, Directive, Tag as TagOn, Bracket, Data}
 use Rattle.reader.specs.declared.section.Visit.{Visit}
 use Rattle.reader.specs.declared.section.Visit.TheVariants.{Stop, Pass, Piece as PieceOn}
-use Rattle.reader.specs.Tag.{tag_line, split_of, cut}
+use Rattle.reader.specs.Tag.{TagLine, Split, tag_line, split_of, cut}
 use Rattle.reader.specs.TagSteps.{SpanInside}
 use Rattle.reader.specs.Lines.{is_blank, has_brace, split_as, split_line, bracket_as, bracket_line, kind_by, line_kind}
 use Rattle.reader.specs.LineSteps.{LinePlaced}
@@ -62,14 +59,14 @@ some Pass = true
 some (PieceOn s) = not (eqb s.len 0)
 
 some_split : (s : Split) → some (visit_kind (split_as s)) ≡ true
-some_split (DataTag t d) = refl
-some_split NoData = refl
+some_split (Some (t, d)) = refl
+some_split None = refl
 
 some_tag : (t : TagLine) (l : List ℕ) → some (visit_kind (bracket_as t l)) ≡ true
 unfolding split_line
-some_tag NoTag l = some_split (split_of l)
-some_tag (PlainTag t) l = refl
-some_tag (CommentTag t c) l = refl
+some_tag None l = some_split (split_of l)
+some_tag (Some (t, None)) l = refl
+some_tag (Some (t, Some c)) l = refl
 
 some_by : (b : ℕ) (l : List ℕ) → is_blank l ≡ false → some (visit_kind (kind_by b l)) ≡ true
 unfolding bracket_line

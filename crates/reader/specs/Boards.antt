@@ -16,8 +16,7 @@ use Rattle.reader.specs.declared.line.Line.TheVariants.{Blank, Brace, Directive,
 use Rattle.reader.specs.declared.line.TagReading.{TagReading}
 use Rattle.reader.specs.declared.line.TagReading.TheVariants.{Plain, WithComment, WithData}
 use Rattle.reader.specs.declared.deal.Hands.{Hands}
-use Rattle.reader.specs.declared.deal.DealRead.{DealRead}
-use Rattle.reader.specs.declared.deal.DealRead.TheVariants.{Dealt, NoDeal}
+use Rattle.std.specs.Prelude.{Some, None}
 use Rattle.reader.specs.declared.board.Identity.{Identity}
 use Rattle.reader.specs.declared.board.DealCard.{DealCard}
 use Rattle.reader.specs.declared.board.TableCard.{TableCard}
@@ -30,7 +29,7 @@ use Rattle.reader.specs.declared.section.Walk.{Walk}
 use Rattle.reader.specs.Lines.{line_kind, has_brace, last_brace}
 use Rattle.reader.specs.Words.{same, contract_trump, vulnerability_of}
 use Rattle.reader.specs.Names.{tag_number, board_name, dealer_name, vulnerable_name, deal_name, event_name, site_name, date_name, declarer_name, contract_name, result_name, north_name, east_name, south_name, west_name, auction_name, play_name, double_dummy_tricks_name, optimum_result_table_name, optimum_score_name, par_contract_name}
-use Rattle.reader.specs.Deals.{deal_of, hand_words}
+use Rattle.reader.specs.Deals.{DealRead, deal_of, hand_words}
 use Rattle.reader.specs.Pieces.{Out, and_then, entry, raw_lines}
 use Rattle.reader.specs.Tag.{cut}
 use Rattle.reader.specs.Play.{last_trick}
@@ -70,8 +69,8 @@ abbrev pub parsed_deal : Hands → DealCard → DealCard
 parsed_deal h d = record { kind = cond (eqb d.kind 2) 2 1; words = hand_words h }
 
 abbrev pub deal_read : DealRead → List ℕ → DealCard → DealCard
-deal_read (Dealt h) value d = parsed_deal h d
-deal_read NoDeal value d = record { kind = cond (eqb (length (trimmed value)) 0) d.kind 2; words = d.words }
+deal_read (Some h) value d = parsed_deal h d
+deal_read None value d = record { kind = cond (eqb (length (trimmed value)) 0) d.kind 2; words = d.words }
 
 unfoldable pub deal_by : Conventions → ℕ → List ℕ → DealCard → DealCard
 deal_by c k value d = cond (eqb k deal_name) (deal_read (deal_of c value) value d) d
@@ -95,8 +94,8 @@ contract_by c k value trump = cond (eqb k contract_name && is_kept_contract valu
 -- Whether the value's entry is kept on the card, of a tag that words 39 to 50 name (`value_put` puts no other). Board, Event, Site, Date and names: where it is not empty; Contract: nor `?`;
 -- Deal: where it did not parse and is not blank; OptimumScore and ParContract: always.
 abbrev pub is_unparsed : DealRead → List ℕ → Bool
-is_unparsed (Dealt h) value = false
-is_unparsed NoDeal value = not (eqb (length (trimmed value)) 0)
+is_unparsed (Some h) value = false
+is_unparsed None value = not (eqb (length (trimmed value)) 0)
 
 -- A tag other than Deal, and any tag.
 unfoldable pub is_kept_value : ℕ → List ℕ → Bool

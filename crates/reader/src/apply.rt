@@ -8,7 +8,7 @@ ghost use Rattle.reader.specs.Boards.{with_number, with_result, identity_by, par
 ghost use Rattle.reader.specs.BoardSteps.{values_put};
 
 use crate::board::{Board, DealCard, Identity, Section, TableCard, Values};
-use crate::deal::{DealRead, Hands, hand_words, read_deal};
+use crate::deal::{Hands, hand_words, read_deal};
 use crate::names;
 use crate::section::Open;
 use crate::tag::Span;
@@ -90,8 +90,7 @@ fn identity_by(c: Conventions, k: u8, value: &[u8], mut i: Identity) -> Identity
 fn parsed_deal(h: Hands, d: DealCard) -> DealCard
     ensures { result ≡ parsed_deal h d }
 {
-    let w = hand_words(h);
-    let words = w.words;
+    let words = hand_words(h);
     let kind = d.kind;
     if kind == 2 {
         return DealCard { kind: 2, words };
@@ -103,7 +102,7 @@ fn parsed_deal(h: Hands, d: DealCard) -> DealCard
 fn deal_tag(c: Conventions, value: &[u8], place: usize, mut b: Board) -> Board
     ensures { result ≡ applied c deal_name value.now place b }
 {
-    let DealRead::Dealt(h) = read_deal(c, value) else {
+    let Some(h) = read_deal(c, value) else {
         if trim(value).len() == 0 {
             return b;
         }

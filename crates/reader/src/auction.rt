@@ -44,6 +44,7 @@ pub(crate) fn no_bidding() -> Bidding
     }
 }
 
+#[tactic(auto, unfolding(crate::specs::Auction::call_token_of))]
 fn call_token(c: Conventions, t: &[u8]) -> CallToken
     ensures { (result ≡ call_token_of c t.now) × CallInside result (length t.now) }
 {
@@ -61,10 +62,9 @@ fn call_token(c: Conventions, t: &[u8]) -> CallToken
     if k == 0 {
         return CallToken::Annotation;
     }
-    let code = call_code(c, upto(t, k));
-    if code == 47 {
+    let Some(code) = call_code(c, upto(t, k)) else {
         return CallToken::NoCall;
-    }
+    };
     CallToken::Call(code, k)
 }
 

@@ -211,13 +211,7 @@ fn read_records(c: Conventions, text: &[u8], cards: &mut [u32], entries: &mut [u
     let mut a = 0;
     let mut boards = 0;
     let mut n = 0;
-    while a < text.len() {
-        let r = record_end(text, a);
-        let e = r.end;
-        let met = r.met;
-        if !met {
-            return Counts { boards, entries: n };
-        }
+    while let Some(e) = record_end(text, a) {
         n = read_record(c, text, a, e, cards, boards, entries, n);
         boards += 1;
         a = e;

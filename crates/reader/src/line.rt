@@ -3,9 +3,7 @@ ghost use Rattle.std.specs.Prelude.{◌≡◌, ◌≤◌, length};
 ghost use Rattle.reader.specs.Lines.{is_blank, has_brace, last_brace, line_kind, split_line, bracket_line, opens_board};
 ghost use Rattle.reader.specs.LineSteps.{LinePlaced};
 
-use crate::tag::{
-    Span, Split, Tag, TagLine, contains, parse_tag_line, split_tag_and_data, trim_span,
-};
+use crate::tag::{Span, Tag, contains, parse_tag_line, split_tag_and_data, trim_span};
 use tables::text::{byte_at, lead_len};
 
 // A tag: alone on its line, with a comment, or with section data split off.
@@ -44,35 +42,29 @@ pub(crate) fn has_brace(line: &[u8]) -> bool
 pub(crate) fn last_brace(line: &[u8]) -> usize
     ensures { (result ≡ last_brace line.now) × (result ≤ length line.now) }
 {
-    let mut e = line.len();
-    while e > 0 {
-        let last = e - 1;
-        if line[last] == 125 {
-            return last;
-        }
-        e = last;
-    }
-    line.len()
+    line.iter().rposition(|b| *b == 125).unwrap_or(line.len())
 }
 
 // A line that starts with `[` and is no tag, unless section data is split off.
+#[tactic(auto, unfolding(crate::specs::Lines::split_line))]
 fn split_line(line: &[u8]) -> Line
     ensures { (result ≡ split_line line.now) × LinePlaced result (length line.now) }
 {
     match split_tag_and_data(line) {
-        Split::Data(tag, data) => Line::Tag(TagReading::WithData(tag, data)),
-        Split::NoData => Line::Bracket,
+        Some((tag, data)) => Line::Tag(TagReading::WithData(tag, data)),
+        None => Line::Bracket,
     }
 }
 
 // A line that starts with `[`.
+#[tactic(auto, unfolding(crate::specs::Lines::bracket_line))]
 fn bracket_line(line: &[u8]) -> Line
     ensures { (result ≡ bracket_line line.now) × LinePlaced result (length line.now) }
 {
     match parse_tag_line(line) {
-        TagLine::Plain(tag) => Line::Tag(TagReading::Plain(tag)),
-        TagLine::WithComment(tag, comment) => Line::Tag(TagReading::WithComment(tag, comment)),
-        TagLine::NoTag => split_line(line),
+        Some((tag, None)) => Line::Tag(TagReading::Plain(tag)),
+        Some((tag, Some(comment))) => Line::Tag(TagReading::WithComment(tag, comment)),
+        None => split_line(line),
     }
 }
 
@@ -102,12 +94,5 @@ pub(crate) fn line_kind(line: &[u8]) -> Line
 pub(crate) fn opens_board(line: &[u8]) -> bool
     ensures { result ≡ opens_board (line_kind line.now) }
 {
-    match line_kind(line) {
-        Line::Tag(_) => true,
-        Line::Blank => false,
-        Line::Brace => false,
-        Line::Directive(_) => false,
-        Line::Bracket => false,
-        Line::Data(_) => false,
-    }
+    matches!(line_kind(line), Line::Tag(_))
 }

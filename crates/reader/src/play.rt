@@ -252,6 +252,7 @@ fn is_dash(token: &[u8]) -> bool
 }
 
 // What a token does in an open trick.
+#[tactic(auto, unfolding(crate::specs::Play::played))]
 fn play_token(c: Conventions, lead: usize, trump: usize, t: Tricks, token: &[u8]) -> Tricks
     requires { (lead ≤ 3) × OpenTrick t }
     ensures { (result ≡ played c lead trump t token.now) × Seated result }
@@ -266,11 +267,10 @@ fn play_token(c: Conventions, lead: usize, trump: usize, t: Tricks, token: &[u8]
     if is_dash(token) {
         return take_seat(t, t.end, false, t.seat + 1);
     }
-    let card = card_named(c, token);
-    if card < 52 {
-        return play_card(lead, trump, t, card as usize);
-    }
-    t
+    let Some(card) = card_named(c, token) else {
+        return t;
+    };
+    play_card(lead, trump, t, card as usize)
 }
 
 // One token of a record that starts at `a`; the section's entries stand from `base` on.
