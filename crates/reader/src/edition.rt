@@ -9,7 +9,7 @@ ghost use Rattle.reader.specs.EditionSteps.{RecordIn, AllIn, ReadingEnded};
 use crate::board::{Board, DealCard, Section, TableCard, Values};
 use crate::reading::read_board;
 use crate::record::record_end;
-use crate::store::{copy_in, low_word, zero};
+use crate::store::{Entries, copy_in, low_word, zero};
 use tables::letters::{Conventions, built_in};
 use tables::text::{from, upto};
 
@@ -197,10 +197,14 @@ fn read_record(
     ensures { RecordIn c (take (e - a) (drop a text.now)) a k n cards.old entries.old result cards.new entries.new }
 {
     let own = upto(from(text, a), e - a);
-    let s = read_board(c, own, a, n, entries);
-    let count = s.n;
-    put_card(cards, k, a, e, n, count, s.board);
-    n + count
+    let mut list = Entries {
+        words: entries,
+        start: a,
+        count: n,
+    };
+    let s = read_board(c, own, &mut list);
+    put_card(cards, k, a, e, n, s.n, s.board);
+    list.count
 }
 
 // Reads all records of a text.
