@@ -134,8 +134,7 @@ fn call_step(c: Conventions, b: Bidding, t: &[u8], at: usize, entries: &mut Entr
     requires { (entries.old.start + at + length t.now ≤ 2 ^ 40) × (entries.old.count ≤ 2 ^ 59) × (b.count ≤ 2 ^ 60) }
     ensures { Emits entries.old entries.new result (called c b (piece at t.now)) × (result.count ≤ b.count + 3) }
 {
-    let stopped = b.stopped;
-    if stopped {
+    if b.stopped {
         return b;
     }
     match call_token(c, t) {
@@ -146,8 +145,7 @@ fn call_step(c: Conventions, b: Bidding, t: &[u8], at: usize, entries: &mut Entr
         CallToken::Star => bid(b.made, 2, true, b.count),
         CallToken::AllPass => put_passes(b, t.len(), at, entries),
         CallToken::Annotation => {
-            let made = b.made;
-            if made {
+            if b.made {
                 put_annotation(entries, at, t.len());
                 return bid(true, b.end, false, b.count + 1);
             }

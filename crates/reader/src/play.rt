@@ -187,8 +187,7 @@ fn open_trick(lead: usize, t: Tricks, entries: &mut Entries) -> Tricks
     requires { (lead ≤ 3) × Seated t × (entries.old.start ≤ 2 ^ 40) × (entries.old.count ≤ 2 ^ 60) × (t.count ≤ 2 ^ 60) }
     ensures { Emits entries.old entries.new result (opened lead t) × OpenTrick result }
 {
-    let any = t.any;
-    if any {
+    if t.any {
         if t.seat == 4 {
             entries.push(trick_entry(t));
             return new_trick(next_leader(t.winner, t.leader), t.end, t.count + 1);
@@ -202,16 +201,12 @@ fn take_seat(t: Tricks, end: usize, stopped: bool, seat: usize) -> Tricks
     requires { Seated t × (seat ≤ 4) }
     ensures { (result ≡ taking t end stopped seat) × Seated result }
 {
-    let s = t.slots;
     Tricks {
         any: true,
-        leader: t.leader,
-        winner: t.winner,
-        slots: s,
         seat,
         end,
         stopped,
-        count: t.count,
+        ..t
     }
 }
 
@@ -219,16 +214,13 @@ fn with_card(trump: usize, t: Tricks, s: Slots) -> Tricks
     requires { OpenTrick t × Low s }
     ensures { (result ≡ with_card trump t s) × Seated result }
 {
-    let w = winner_now(trump, t.leader, t.winner, s);
     Tricks {
         any: true,
-        leader: t.leader,
-        winner: w,
+        winner: winner_now(trump, t.leader, t.winner, s),
         slots: s,
         seat: t.seat + 1,
-        end: t.end,
         stopped: false,
-        count: t.count,
+        ..t
     }
 }
 
@@ -285,8 +277,7 @@ fn play_step(
     requires { (lead ≤ 3) × Seated t × (entries.old.start ≤ 2 ^ 40) × (entries.old.count ≤ 2 ^ 60) × (t.count ≤ 2 ^ 60) }
     ensures { Emits entries.old entries.new result (played_bytes c lead trump t token.now) × Seated result }
 {
-    let stopped = t.stopped;
-    if stopped {
+    if t.stopped {
         return t;
     }
     play_token(c, lead, trump, open_trick(lead, t, entries), token)
@@ -320,16 +311,9 @@ fn one_more(t: Tricks) -> Tricks
     requires { t.count ≤ 2 ^ 60 }
     ensures { result ≡ one_more t }
 {
-    let s = t.slots;
     Tricks {
-        any: t.any,
-        leader: t.leader,
-        winner: t.winner,
-        slots: s,
-        seat: t.seat,
-        end: t.end,
-        stopped: t.stopped,
         count: t.count + 1,
+        ..t
     }
 }
 
@@ -338,8 +322,7 @@ pub(crate) fn last_trick(t: Tricks, entries: &mut Entries) -> Tricks
     requires { Seated t × (entries.old.start ≤ 2 ^ 40) × (entries.old.count ≤ 2 ^ 60) × (t.count ≤ 2 ^ 60) }
     ensures { Emits entries.old entries.new result (last_trick t) × (result.count ≤ t.count + 1) }
 {
-    let any = t.any;
-    if any {
+    if t.any {
         entries.push(trick_entry(t));
         return one_more(t);
     }

@@ -45,9 +45,7 @@ fn counted(s: State, k: usize) -> State
     requires { s.n + k < 2 ^ 63 }
     ensures { result ≡ counted_state s k }
 {
-    let mut t = s;
-    t.n = s.n + k;
-    t
+    State { n: s.n + k, ..s }
 }
 
 // The board after an auction with tokens.
@@ -56,17 +54,14 @@ fn auction_closed(b: Board, o: Open, n: usize, w: Walk) -> Board
     ensures { result ≡ auction_closed b o n w }
 {
     let bidding = w.bidding;
-    let any = bidding.any;
-    if any {
-        let section = Section {
+    if bidding.any {
+        let auction = Section {
             first: n + 1,
             count: bidding.count,
             seat: o.seat,
             end: bidding.end,
         };
-        let mut next = b;
-        next.auction = section;
-        return next;
+        return Board { auction, ..b };
     }
     b
 }
@@ -77,18 +72,18 @@ fn play_closed(b: Board, o: Open, n: usize, w: Walk) -> Board
     ensures { result ≡ play_closed b o n w }
 {
     let tricks = w.tricks;
-    let any = tricks.any;
-    if any {
-        let section = Section {
+    if tricks.any {
+        let play = Section {
             first: n + 1,
             count: tricks.count + 1,
             seat: o.seat,
             end: tricks.end,
         };
-        let mut next = b;
-        next.play = section;
-        next.trump = b.contract;
-        return next;
+        return Board {
+            play,
+            trump: b.contract,
+            ..b
+        };
     }
     b
 }
@@ -126,10 +121,8 @@ fn after_section(s: State, b: Board, k: usize) -> State
     State {
         board: b,
         section: no_open(),
-        tags: s.tags,
         n: s.n + k,
-        commentary: s.commentary,
-        block: s.block,
+        ..s
     }
 }
 
@@ -138,14 +131,11 @@ fn board_closed(b: Board, o: Open, n: usize, w: Walk) -> Board
     requires { (n < 2 ^ 62) × (w.tricks.count < 2 ^ 62) }
     ensures { result ≡ board_closed b o n w }
 {
-    let kind = o.kind;
-    if kind == 1 {
-        return auction_closed(b, o, n, w);
+    match o.kind {
+        1 => auction_closed(b, o, n, w),
+        2 => play_closed(b, o, n, w),
+        _ => table_closed(b, w),
     }
-    if kind == 2 {
-        return play_closed(b, o, n, w);
-    }
-    table_closed(b, w)
 }
 
 // The last trick of a play is stored behind the section's entries; how many these then are.
@@ -185,12 +175,6 @@ fn cut_span<'a>(s: &'a [u8], d: Span) -> &'a [u8]
     ensures { result.now ≡ cut d s.now }
 {
     upto(from(s, d.start), d.len)
-}
-
-fn no_span() -> Span
-    ensures { result ≡ no_span }
-{
-    Span { start: 0, len: 0 }
 }
 
 // A part of the line at p, as a part of the record.
@@ -293,8 +277,7 @@ fn split_of(p: usize, n: usize, t: TagReading) -> Span
     ensures { (result ≡ split_in p t) × (result.start + result.len ≤ p + n) }
 {
     match t {
-        TagReading::Plain(_) => no_span(),
-        TagReading::WithComment(_, _) => no_span(),
+        TagReading::Plain(_) | TagReading::WithComment(_, _) => Span { start: 0, len: 0 },
         TagReading::WithData(_, d) => placed_span(p, d),
     }
 }
@@ -328,23 +311,13 @@ fn all_white(s: &[u8]) -> bool
     lead_len(s) == s.len()
 }
 
-// j - i, or 0.
-fn less(j: usize, i: usize) -> usize
-    ensures { result ≡ j - i }
-{
-    if j <= i {
-        return 0;
-    }
-    j - i
-}
-
 // Commentary closes: a block from i to j of the record, unless it is all white.
 fn block_step(r: &[u8], s: State, i: usize, j: usize, entries: &mut Entries) -> State
     requires { (entries.old.start + i ≤ 2 ^ 41) × (entries.old.count ≤ 2 ^ 59) × (s.n ≤ 2 ^ 59) }
     ensures { Emits entries.old entries.new result (blocked r.now s i j) }
 {
     let next = with_commentary(s, false, 0);
-    let len = less(j, i);
+    let len = j.saturating_sub(i);
     if all_white(upto(from(r, i), len)) {
         return counted(next, 0);
     }
@@ -360,10 +333,11 @@ fn block_step(r: &[u8], s: State, i: usize, j: usize, entries: &mut Entries) -> 
 fn with_commentary(s: State, commentary: bool, block: usize) -> State
     ensures { result ≡ with_commentary s commentary block }
 {
-    let mut t = s;
-    t.commentary = commentary;
-    t.block = block;
-    t
+    State {
+        commentary,
+        block,
+        ..s
+    }
 }
 
 // A line that begins with `{`.

@@ -24,11 +24,7 @@ pub(crate) fn low_word(x: usize) -> u32
 pub fn zero(words: &mut [u32])
     ensures { words.new ≡ zeros words.old }
 {
-    let mut i = 0;
-    while i < words.len() {
-        words[i] = 0;
-        i += 1;
-    }
+    words.fill(0);
 }
 
 // Copies src into dst from index at.
@@ -36,11 +32,7 @@ pub fn copy_in(dst: &mut [u32], at: usize, src: &[u32])
     requires { at + length src.now ≤ length dst.old }
     ensures { dst.new ≡ sets dst.old at src.now }
 {
-    let mut i = 0;
-    while i < src.len() {
-        dst[at + i] = src[i];
-        i += 1;
-    }
+    dst[at..at + src.len()].copy_from_slice(src);
 }
 
 fn moved_place(a: usize, kind: usize, x: usize) -> usize
@@ -67,8 +59,8 @@ impl Entries<'_> {
         let n = self.count;
         if n < self.words.len() / 4 {
             let x = moved_place(self.start, e.kind, e.x);
-            let w = [low_word(e.kind), low_word(x), low_word(e.y), low_word(e.z)];
-            copy_in(self.words, 4 * n, &w);
+            let words = [low_word(e.kind), low_word(x), low_word(e.y), low_word(e.z)];
+            copy_in(self.words, 4 * n, &words);
         }
         self.count = n + 1;
     }
