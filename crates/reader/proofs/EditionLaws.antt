@@ -19,6 +19,7 @@ use Rattle.reader.specs.declared.edition.Reading.{Reading}
 use Rattle.reader.specs.declared.edition.Reading.TheVariants.{Taken, Refused}
 use Rattle.reader.specs.declared.edition.Counts.{Counts}
 use Rattle.reader.specs.Store.{zeros, put, put_all, lent, entry_words}
+use Rattle.reader.specs.declared.store.Entries.{Entries}
 use Rattle.reader.specs.PieceSteps.{Emits}
 use Rattle.reader.specs.Records.{records_of}
 use Rattle.reader.specs.RecordSteps.{EndsAt}
@@ -87,18 +88,18 @@ own_length t a e h₁ h₂ = omega (arith, length-take (e - a) (drop a t), lengt
 pub record_few : (c : Conventions) (r : List ℕ) {s : State} → s ≡ (record_out c r).state → s.n ≤ 4 * length r
 record_few c r e = omega (arith, ap (λ (x : State). x.n) e, record_counts c r, EntriesFew c r)
 
-pub record_in : {c : Conventions} {r : List ℕ} {a e k n : ℕ} {cards entries : List ℕ} {s : State} (m : ℕ) (cards' entries' : List ℕ) → e ≡ a + length r
-    → Emits a n entries entries' s (record_out c r)
+pub record_in : {c : Conventions} {r : List ℕ} {e k : ℕ} {cards : List ℕ} {s : State} {l l' : Entries} {entries entries' cards' : List ℕ} (a n : ℕ) → l.start ≡ a → l.count ≡ n → entries ≡ l.words.now → entries' ≡ l'.words.now → e ≡ a + length r
+    → Emits l l' s (record_out c r)
     → (cards' ≡ put 64 cards k (card_words a e n s.n s.board)) × (length (card_words a e n s.n s.board) ≡ 64)
-    → m ≡ n + s.n → RecordIn c r a k n cards entries m cards' entries'
-record_in {c} {r} {a} {e} {k} {n} {cards} {entries} {s} m cards' entries' ee em p eq =
+    → RecordIn c r a k n cards entries l'.count cards' entries'
+record_in {c} {r} {e} {k} {cards} {s} a n el en ew ew' ee em p =
     let es : s.n ≡ length (record_out c r).entries = ap (λ (x : State). x.n) em.answer ∙ record_counts c r in
     let eb : s.board ≡ (record_out c r).state.board = ap (λ (x : State). x.board) em.answer in
     let w : card_words a e n s.n s.board ≡ card_of c a n r = rw (ee, es, eb) in
     record {
-      answer = eq ∙ ap (λ (x : ℕ). n + x) es;
+      answer = rw en at em.adds.count;
       card = p.0 ∙ ap (put 64 cards k) w;
-      words = em.words;
+      words = ew' ∙ rw (en, el, ← ew) at em.adds.words;
       whole = sym (ap length w) ∙ p.1;
     }
 

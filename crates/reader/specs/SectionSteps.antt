@@ -3,6 +3,7 @@ use Rattle.std.specs.Prelude.{ℕ, ◌+◌, ◌≤◌, ◌<◌, ◌≡◌, List,
 use Rattle.reader.specs.declared.line.Line.{Line}
 use Rattle.reader.specs.declared.line.Line.TheVariants.{Blank, Brace, Directive, Tag, Bracket, Data}
 use Rattle.reader.specs.declared.section.Next.{Next}
+use Rattle.reader.specs.declared.store.Entries.{Entries}
 use Rattle.reader.specs.declared.section.Visit.{Visit}
 use Rattle.reader.specs.declared.section.Visit.TheVariants.{Stop, Pass, Piece as PieceOn}
 use Rattle.reader.specs.declared.section.Walk.{Walk}
@@ -46,9 +47,9 @@ pub record NextPiece (r : List ℕ) (p : ℕ) (n : Next) : Type 0 where
 abbrev pub walk_count : Walk → ℕ
 walk_count w = w.bidding.count + w.tricks.count
 
--- The contract of a function that walks data: what it comes to, its entries put from the n-th on; seats and slots are in range; there
--- are at most so many entries in all.
-pub record Walks (a n most : ℕ) (entries entries' : List ℕ) (r : Walk) (o : Out Walk) : Type 0 where
-  pub emits : Emits a n entries entries' r o
+-- The contract of a function that walks data: what it comes to; seats and slots are in range; there are at most so many entries in
+-- all.
+pub record Walks (most : ℕ) (l l' : Entries) (r : Walk) (o : Out Walk) : Type 0 where
+  pub emits : Emits l l' r o
   pub seated : Seated r.tricks
   pub few : walk_count r ≤ most

@@ -25,12 +25,6 @@ fn seat_in(c: Conventions, value: &[u8]) -> usize
     seat_of(c, first_character(value)) as usize
 }
 
-fn vulnerability_in(value: &[u8]) -> usize
-    ensures { result ≡ vulnerability_of value.now }
-{
-    vulnerability_of(value) as usize
-}
-
 fn with_number(mut i: Identity, n: Number) -> Identity
     ensures { result ≡ with_number i n }
 {
@@ -74,7 +68,7 @@ fn identity_by(c: Conventions, k: u8, value: &[u8], mut i: Identity) -> Identity
             i
         }
         names::VULNERABLE => {
-            i.vulnerability = vulnerability_in(value);
+            i.vulnerability = vulnerability_of(value) as usize;
             i
         }
         names::DECLARER => {
@@ -90,12 +84,10 @@ fn identity_by(c: Conventions, k: u8, value: &[u8], mut i: Identity) -> Identity
 fn parsed_deal(h: Hands, d: DealCard) -> DealCard
     ensures { result ≡ parsed_deal h d }
 {
-    let words = hand_words(h);
-    let kind = d.kind;
-    if kind == 2 {
-        return DealCard { kind: 2, words };
+    DealCard {
+        kind: if d.kind == 2 { 2 } else { 1 },
+        words: hand_words(h),
     }
-    DealCard { kind: 1, words }
 }
 
 // Deal: read once, for the hands and for the value that is kept.
@@ -110,8 +102,7 @@ fn deal_tag(c: Conventions, value: &[u8], place: usize, mut b: Board) -> Board
         b.values.deal = place;
         return b;
     };
-    let d = parsed_deal(h, b.deal);
-    b.deal = d;
+    b.deal = parsed_deal(h, b.deal);
     b
 }
 
@@ -199,15 +190,12 @@ pub(crate) fn apply_tag(c: Conventions, k: u8, value: &[u8], place: usize, mut b
         0 | names::NOTE => b,
         names::DEAL => deal_tag(c, value, place, b),
         names::DOUBLE_DUMMY_TRICKS => {
-            let t = table_by(value, b.table);
-            b.table = t;
+            b.table = table_by(value, b.table);
             b
         }
         _ => {
-            let id = identity_by(c, k, value, b.id);
-            let values = values_by(k, value, place, b.values);
-            b.id = id;
-            b.values = values;
+            b.id = identity_by(c, k, value, b.id);
+            b.values = values_by(k, value, place, b.values);
             b.contract = contract_by(c, k, value, b.contract);
             b
         }

@@ -4,7 +4,7 @@ ghost use Rattle.reader.specs.PieceSteps.{Emits, piece};
 ghost use Rattle.reader.specs.Play.{no_slots, with_slot, is_full, weight, best_slot, winner_of, trick_entry, new_trick, next_leader, opened, taking, slot_of, with_card, is_gap, played, played_bytes, played_piece, one_more, last_trick, no_tricks};
 ghost use Rattle.reader.specs.TokenSteps.{Low, Seated, OpenTrick};
 
-use crate::store::{Entry, put_entry};
+use crate::store::{Entries, Entry};
 use crate::words::{card_named, same, section_end};
 use tables::letters::Conventions;
 use tables::text::{from, lead_len, upto, word_len};
@@ -183,14 +183,13 @@ fn next_leader(winner: usize, leader: usize) -> usize
 }
 
 // A token opens the first trick, and after a full one the next; the full one is stored.
-fn open_trick(lead: usize, t: Tricks, a: usize, base: usize, entries: &mut [u32]) -> Tricks
-    requires { (lead ≤ 3) × Seated t × (a ≤ 2 ^ 40) × (base + t.count ≤ 2 ^ 60) }
-    ensures { Emits a (base + t.count) entries.old entries.new result (opened lead t) × OpenTrick result }
+fn open_trick(lead: usize, t: Tricks, entries: &mut Entries) -> Tricks
+    requires { (lead ≤ 3) × Seated t × (entries.old.start ≤ 2 ^ 40) × (entries.old.count ≤ 2 ^ 60) × (t.count ≤ 2 ^ 60) }
+    ensures { Emits entries.old entries.new result (opened lead t) × OpenTrick result }
 {
-    let any = t.any;
-    if any {
+    if t.any {
         if t.seat == 4 {
-            put_entry(entries, base + t.count, a, trick_entry(t));
+            entries.push(trick_entry(t));
             return new_trick(next_leader(t.winner, t.leader), t.end, t.count + 1);
         }
         return t;
@@ -202,16 +201,12 @@ fn take_seat(t: Tricks, end: usize, stopped: bool, seat: usize) -> Tricks
     requires { Seated t × (seat ≤ 4) }
     ensures { (result ≡ taking t end stopped seat) × Seated result }
 {
-    let s = t.slots;
     Tricks {
         any: true,
-        leader: t.leader,
-        winner: t.winner,
-        slots: s,
         seat,
         end,
         stopped,
-        count: t.count,
+        ..t
     }
 }
 
@@ -219,16 +214,13 @@ fn with_card(trump: usize, t: Tricks, s: Slots) -> Tricks
     requires { OpenTrick t × Low s }
     ensures { (result ≡ with_card trump t s) × Seated result }
 {
-    let w = winner_now(trump, t.leader, t.winner, s);
     Tricks {
         any: true,
-        leader: t.leader,
-        winner: w,
+        winner: winner_now(trump, t.leader, t.winner, s),
         slots: s,
         seat: t.seat + 1,
-        end: t.end,
         stopped: false,
-        count: t.count,
+        ..t
     }
 }
 
@@ -273,25 +265,22 @@ fn play_token(c: Conventions, lead: usize, trump: usize, t: Tricks, token: &[u8]
     play_card(lead, trump, t, card as usize)
 }
 
-// One token of a record that starts at `a`; the section's entries stand from `base` on.
+// One token.
 fn play_step(
     c: Conventions,
     lead: usize,
     trump: usize,
     t: Tricks,
     token: &[u8],
-    a: usize,
-    base: usize,
-    entries: &mut [u32],
+    entries: &mut Entries,
 ) -> Tricks
-    requires { (lead ≤ 3) × Seated t × (a ≤ 2 ^ 40) × (base + t.count ≤ 2 ^ 60) }
-    ensures { Emits a (base + t.count) entries.old entries.new result (played_bytes c lead trump t token.now) × Seated result }
+    requires { (lead ≤ 3) × Seated t × (entries.old.start ≤ 2 ^ 40) × (entries.old.count ≤ 2 ^ 60) × (t.count ≤ 2 ^ 60) }
+    ensures { Emits entries.old entries.new result (played_bytes c lead trump t token.now) × Seated result }
 {
-    let stopped = t.stopped;
-    if stopped {
+    if t.stopped {
         return t;
     }
-    play_token(c, lead, trump, open_trick(lead, t, a, base, entries), token)
+    play_token(c, lead, trump, open_trick(lead, t, entries), token)
 }
 
 // All tokens of a piece of data at the place `at` of its record.
@@ -302,19 +291,17 @@ pub(crate) fn play_piece(
     t: Tricks,
     s: &[u8],
     at: usize,
-    a: usize,
-    base: usize,
-    entries: &mut [u32],
+    entries: &mut Entries,
 ) -> Tricks
-    requires { (lead ≤ 3) × Seated t × (a + at + length s.now ≤ 2 ^ 40) × (base + t.count ≤ 2 ^ 59) }
-    ensures { Emits a (base + t.count) entries.old entries.new result (played_piece c lead trump t (piece at s.now)) × Seated result × (result.count ≤ t.count + length s.now) }
+    requires { (lead ≤ 3) × Seated t × (entries.old.start + at + length s.now ≤ 2 ^ 40) × (entries.old.count ≤ 2 ^ 58) × (t.count ≤ 2 ^ 59) }
+    ensures { Emits entries.old entries.new result (played_piece c lead trump t (piece at s.now)) × Seated result × (result.count ≤ t.count + length s.now) }
 {
     let mut w = t;
     let mut i = lead_len(s);
     while i < s.len() {
         let rest = from(s, i);
         let n = word_len(rest);
-        w = play_step(c, lead, trump, w, upto(rest, n), a, base, entries);
+        w = play_step(c, lead, trump, w, upto(rest, n), entries);
         i = i + n + lead_len(from(rest, n));
     }
     w
@@ -324,27 +311,19 @@ fn one_more(t: Tricks) -> Tricks
     requires { t.count ≤ 2 ^ 60 }
     ensures { result ≡ one_more t }
 {
-    let s = t.slots;
     Tricks {
-        any: t.any,
-        leader: t.leader,
-        winner: t.winner,
-        slots: s,
-        seat: t.seat,
-        end: t.end,
-        stopped: t.stopped,
         count: t.count + 1,
+        ..t
     }
 }
 
 // The section closes: its last trick is stored.
-pub(crate) fn last_trick(t: Tricks, a: usize, base: usize, entries: &mut [u32]) -> Tricks
-    requires { Seated t × (a ≤ 2 ^ 40) × (base + t.count ≤ 2 ^ 60) }
-    ensures { Emits a (base + t.count) entries.old entries.new result (last_trick t) × (result.count ≤ t.count + 1) }
+pub(crate) fn last_trick(t: Tricks, entries: &mut Entries) -> Tricks
+    requires { Seated t × (entries.old.start ≤ 2 ^ 40) × (entries.old.count ≤ 2 ^ 60) × (t.count ≤ 2 ^ 60) }
+    ensures { Emits entries.old entries.new result (last_trick t) × (result.count ≤ t.count + 1) }
 {
-    let any = t.any;
-    if any {
-        put_entry(entries, base + t.count, a, trick_entry(t));
+    if t.any {
+        entries.push(trick_entry(t));
         return one_more(t);
     }
     t

@@ -10,6 +10,7 @@ ghost use Rattle.reader.specs.SectionSteps.{visit_of, no_piece, NextPiece, walk_
 use crate::auction::{Bidding, call_piece, no_bidding};
 use crate::line::{Line, has_brace, line_kind};
 use crate::play::{Tricks, no_tricks, play_piece};
+use crate::store::Entries;
 use crate::tag::Span;
 use crate::walk::line_at;
 use tables::dd::{Cells, Row, no_cells, read_row, stored_row};
@@ -157,7 +158,7 @@ fn walk_row(c: Conventions, w: Rows, s: &[u8]) -> Rows
     }
 }
 
-// A piece of the section's data at the place `at` of a record that starts at `a`; the section's entries stand from `base` on.
+// A piece of the section's data at the place `at` of its record.
 fn walk_piece(
     c: Conventions,
     o: Open,
@@ -165,18 +166,16 @@ fn walk_piece(
     w: Walk,
     s: &[u8],
     at: usize,
-    a: usize,
-    base: usize,
-    entries: &mut [u32],
+    entries: &mut Entries,
 ) -> Walk
-    requires { Seated w.tricks × (a + at + length s.now ≤ 2 ^ 40) × (base + walk_count w ≤ 2 ^ 59) × (o.kind ≡ 2 → o.seat ≤ 3) }
-    ensures { Walks a (base + walk_count w) (walk_count w + 3 * length s.now) entries.old entries.new result (walked c o trump w (piece at s.now)) }
+    requires { Seated w.tricks × (entries.old.start + at + length s.now ≤ 2 ^ 40) × (entries.old.count ≤ 2 ^ 58) × (walk_count w ≤ 2 ^ 59) × (o.kind ≡ 2 → o.seat ≤ 3) }
+    ensures { Walks (walk_count w + 3 * length s.now) entries.old entries.new result (walked c o trump w (piece at s.now)) }
 {
     let bidding = w.bidding;
     let tricks = w.tricks;
     let rows = w.rows;
     if o.kind == 1 {
-        let bid = call_piece(c, bidding, s, at, a, base + tricks.count, entries);
+        let bid = call_piece(c, bidding, s, at, entries);
         return Walk {
             bidding: bid,
             tricks,
@@ -184,8 +183,7 @@ fn walk_piece(
         };
     }
     if o.kind == 2 {
-        let n = base + bidding.count;
-        let played = play_piece(c, o.seat, trump, tricks, s, at, a, n, entries);
+        let played = play_piece(c, o.seat, trump, tricks, s, at, entries);
         return Walk {
             bidding,
             tricks: played,
@@ -207,12 +205,10 @@ fn walk_span(
     trump: usize,
     w: Walk,
     s: Span,
-    a: usize,
-    base: usize,
-    entries: &mut [u32],
+    entries: &mut Entries,
 ) -> Walk
-    requires { Seated w.tricks × (a + length r.now ≤ 2 ^ 40) × (base + walk_count w ≤ 2 ^ 59) × (s.start + s.len ≤ length r.now) × (o.kind ≡ 2 → o.seat ≤ 3) }
-    ensures { Walks a (base + walk_count w) (walk_count w + 3 * s.len) entries.old entries.new result (out_all (walked c o trump) w (split_piece r.now s)) }
+    requires { Seated w.tricks × (entries.old.start + length r.now ≤ 2 ^ 40) × (entries.old.count ≤ 2 ^ 58) × (walk_count w ≤ 2 ^ 59) × (s.start + s.len ≤ length r.now) × (o.kind ≡ 2 → o.seat ≤ 3) }
+    ensures { Walks (walk_count w + 3 * s.len) entries.old entries.new result (out_all (walked c o trump) w (split_piece r.now s)) }
 {
     if s.len == 0 {
         return w;
@@ -224,24 +220,20 @@ fn walk_span(
         w,
         upto(from(r, s.start), s.len),
         s.start,
-        a,
-        base,
         entries,
     )
 }
 
-// All the data of the open section `o` of the record `r`, which starts at `a`; its entries stand from `base` on.
+// All the data of the open section `o` of the record `r`.
 pub(crate) fn walk_section(
     c: Conventions,
     r: &[u8],
     o: Open,
     trump: usize,
-    a: usize,
-    base: usize,
-    entries: &mut [u32],
+    entries: &mut Entries,
 ) -> Walk
-    requires { (a + length r.now ≤ 2 ^ 40) × (base ≤ 2 ^ 58) × (o.at ≤ length r.now) × (o.split.start + o.split.len ≤ length r.now) × (o.kind ≡ 2 → o.seat ≤ 3) }
-    ensures { Walks a base (3 * (o.split.len + (length r.now - o.at))) entries.old entries.new result (walked_all c r.now o trump) }
+    requires { (entries.old.start + length r.now ≤ 2 ^ 40) × (entries.old.count ≤ 2 ^ 57) × (o.at ≤ length r.now) × (o.split.start + o.split.len ≤ length r.now) × (o.kind ≡ 2 → o.seat ≤ 3) }
+    ensures { Walks (3 * (o.split.len + (length r.now - o.at))) entries.old entries.new result (walked_all c r.now o trump) }
 {
     let split = o.split;
     let mut w = no_walk();
@@ -252,7 +244,7 @@ pub(crate) fn walk_section(
     };
     while next.more {
         let s = next.piece;
-        w = walk_span(c, r, o, trump, w, s, a, base, entries);
+        w = walk_span(c, r, o, trump, w, s, entries);
         next = next_piece(r, next.at);
     }
     w

@@ -20,9 +20,9 @@ returns-in-4 c =
 pub returns-in-18 : goal.returns-in-18
 returns-in-18 c =
     let a = c.args in
-    rw (c.in-18.is, applied_digits a.c a.value.now a.place a.b, ← c.table_by-t.ensures)
+    rw (c.in-18.is, applied_digits a.c a.value.now a.place a.b, ← c.table_by-b.ensures)
 
 pub returns-in_default : goal.returns-in_default
 returns-in_default c =
     let a = c.args in
-    rw (applied_plain a.c a.k a.value.now a.place a.b (ne_eqb a.k 4 (omega arith)) (ne_eqb a.k 18 (omega arith)), ← c.identity_by-id.ensures, ← c.values_by-values.ensures, ← c.contract_by.ensures)
+    rw (applied_plain a.c a.k a.value.now a.place a.b (ne_eqb a.k 4 (omega arith)) (ne_eqb a.k 18 (omega arith)), ← c.identity_by-b.ensures, ← c.values_by-b.ensures, ← c.contract_by.ensures)

@@ -16,7 +16,7 @@ returns-in-2 c =
 pub returns-in-3 : goal.returns-in-3
 unfolding identity_by
 returns-in-3 c =
-    rw (c.in-3.is, c.vulnerability_in.ensures)
+    rw (c.in-3.is, c.vulnerability_of.ensures.0)
 
 pub returns-in-8 : goal.returns-in-8
 unfolding identity_by

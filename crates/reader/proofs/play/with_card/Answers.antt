@@ -3,4 +3,4 @@ use Rattle.reader.proofs.play.with_card.Goals as goal
 
 pub returns : goal.returns
 returns c =
-    (rw (← c.winner_now-w.ensures.0), search rules)
+    (rw (← c.winner_now.ensures.0), search rules)

@@ -5,9 +5,9 @@ use Rattle.reader.proofs.reading.last_entries.Goals as goal
 pub returns-then-kind-eq2 : goal.returns-then-kind-eq2
 returns-then-kind-eq2 c =
     let a = c.args in
-    last_stored a.a a.base a.w a.kind _ _ _ (eq-eqb _ _ c.if-kind-eq2.true) c.last_trick-last.ensures.0 c.last_trick-last.ensures.1
+    last_stored a.w a.kind _ _ _ (eq-eqb _ _ c.if-kind-eq2.true) c.last_trick-last.ensures.0 c.last_trick-last.ensures.1
 
 pub returns : goal.returns
 returns c =
     let a = c.args in
-    last_kept_lem a.a a.base a.w a.kind _ (ne_eqb _ _ c.if-kind-eq2.false)
+    last_kept_lem a.w a.kind _ (ne_eqb _ _ c.if-kind-eq2.false)

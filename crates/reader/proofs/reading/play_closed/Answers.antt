@@ -1,6 +1,6 @@
 use Rattle.reader.specs.Play.{last_trick}
 use Rattle.reader.proofs.reading.play_closed.Goals as goal
 
-pub returns-then-any : goal.returns-then-any
+pub returns-then-tricks : goal.returns-then-tricks
 unfolding last_trick
-returns-then-any c = rw c.if-any.true
+returns-then-tricks c = rw c.if-tricks.true

@@ -1,5 +1,5 @@
 use Rattle.reader.proofs.ReadingLaws.{quiet_commentary, quiet_plain}
-use mathlib.Core.Path.{refl}
+use Rattle.reader.proofs.PieceLaws.{emits_none}
 use Rattle.reader.proofs.reading.quiet_line.Goals as goal
 
 pub returns-then-commentary : goal.returns-then-commentary
@@ -11,4 +11,4 @@ returns-then-commentary c =
 pub returns : goal.returns
 returns c =
     let a = c.args in
-    (rw (quiet_plain a.r.now a.s a.p a.l.now c.if-commentary.false) (record { answer = refl; words = refl }), c.requires.2)
+    (rw (quiet_plain a.r.now a.s a.p a.l.now c.if-commentary.false) (emits_none a.entries.now a.s), c.requires.3)

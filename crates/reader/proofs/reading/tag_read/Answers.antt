@@ -10,21 +10,23 @@ pub tag_step-next-requires : goal.tag_step-next-requires
 tag_step-next-requires c =
     let a = c.args in
     let s = c.requires in
-    (s.0, s.1, s.2, s.3, tag_inside a.t (length a.l.now) c.tag_of-tag.ensures s.4, c.split_of-split.ensures.1)
+    (s.0, s.1, s.2, s.3, s.4, tag_inside a.t (length a.l.now) c.tag_of-tag.ensures s.5, c.split_of-split.ensures.1)
 
 pub directive_step-requires : goal.directive_step-requires
 unfolding tagged
 directive_step-requires c =
     let s = c.requires in
-    let k = rw c.in-WithComment.is at s.4 in
-    (omega (arith, s.0, k.1), omega (arith, s.1, ap (λ (x : State). x.n) c.tag_step-next.ensures.emits.answer))
+    let k = rw c.in-WithComment.is at s.5 in
+    let e = c.tag_step-next.ensures.emits in
+    (omega (arith, s.0, k.1, e.adds.start), omega (arith, s.1, e.adds.count), omega (arith, s.2, ap (λ (x : State). x.n) e.answer))
 
 pub data_step-requires : goal.data_step-requires
 unfolding tagged
 data_step-requires c =
     let s = c.requires in
-    let k = rw c.in-WithData.is at s.4 in
-    (omega (arith, s.0, k.1), omega (arith, s.1, ap (λ (x : State). x.n) c.tag_step-next.ensures.emits.answer))
+    let k = rw c.in-WithData.is at s.5 in
+    let e = c.tag_step-next.ensures.emits in
+    (omega (arith, s.0, k.1, e.adds.start), omega (arith, s.1, e.adds.count), omega (arith, s.2, ap (λ (x : State). x.n) e.answer))
 
 pub returns-in-Plain : goal.returns-in-Plain
 returns-in-Plain c =
@@ -34,9 +36,9 @@ returns-in-Plain c =
 pub returns-in-WithComment : goal.returns-in-WithComment
 returns-in-WithComment c =
     let a = c.args in
-    read_comment a.c a.base a.s a.p a.l.now c.in-WithComment.is c.tag_of-tag.ensures c.split_of-split.ensures.0 c.tag_step-next.ensures c.directive_step.ensures
+    read_comment a.c a.s a.p a.l.now c.in-WithComment.is c.tag_of-tag.ensures c.split_of-split.ensures.0 c.tag_step-next.ensures c.directive_step.ensures
 
 pub returns-in-WithData : goal.returns-in-WithData
 returns-in-WithData c =
     let a = c.args in
-    read_data a.c a.base a.s a.p a.l.now c.in-WithData.is c.tag_of-tag.ensures c.split_of-split.ensures.0 c.tag_step-next.ensures c.data_step.ensures
+    read_data a.c a.s a.p a.l.now c.in-WithData.is c.tag_of-tag.ensures c.split_of-split.ensures.0 c.tag_step-next.ensures c.data_step.ensures
