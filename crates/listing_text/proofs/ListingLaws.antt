@@ -5,7 +5,7 @@ use mathlib.Core.Bool.{Bool, true, false, cond}
 use mathlib.Core.List.{List, ◌++◌}
 use native.Mathlib.Omega.{arith}
 use lib.Dec.{ltb, leb}
-use lib.ListN.{length, replicate, length-replicate}
+use lib.ListN.{length, take, replicate, length-replicate}
 use lib.Seq.{length-sets}
 use Rattle.tables.specs.declared.letters.Conventions.{Conventions}
 use Rattle.tables.specs.declared.page.Written.{Written}
@@ -28,10 +28,9 @@ use Rattle.planning.specs.declared.plan.Totals.{Totals}
 use Rattle.planning.specs.declared.plan.Planning.{Planning}
 use Rattle.planning.specs.declared.plan.Planning.TheVariants.{Planned}
 use Rattle.planning.specs.declared.plan.Planning.TheVariants as planning
-use Rattle.planning.specs.Cards.{card_here}
 use Rattle.planning.specs.PlanSteps.{cards_in, BoxesKept, PlanEnded}
 use Rattle.planning.specs.States.{BoardPlan, board_plans, state_of}
-use Rattle.planning.specs.Slips.{slips_of, totals_of}
+use Rattle.planning.specs.Slips.{slips_of, totals_of, card_from}
 use Rattle.planning.specs.Plans.{Boxes, editions_of, are_both, plans_of, slips_answer, planned_by, is_planned, BoxesAfter, BothRead}
 use Rattle.listing_text.specs.Limited.{limited_of, limited_both}
 use Rattle.listing_text.specs.ListingSteps.{BothLimited, Countable, PageKept, BoardsOnPage}
@@ -92,28 +91,27 @@ module _ {c : Conventions} {limit : ℕ} {old new : List ℕ} {boxes boxes' : Bo
 
 -- ---- the lines of all boards, one after the other
 
-pub record Lines (os : List (List ℕ)) (n : ℕ) (box page₀ page : List ℕ) (at k : ℕ) : Type 0 where
-  pub inside : k ≤ n
+pub record Lines (os ns : List (List ℕ)) (page₀ page : List ℕ) (at k : ℕ) : Type 0 where
+  pub inside : k ≤ length ns
   pub low : at ≤ 60 * k
-  pub left : ToPut page₀ 0 (listing_lines (board_plans os (cards_in n box))) page at (listing_lines (boards_left os (cards_in n box) k n box))
+  pub left : ToPut page₀ 0 (listing_lines (board_plans os ns)) page at (listing_lines (boards_left os ns k))
 
-pub lines_first : (os : List (List ℕ)) (n : ℕ) (box page : List ℕ) → Lines os n box page page 0 0
-lines_first os n box page =
+pub lines_first : (os ns : List (List ℕ)) (page : List ℕ) → Lines os ns page page 0 0
+lines_first os ns page =
     record {
       inside = omega arith;
       low = omega arith;
-      left = subst (λ (js : List BoardPlan). ToPut page 0 (listing_lines (board_plans os (cards_in n box))) page 0 (listing_lines js)) (left_first os n box) (to_put page 0 (listing_lines (board_plans os (cards_in n box))));
+      left = subst (λ (js : List BoardPlan). ToPut page 0 (listing_lines (board_plans os ns)) page 0 (listing_lines js)) (left_first os ns) (to_put page 0 (listing_lines (board_plans os ns)));
     }
 
-module _ {os : List (List ℕ)} {n : ℕ} {box page₀ page : List ℕ} {at k : ℕ} (i : Lines os n box page₀ page at k) where
-  pub lines_next : {p : ℕ} {s : BoardState} {page' : List ℕ} {at' : ℕ} → k < n → p ≡ k + 1 → s ≡ state_of os (cards_in n box) (cards_in k box) (card_here k box)
-      → Put page at (board_line p s) page' at' → at' ≤ at + 60 → Lines os n box page₀ page' at' (k + 1)
+module _ {os ns : List (List ℕ)} {page₀ page : List ℕ} {at k : ℕ} (i : Lines os ns page₀ page at k) where
+  pub lines_next : {p : ℕ} {s : BoardState} {page' : List ℕ} {at' : ℕ} → k < length ns → p ≡ k + 1 → s ≡ state_of os ns (take k ns) (card_from ns k)
+      → Put page at (board_line p s) page' at' → at' ≤ at + 60 → Lines os ns page₀ page' at' (k + 1)
   lines_next {p} {s} {page'} {at'} h ep es w hl =
-      let ns = cards_in n box in
       let all = listing_lines (board_plans os ns) in
-      let rest = listing_lines (boards_left os ns (k + 1) n box) in
-      let here = board_line (k + 1) (state_of os ns (cards_in k box) (card_here k box)) in
-      let l : ToPut page₀ 0 all page at (here ++ rest) = subst (λ (js : List BoardPlan). ToPut page₀ 0 all page at (listing_lines js)) (left_step os ns k n box h) i.left in
+      let rest = listing_lines (boards_left os ns (k + 1)) in
+      let here = board_line (k + 1) (state_of os ns (take k ns) (card_from ns k)) in
+      let l : ToPut page₀ 0 all page at (here ++ rest) = subst (λ (js : List BoardPlan). ToPut page₀ 0 all page at (listing_lines js)) (left_step os ns k h) i.left in
       let w' : Put page at here page' at' = rw (ep, es) at w in
       record {
         inside = omega arith;
@@ -121,11 +119,10 @@ module _ {os : List (List ℕ)} {n : ℕ} {box page₀ page : List ℕ} {at k : 
         left = putting here rest l w';
       }
 
-  pub lines_end : n ≤ k → Put page₀ 0 (listing_lines (board_plans os (cards_in n box))) page at × (at ≤ 60 * n)
+  pub lines_end : length ns ≤ k → Put page₀ 0 (listing_lines (board_plans os ns)) page at × (at ≤ 60 * length ns)
   lines_end h =
-      let ns = cards_in n box in
       let all = listing_lines (board_plans os ns) in (
-        put_all_lem (subst (λ (js : List BoardPlan). ToPut page₀ 0 all page at (listing_lines js)) (left_none os ns k n box h) i.left),
+        put_all_lem (subst (λ (js : List BoardPlan). ToPut page₀ 0 all page at (listing_lines js)) (left_none os ns k h) i.left),
         omega (arith, i.low, i.inside),
       )
 
@@ -154,12 +151,12 @@ listed_totals l {t} {u} h =
     (λ e. clash (sym (ap is_planned (rw e at h))))
     (λ e. ap (λ (p : Planning). totals_in p t) (rw e at h))
 
-pub listed_low : (os : List (List ℕ)) (n : ℕ) (box : List ℕ) {boxes : Boxes} {slips : List ℕ} {boxes' : Boxes} {slips' : List ℕ} {t u : Totals} {q : Planning} → t ≡ totals_of (board_plans os (cards_in n box)) → n ≤ 16777215
+pub listed_low : (os ns : List (List ℕ)) {boxes : Boxes} {slips : List ℕ} {boxes' : Boxes} {slips' : List ℕ} {t u : Totals} {q : Planning} → t ≡ totals_of (board_plans os ns) → length ns ≤ 16777215
     → PlanEnded boxes slips t q boxes' slips' → q ≡ Planned u → Countable u
-listed_low os n box {slips = slips} {t = t} {u = u} et h p e =
-    let js = board_plans os (cards_in n box) in
+listed_low os ns {slips = slips} {t = t} {u = u} et h p e =
+    let js = board_plans os ns in
     let eu : u ≡ totals_of js = listed_totals (length slips / 5) (sym e ∙ p.answer) ∙ et in
-    subst⁻¹ Countable eu (totals_low js (rw (boards_count os n box) h))
+    subst⁻¹ Countable eu (totals_low js (rw (boards_count os ns) h))
 
 -- ---- the end
 

@@ -1,5 +1,5 @@
 // The listing: two editions read, the new one planned, and its text put on a page.
-ghost use Rattle.std.specs.Prelude.{◌≡◌, ◌++◌, ◌+◌, ◌*◌, ◌≤◌, ◌<◌, length};
+ghost use Rattle.std.specs.Prelude.{◌≡◌, ◌++◌, ◌*◌, ◌≤◌, length};
 ghost use Rattle.tables.specs.Letters.{built_in};
 ghost use Rattle.tables.specs.Page.{Wrote};
 ghost use Rattle.tables.specs.PageSteps.{Put};
@@ -10,6 +10,7 @@ ghost use Rattle.listing_text.specs.ListingSteps.{Countable, PageKept, BoardsOnP
 
 use crate::limited::read_both_limited;
 use crate::lines::{put_board, put_refused, put_total};
+use planning::cards::{Card, cards_in};
 use planning::editions::Editions;
 use planning::numbers::zero_numbers;
 use planning::plan::{PlanRefusal, Planning, Totals, finish_plan, put_slips, zero_boxes};
@@ -18,39 +19,24 @@ use tables::letters::{Conventions, built_in};
 use tables::page::{Written, finish};
 
 // Puts the line of every board.
-fn put_lines(
-    page: &mut [u8],
-    old_cards: &[u32],
-    olds: usize,
-    new_cards: &[u32],
-    news: usize,
-) -> usize
-    requires { (64 * olds ≤ length old_cards.now) × (64 * news ≤ length new_cards.now) × (olds ≤ 16777215) × (news ≤ 16777215) }
-    ensures { Put page.old 0 (listing_lines (board_plans (cards_in olds old_cards.now) (cards_in news new_cards.now))) page.new result × (result ≤ 60 * news) }
+fn put_lines(page: &mut [u8], olds: &[Card], news: &[Card]) -> usize
+    requires { (length olds.now ≤ 16777215) × (length news.now ≤ 16777215) }
+    ensures { Put page.old 0 (listing_lines (board_plans olds.now news.now)) page.new result × (result ≤ 60 * length news.now) }
 {
     let mut at = 0;
-    let mut k = 0;
-    while k < news {
-        let s = state_of(old_cards, olds, new_cards, news, k);
+    for k in 0..news.len() {
+        let s = state_of(olds, news, k);
         at = put_board(page, at, (k + 1) as u64, s);
-        k += 1;
     }
     at
 }
 
 // Puts the line of every board, and that of the totals.
-fn put_listing(
-    page: &mut [u8],
-    old_cards: &[u32],
-    olds: usize,
-    new_cards: &[u32],
-    news: usize,
-    t: Totals,
-) -> usize
-    requires { (64 * olds ≤ length old_cards.now) × (64 * news ≤ length new_cards.now) × (olds ≤ 16777215) × (news ≤ 16777215) × Countable t }
-    ensures { Put page.old 0 (listing_lines (board_plans (cards_in olds old_cards.now) (cards_in news new_cards.now)) ++ total_line t) page.new result }
+fn put_listing(page: &mut [u8], olds: &[Card], news: &[Card], t: Totals) -> usize
+    requires { (length olds.now ≤ 16777215) × (length news.now ≤ 16777215) × Countable t }
+    ensures { Put page.old 0 (listing_lines (board_plans olds.now news.now) ++ total_line t) page.new result }
 {
-    let at = put_lines(page, old_cards, olds, new_cards, news);
+    let at = put_lines(page, olds, news);
     put_total(page, at, t)
 }
 
@@ -104,11 +90,16 @@ fn list_taken(
         (record { old_cards = old_cards.new; old_entries = old_entries.new; new_cards = new_cards.new; new_entries = new_entries.new })
         slips.new page.new result }
 {
-    let t = put_slips(old_cards, olds, new_cards, news, slips);
+    let t = put_slips(cards_in(old_cards, olds), cards_in(new_cards, news), slips);
     match finish_plan(old_cards, old_entries, new_cards, new_entries, slips, t) {
         Planning::Refused(f) => write_refused(page, f),
         Planning::Planned(t) => {
-            let n = put_listing(page, old_cards, olds, new_cards, news, t);
+            let n = put_listing(
+                page,
+                cards_in(old_cards, olds),
+                cards_in(new_cards, news),
+                t,
+            );
             finish_listing(
                 old_cards,
                 old_entries,

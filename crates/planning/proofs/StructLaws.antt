@@ -90,7 +90,7 @@ listed_room (Both m n) ls t h = listed_fits ls t h
 listed_room (editions.Refused f) ls t h = clash h
 
 module _ (slips : List Slip) {c : Conventions} {old new : List ℕ} {boxes boxes' : Boxes} {slips' : List Slip} {r : Counted} (h : IsCounted c old new boxes (length slips) boxes' r)
-    (f : slips' ≡ filled_from (next_of r.olds boxes'.old_cards r.news boxes'.new_cards) 0 (length slips)) where
+    (f : slips' ≡ filled_from (next_of (cards_in r.olds boxes'.old_cards) (cards_in r.news boxes'.new_cards)) 0 (length slips)) where
   -- Of the boards that are planned.
   numbers_are : (js : List BoardPlan) → board_plans (cards_in r.olds boxes'.old_cards) (cards_in r.news boxes'.new_cards) ≡ js → length (slips_of js) ≤ length slips
       → slip_numbers slips' ≡ padded (5 * length slips) (flat (slips_of js))

@@ -4,8 +4,9 @@ use Rattle.reader.specs.Store.{zeros}
 use Rattle.planning.specs.declared.state.BoardState.{BoardState}
 use Rattle.planning.specs.declared.plan.Totals.{Totals}
 use Rattle.planning.specs.declared.plan.Planning.{Planning}
-use Rattle.planning.specs.Cards.{has_table, card_here}
+use Rattle.planning.specs.Cards.{has_table}
 use Rattle.planning.specs.States.{BoardPlan, state_of, state_number}
+use Rattle.planning.specs.Slips.{card_from}
 use Rattle.planning.specs.Plans.{Boxes, slips_answer, is_planned}
 
 -- The first n cards of lent words.
@@ -13,9 +14,9 @@ abbrev pub cards_in : ℕ → List ℕ → List (List ℕ)
 cards_in zero box = []
 cards_in (suc n) box = take 64 box ∷ cards_in n (drop 64 box)
 
--- The board at index k of the lent cards of the new edition.
-abbrev pub plan_here : List (List ℕ) → List (List ℕ) → ℕ → List ℕ → BoardPlan
-plan_here olds news k box = record { position = k + 1; card = card_here k box; state = state_of olds news (cards_in k box) (card_here k box) }
+-- The board at index k of the new edition.
+abbrev pub plan_here : List (List ℕ) → List (List ℕ) → ℕ → BoardPlan
+plan_here olds news k = record { position = k + 1; card = card_from news k; state = state_of olds news (take k news) (card_from news k) }
 
 -- How many words of two lists are equal, from the front.
 abbrev pub equal_front : List ℕ → List ℕ → ℕ

@@ -22,9 +22,9 @@ abbrev pub slip_from : ℕ → List BoardPlan → NextSlip
 slip_from k [] = record { next = k; slip = no_slip }
 slip_from k (j ∷ js) = cond (is_solve j.state) (record { next = k + 1; slip = slip_struct j.position j.card }) (slip_from (k + 1) js)
 
--- From the board at index k on, of the first news of the lent cards.
-unfoldable pub next_of : ℕ → List ℕ → ℕ → List ℕ → ℕ → NextSlip
-next_of olds old news new k = slip_from k (drop k (board_plans (cards_in olds old) (cards_in news new)))
+-- From the board at index k on.
+unfoldable pub next_of : List (List ℕ) → List (List ℕ) → ℕ → NextSlip
+next_of olds news k = slip_from k (drop k (board_plans olds news))
 
 -- n structs, one after the other, each sought behind the one before it.
 abbrev pub filled_from : (ℕ → NextSlip) → ℕ → ℕ → List Slip

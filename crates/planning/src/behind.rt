@@ -1,12 +1,11 @@
 // The record behind a board, as places of the old or the new edition: its start and its end.
-ghost use Rattle.std.specs.Prelude.{◌≡◌, ◌-◌, ◌*◌, ◌≤◌, ◌<◌, length, get_or, take, drop};
+ghost use Rattle.std.specs.Prelude.{◌≡◌, ◌-◌, ◌<◌, get_or, take, drop};
 ghost use Rattle.tables.specs.Letters.{built_in};
-ghost use Rattle.planning.specs.PlanSteps.{cards_in};
 ghost use Rattle.planning.specs.States.{board_plans};
 ghost use Rattle.planning.specs.Slips.{card_at, old_record, new_record, behind_state, behind_at};
 ghost use Rattle.planning.specs.Plans.{BehindTold, PartTold};
 
-use crate::cards::word_of;
+use crate::cards::{Card, cards_in};
 use crate::editions::{Editions, read_both};
 use crate::state::{BoardState, state_of};
 use tables::letters::{Conventions, built_in};
@@ -26,71 +25,57 @@ pub struct BehindAnswer {
     pub behind: Behind,
 }
 
-// The word w of the card at the position p, from 1, of n cards; 0 where there is none.
-fn word_at(cards: &[u32], n: usize, p: u64, w: usize) -> u64
-    requires { (64 * n ≤ length cards.now) × (w < 64) }
-    ensures { result ≡ get_or (card_at (cards_in n cards.now) p) w 0 }
+// The word w of the card at the position p, from 1; 0 where there is none.
+fn word_at(cards: &[Card], p: u64, w: usize) -> u64
+    requires { w < 64 }
+    ensures { result ≡ get_or (card_at cards.now p) w 0 }
 {
     if p == 0 {
         return 0;
     }
     let k = (p - 1) as usize;
-    if k < n {
-        return word_of(cards, k, w) as u64;
+    if k < cards.len() {
+        return cards[k][w] as u64;
     }
     0
 }
 
 // The record of the card at the position p of the old edition.
-fn old_record(cards: &[u32], n: usize, p: u64) -> Behind
-    requires { 64 * n ≤ length cards.now }
-    ensures { result ≡ old_record (card_at (cards_in n cards.now) p) }
+fn old_record(cards: &[Card], p: u64) -> Behind
+    ensures { result ≡ old_record (card_at cards.now p) }
 {
-    Behind::InOld(word_at(cards, n, p, 60), word_at(cards, n, p, 61))
+    Behind::InOld(word_at(cards, p, 60), word_at(cards, p, 61))
 }
 
 // The same of the new edition.
-fn new_record(cards: &[u32], n: usize, p: u64) -> Behind
-    requires { 64 * n ≤ length cards.now }
-    ensures { result ≡ new_record (card_at (cards_in n cards.now) p) }
+fn new_record(cards: &[Card], p: u64) -> Behind
+    ensures { result ≡ new_record (card_at cards.now p) }
 {
-    Behind::InNew(word_at(cards, n, p, 60), word_at(cards, n, p, 61))
+    Behind::InNew(word_at(cards, p, 60), word_at(cards, p, 61))
 }
 
 // The record behind the board at the position p of the new edition, whose state is s.
-pub(crate) fn behind_state(
-    old_cards: &[u32],
-    olds: usize,
-    new_cards: &[u32],
-    news: usize,
-    p: u64,
-    s: BoardState,
-) -> Behind
-    requires { (64 * olds ≤ length old_cards.now) × (64 * news ≤ length new_cards.now) }
-    ensures { result ≡ behind_state (cards_in olds old_cards.now) (cards_in news new_cards.now) (card_at (cards_in news new_cards.now) p) s }
+pub(crate) fn behind_state(olds: &[Card], news: &[Card], p: u64, s: BoardState) -> Behind
+    ensures { result ≡ behind_state olds.now news.now (card_at news.now p) s }
 {
     match s {
-        BoardState::Blank => new_record(new_cards, news, p),
-        BoardState::Own => new_record(new_cards, news, p),
-        BoardState::Old(k) => old_record(old_cards, olds, k),
-        BoardState::Near(k) => new_record(new_cards, news, k),
-        BoardState::Twin(k) => new_record(new_cards, news, k),
-        BoardState::Solve => new_record(new_cards, news, p),
+        BoardState::Old(k) => old_record(olds, k),
+        BoardState::Near(k) | BoardState::Twin(k) => new_record(news, k),
+        BoardState::Blank | BoardState::Own | BoardState::Solve => new_record(news, p),
     }
 }
 
-// The record behind the board at the position p; nothing outside 1 to news.
-fn behind_at(old_cards: &[u32], olds: usize, new_cards: &[u32], news: usize, p: u64) -> Behind
-    requires { (64 * olds ≤ length old_cards.now) × (64 * news ≤ length new_cards.now) }
-    ensures { result ≡ behind_at (cards_in olds old_cards.now) (cards_in news new_cards.now) (board_plans (cards_in olds old_cards.now) (cards_in news new_cards.now)) p }
+// The record behind the board at the position p; nothing outside 1 to the boards.
+fn behind_at(olds: &[Card], news: &[Card], p: u64) -> Behind
+    ensures { result ≡ behind_at olds.now news.now (board_plans olds.now news.now) p }
 {
     if p == 0 {
         return Behind::Nothing;
     }
     let k = (p - 1) as usize;
-    if k < news {
-        let s = state_of(old_cards, olds, new_cards, news, k);
-        return behind_state(old_cards, olds, new_cards, news, p, s);
+    if k < news.len() {
+        let s = state_of(olds, news, k);
+        return behind_state(olds, news, p, s);
     }
     Behind::Nothing
 }
@@ -117,8 +102,10 @@ pub fn place_behind_with(
             editions,
             behind: Behind::Nothing,
         },
-        Editions::Both(olds, news) => {
-            let behind = behind_at(old_cards, olds as usize, new_cards, news as usize, position);
+        Editions::Both(m, n) => {
+            let olds = cards_in(old_cards, m as usize);
+            let news = cards_in(new_cards, n as usize);
+            let behind = behind_at(olds, news, position);
             BehindAnswer { editions, behind }
         }
     }

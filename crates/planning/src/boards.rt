@@ -1,13 +1,14 @@
 // Every board's state and record behind it, from one reading.
-ghost use Rattle.std.specs.Prelude.{◌≡◌, ◌*◌, ◌≤◌, ◌<◌, length, get_or};
+ghost use Rattle.std.specs.Prelude.{◌≡◌, ◌<◌, length, get_or};
 ghost use Rattle.tables.specs.Letters.{built_in};
 ghost use Rattle.reader.specs.Store.{put_all};
-ghost use Rattle.planning.specs.PlanSteps.{cards_in, plan_here};
+ghost use Rattle.planning.specs.PlanSteps.{plan_here};
 ghost use Rattle.planning.specs.States.{board_plans};
 ghost use Rattle.planning.specs.Slips.{behind_numbers, board_numbers, numbers_from};
 ghost use Rattle.planning.specs.Plans.{BoardsTold};
 
 use crate::behind::{Behind, behind_state};
+use crate::cards::{Card, cards_in};
 use crate::editions::{Editions, read_both};
 use crate::numbers::{put_five, zero_numbers};
 use crate::state::{from_of, state_number, state_of};
@@ -45,18 +46,12 @@ fn end_of(b: Behind) -> u64
 }
 
 // The five numbers of the board at index k.
-fn board_numbers(
-    old_cards: &[u32],
-    olds: usize,
-    new_cards: &[u32],
-    news: usize,
-    k: usize,
-) -> [u64; 5]
-    requires { (64 * olds ≤ length old_cards.now) × (64 * news ≤ length new_cards.now) × (k < news) }
-    ensures { result ≡ board_numbers (cards_in olds old_cards.now) (cards_in news new_cards.now) (plan_here (cards_in olds old_cards.now) (cards_in news new_cards.now) k new_cards.now) }
+fn board_numbers(olds: &[Card], news: &[Card], k: usize) -> [u64; 5]
+    requires { k < length news.now }
+    ensures { result ≡ board_numbers olds.now news.now (plan_here olds.now news.now k) }
 {
-    let s = state_of(old_cards, olds, new_cards, news, k);
-    let b = behind_state(old_cards, olds, new_cards, news, (k + 1) as u64, s);
+    let s = state_of(olds, news, k);
+    let b = behind_state(olds, news, (k + 1) as u64, s);
     [
         state_number(s),
         from_of(s),
@@ -67,18 +62,11 @@ fn board_numbers(
 }
 
 // Stores the five numbers of each board, as many as there is room for.
-fn put_boards(old_cards: &[u32], olds: usize, new_cards: &[u32], news: usize, numbers: &mut [u64])
-    requires { (64 * olds ≤ length old_cards.now) × (64 * news ≤ length new_cards.now) }
-    ensures { numbers.new ≡ put_all 5 numbers.old 0 (numbers_from (cards_in olds old_cards.now) (cards_in news new_cards.now) (board_plans (cards_in olds old_cards.now) (cards_in news new_cards.now))) }
+fn put_boards(olds: &[Card], news: &[Card], numbers: &mut [u64])
+    ensures { numbers.new ≡ put_all 5 numbers.old 0 (numbers_from olds.now news.now (board_plans olds.now news.now)) }
 {
-    let mut k = 0;
-    while k < news {
-        put_five(
-            numbers,
-            k,
-            board_numbers(old_cards, olds, new_cards, news, k),
-        );
-        k += 1;
+    for k in 0..news.len() {
+        put_five(numbers, k, board_numbers(olds, news, k));
     }
 }
 
@@ -103,8 +91,10 @@ pub fn plan_boards_with(
     let editions = read_both(c, old, new, old_cards, old_entries, new_cards, new_entries);
     match editions {
         Editions::Refused(_) => editions,
-        Editions::Both(olds, news) => {
-            put_boards(old_cards, olds as usize, new_cards, news as usize, numbers);
+        Editions::Both(m, n) => {
+            let olds = cards_in(old_cards, m as usize);
+            let news = cards_in(new_cards, n as usize);
+            put_boards(olds, news, numbers);
             editions
         }
     }

@@ -1,14 +1,13 @@
 // The plan: how many boards are in each state, and a slip for each board to solve.
-ghost use Rattle.std.specs.Prelude.{◌≡◌, cond, false, ◌+◌, ◌*◌, ◌≤◌, ◌<◌, ◌^◌, length};
+ghost use Rattle.std.specs.Prelude.{◌≡◌, cond, false, ◌^◌};
 ghost use Rattle.tables.specs.Letters.{built_in};
 ghost use Rattle.reader.specs.Store.{put, put_all};
-ghost use Rattle.planning.specs.Cards.{card_here};
-ghost use Rattle.planning.specs.PlanSteps.{cards_in, counted, Within, BoxesKept, Settled, PlanEnded};
+ghost use Rattle.planning.specs.PlanSteps.{counted, Within, BoxesKept, Settled, PlanEnded};
 ghost use Rattle.planning.specs.States.{board_plans, is_solve};
 ghost use Rattle.planning.specs.Slips.{slip_of, slips_of, totals_of};
 ghost use Rattle.planning.specs.Plans.{plan_number, plan_carries, plan_edition, IsPlanned};
 
-use crate::cards::deal_at;
+use crate::cards::{Card, cards_in, deal_at};
 use crate::editions::{
     Editions, EditionsRefusal, edition_refused, editions_carried, editions_number, read_both,
 };
@@ -88,35 +87,26 @@ fn counted(mut t: Totals, s: BoardState) -> Totals
     t
 }
 
-// The slip of the board at index k: its position from 1 and its hands.
-pub(crate) fn slip_of(cards: &[u32], k: usize) -> [u64; 5]
-    requires { 64 * k + 64 ≤ length cards.now }
-    ensures { result ≡ slip_of (k + 1) (card_here k cards.now) }
+// The slip of the board at the position p: the position and its hands.
+pub(crate) fn slip_of(p: u64, card: &Card) -> [u64; 5]
+    ensures { result ≡ slip_of p card.now }
 {
-    let h = hands_of_words(deal_at(cards, k));
-    [(k + 1) as u64, h.north, h.east, h.south, h.west]
+    let h = hands_of_words(deal_at(card));
+    [p, h.north, h.east, h.south, h.west]
 }
 
-// Stores the slip of the board at index k as the n-th, where the board is to be solved.
-fn put_slip(slips: &mut [u64], n: usize, cards: &[u32], k: usize, s: BoardState)
-    requires { 64 * k + 64 ≤ length cards.now }
-    ensures { slips.new ≡ cond (is_solve s) (put 5 slips.old n (slip_of (k + 1) (card_here k cards.now))) slips.old }
+// Stores the slip of the board at the position p as the n-th, where the board is to be solved.
+fn put_slip(slips: &mut [u64], n: usize, p: u64, card: &Card, s: BoardState)
+    ensures { slips.new ≡ cond (is_solve s) (put 5 slips.old n (slip_of p card.now)) slips.old }
 {
     if state_number(s) == 5 {
-        put_five(slips, n, slip_of(cards, k));
+        put_five(slips, n, slip_of(p, card));
     }
 }
 
 // The totals of all boards of the new edition, and their slips.
-pub fn put_slips(
-    old_cards: &[u32],
-    olds: usize,
-    new_cards: &[u32],
-    news: usize,
-    slips: &mut [u64],
-) -> Totals
-    requires { (64 * olds ≤ length old_cards.now) × (64 * news ≤ length new_cards.now) }
-    ensures { (result ≡ totals_of (board_plans (cards_in olds old_cards.now) (cards_in news new_cards.now))) × (slips.new ≡ put_all 5 slips.old 0 (slips_of (board_plans (cards_in olds old_cards.now) (cards_in news new_cards.now)))) }
+pub fn put_slips(olds: &[Card], news: &[Card], slips: &mut [u64]) -> Totals
+    ensures { (result ≡ totals_of (board_plans olds.now news.now)) × (slips.new ≡ put_all 5 slips.old 0 (slips_of (board_plans olds.now news.now))) }
 {
     let mut t = Totals {
         boards: 0,
@@ -127,23 +117,20 @@ pub fn put_slips(
         twin: 0,
         solve: 0,
     };
-    let mut k = 0;
-    while k < news {
-        let s = state_of(old_cards, olds, new_cards, news, k);
-        put_slip(slips, t.solve as usize, new_cards, k, s);
+    for (k, card) in news.iter().enumerate() {
+        let s = state_of(olds, news, k);
+        put_slip(slips, t.solve as usize, (k + 1) as u64, card, s);
         t = counted(t, s);
-        k += 1;
     }
     t
 }
 
 // How many boards of the new edition are in each state: their totals alone, with no slip lent.
-pub(crate) fn count_boards(old_cards: &[u32], olds: usize, new_cards: &[u32], news: usize) -> Totals
-    requires { (64 * olds ≤ length old_cards.now) × (64 * news ≤ length new_cards.now) }
-    ensures { result ≡ totals_of (board_plans (cards_in olds old_cards.now) (cards_in news new_cards.now)) }
+pub(crate) fn count_boards(olds: &[Card], news: &[Card]) -> Totals
+    ensures { result ≡ totals_of (board_plans olds.now news.now) }
 {
     let mut none = [0u64; 0];
-    put_slips(old_cards, olds, new_cards, news, &mut none)
+    put_slips(olds, news, &mut none)
 }
 
 // Sets all cards and entries to 0.
@@ -237,8 +224,10 @@ pub fn plan_with(
     zero_numbers(slips);
     match read_both(c, old, new, old_cards, old_entries, new_cards, new_entries) {
         Editions::Refused(f) => Planning::Refused(PlanRefusal::Edition(f)),
-        Editions::Both(olds, news) => {
-            let t = put_slips(old_cards, olds as usize, new_cards, news as usize, slips);
+        Editions::Both(m, n) => {
+            let olds = cards_in(old_cards, m as usize);
+            let news = cards_in(new_cards, n as usize);
+            let t = put_slips(olds, news, slips);
             finish_plan(old_cards, old_entries, new_cards, new_entries, slips, t)
         }
     }

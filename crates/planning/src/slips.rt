@@ -1,12 +1,12 @@
 // Slips as structs: the plan of `plan`, with a struct where that one stores five numbers.
-ghost use Rattle.std.specs.Prelude.{◌≡◌, ◌+◌, ◌*◌, ◌≤◌, ◌<◌, length};
+ghost use Rattle.std.specs.Prelude.{◌≡◌, ◌≤◌, length};
 ghost use Rattle.tables.specs.Letters.{built_in};
 ghost use Rattle.planning.specs.declared.plan.Planning.TheVariants.{Refused};
-ghost use Rattle.planning.specs.Cards.{card_here};
 ghost use Rattle.planning.specs.Slips.{slip_numbers};
 ghost use Rattle.planning.specs.SlipSteps.{slip_struct, next_of, filled_from, IsCounted};
 ghost use Rattle.planning.specs.Plans.{IsPlanned};
 
+use crate::cards::{Card, cards_in};
 use crate::editions::{Editions, read_both};
 use crate::plan::{PlanRefusal, Planning, count_boards, settle, slip_of};
 use crate::state::{state_number, state_of};
@@ -37,12 +37,11 @@ pub struct Counted {
     pub news: usize,
 }
 
-// The slip of the board at index k.
-fn slip_here(cards: &[u32], k: usize) -> Slip
-    requires { 64 * k + 64 ≤ length cards.now }
-    ensures { result ≡ slip_struct (k + 1) (card_here k cards.now) }
+// The slip of the board at the position p.
+fn slip_here(p: u64, card: &Card) -> Slip
+    ensures { result ≡ slip_struct p card.now }
 {
-    let five = slip_of(cards, k);
+    let five = slip_of(p, card);
     Slip {
         position: five[0],
         north: five[1],
@@ -53,18 +52,16 @@ fn slip_here(cards: &[u32], k: usize) -> Slip
 }
 
 // The slip of the first board from index k on that is to be solved; zeros where there is none.
-fn next_slip(old_cards: &[u32], olds: usize, new_cards: &[u32], news: usize, k: usize) -> NextSlip
-    requires { (64 * olds ≤ length old_cards.now) × (64 * news ≤ length new_cards.now) }
-    ensures { result ≡ next_of olds old_cards.now news new_cards.now k }
+fn next_slip(olds: &[Card], news: &[Card], k: usize) -> NextSlip
+    requires { k ≤ length news.now }
+    ensures { (result ≡ next_of olds.now news.now k) × (result.next ≤ length news.now) }
 {
-    let mut i = k;
-    while i < news {
-        let s = state_of(old_cards, olds, new_cards, news, i);
+    for i in k..news.len() {
+        let s = state_of(olds, news, i);
         if state_number(s) == 5 {
-            let slip = slip_here(new_cards, i);
+            let slip = slip_here((i + 1) as u64, &news[i]);
             return NextSlip { next: i + 1, slip };
         }
-        i += 1;
     }
     let slip = Slip {
         position: 0,
@@ -73,21 +70,21 @@ fn next_slip(old_cards: &[u32], olds: usize, new_cards: &[u32], news: usize, k: 
         south: 0,
         west: 0,
     };
-    NextSlip { next: i, slip }
+    NextSlip {
+        next: news.len(),
+        slip,
+    }
 }
 
 // Fills the structs with the slips of the boards to solve, as many as there is room for, and the rest with zeros.
-fn fill_slips(old_cards: &[u32], olds: usize, new_cards: &[u32], news: usize, slips: &mut [Slip])
-    requires { (64 * olds ≤ length old_cards.now) × (64 * news ≤ length new_cards.now) }
-    ensures { slips.new ≡ filled_from (next_of olds old_cards.now news new_cards.now) 0 (length slips.old) }
+fn fill_slips(olds: &[Card], news: &[Card], slips: &mut [Slip])
+    ensures { slips.new ≡ filled_from (next_of olds.now news.now) 0 (length slips.old) }
 {
     let mut k = 0;
-    let mut i = 0;
-    while i < slips.len() {
-        let f = next_slip(old_cards, olds, new_cards, news, k);
+    for i in 0..slips.len() {
+        let f = next_slip(olds, news, k);
         slips[i] = f.slip;
         k = f.next;
-        i += 1;
     }
 }
 
@@ -122,15 +119,17 @@ fn plan_counted(
 {
     match read_both(c, old, new, old_cards, old_entries, new_cards, new_entries) {
         Editions::Refused(f) => refused(PlanRefusal::Edition(f)),
-        Editions::Both(olds, news) => {
-            let t = count_boards(old_cards, olds as usize, new_cards, news as usize);
+        Editions::Both(m, n) => {
+            let olds = cards_in(old_cards, m as usize);
+            let news = cards_in(new_cards, n as usize);
+            let t = count_boards(olds, news);
             let answer = settle(old_cards, old_entries, new_cards, new_entries, room, t);
             match answer {
                 Planning::Refused(f) => refused(f),
                 Planning::Planned(_) => Counted {
                     answer,
-                    olds: olds as usize,
-                    news: news as usize,
+                    olds: m as usize,
+                    news: n as usize,
                 },
             }
         }
@@ -164,7 +163,9 @@ pub fn plan_slips_with(
         new_entries,
         slips.len(),
     );
-    fill_slips(old_cards, p.olds, new_cards, p.news, slips);
+    let olds = cards_in(old_cards, p.olds);
+    let news = cards_in(new_cards, p.news);
+    fill_slips(olds, news, slips);
     p.answer
 }
 

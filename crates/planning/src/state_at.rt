@@ -1,10 +1,10 @@
 // The state of a board, by position.
-ghost use Rattle.std.specs.Prelude.{◌≡◌, ◌*◌, ◌≤◌, ◌<◌, length};
+ghost use Rattle.std.specs.Prelude.{◌≡◌};
 ghost use Rattle.tables.specs.Letters.{built_in};
-ghost use Rattle.planning.specs.PlanSteps.{cards_in};
 ghost use Rattle.planning.specs.States.{board_plans, state_at};
 ghost use Rattle.planning.specs.Plans.{StateTold};
 
+use crate::cards::{Card, cards_in};
 use crate::editions::{Editions, read_both};
 use crate::state::{BoardState, state_of};
 use tables::letters::{Conventions, built_in};
@@ -16,17 +16,16 @@ pub struct StateAnswer {
     pub state: BoardState,
 }
 
-// The state of the board at the position p; blank outside 1 to news.
-fn state_in(old_cards: &[u32], olds: usize, new_cards: &[u32], news: usize, p: u64) -> BoardState
-    requires { (64 * olds ≤ length old_cards.now) × (64 * news ≤ length new_cards.now) }
-    ensures { result ≡ state_at (board_plans (cards_in olds old_cards.now) (cards_in news new_cards.now)) p }
+// The state of the board at the position p; blank outside 1 to the boards.
+fn state_in(olds: &[Card], news: &[Card], p: u64) -> BoardState
+    ensures { result ≡ state_at (board_plans olds.now news.now) p }
 {
     if p == 0 {
         return BoardState::Blank;
     }
     let k = (p - 1) as usize;
-    if k < news {
-        return state_of(old_cards, olds, new_cards, news, k);
+    if k < news.len() {
+        return state_of(olds, news, k);
     }
     BoardState::Blank
 }
@@ -53,8 +52,10 @@ pub fn state_at_with(
             editions,
             state: BoardState::Blank,
         },
-        Editions::Both(olds, news) => {
-            let state = state_in(old_cards, olds as usize, new_cards, news as usize, position);
+        Editions::Both(m, n) => {
+            let olds = cards_in(old_cards, m as usize);
+            let news = cards_in(new_cards, n as usize);
+            let state = state_in(olds, news, position);
             StateAnswer { editions, state }
         }
     }

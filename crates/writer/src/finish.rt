@@ -9,7 +9,7 @@ ghost use Rattle.writer.specs.Finishings.{finish_number, finish_carries, finish_
 use crate::give::give_tables;
 use crate::page::put_page;
 use crate::write::clear;
-use planning::cards::{has_table, is_whole};
+use planning::cards::{card_here, has_table, is_whole};
 use planning::editions::{
     Editions, EditionsRefusal, edition_refused, editions_carried, editions_number, read_both,
 };
@@ -79,8 +79,9 @@ fn mark_card(cards: &mut [u32], k: usize)
     requires { 64 * k + 64 ≤ length cards.old }
     ensures { cards.new ≡ changed_at marked k cards.old }
 {
-    let whole = is_whole(cards, k);
-    let tabled = has_table(cards, k);
+    let card = card_here(cards, k);
+    let whole = is_whole(card);
+    let tabled = has_table(card);
     if whole & !tabled {
         cards[64 * k + 38] = 3;
     }

@@ -1,11 +1,14 @@
 use Rattle.planning.proofs.AnswerLaws.{there, state_told, state_none}
 use Rattle.planning.proofs.state_at.state_at_with.Goals as goal
 
-pub state_in-state-requires : goal.state_in-state-requires
-state_in-state-requires c = ((there c.read_both-editions.ensures c.in-Both.is).0.room, (there c.read_both-editions.ensures c.in-Both.is).1.room)
+pub cards_in-olds-requires : goal.cards_in-olds-requires
+cards_in-olds-requires c = (there c.read_both-editions.ensures c.in-Both.is).0.room
+
+pub cards_in-news-requires : goal.cards_in-news-requires
+cards_in-news-requires c = (there c.read_both-editions.ensures c.in-Both.is).1.room
 
 pub returns-in-Refused : goal.returns-in-Refused
 returns-in-Refused c = state_none c.read_both-editions.ensures c.in-Refused.is
 
 pub returns-in-Both : goal.returns-in-Both
-returns-in-Both c = state_told c.read_both-editions.ensures c.in-Both.is c.state_in-state.ensures
+returns-in-Both c = state_told c.read_both-editions.ensures c.in-Both.is (rw (c.cards_in-olds.ensures.0, c.cards_in-news.ensures.0) at c.state_in-state.ensures)
