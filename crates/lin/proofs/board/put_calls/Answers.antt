@@ -1,7 +1,7 @@
 use mathlib.Core.Path.{ap, ◌∙◌}
 use native.Mathlib.Omega.{arith}
 use Rattle.writer.proofs.PutLaws.{puts_first, puts_same, puts_next, puts_then}
-use Rattle.writer.proofs.TokenLaws.{puts_last}
+use Rattle.writer.proofs.PutLaws.{puts_last}
 use Rattle.lin.specs.Bidding.{call_in}
 use Rattle.lin.proofs.BoardLaws.{tokens_turn, tokens_same, tokens_end}
 use Rattle.lin.proofs.BiddingLaws.{calls_met, calls_pass, calls_other}

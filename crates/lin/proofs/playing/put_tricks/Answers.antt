@@ -5,7 +5,7 @@ use Rattle.lin.specs.PairSteps.{between, IsNext}
 use Rattle.lin.specs.Playing.{card_in}
 use Rattle.lin.specs.PlayingSteps.{trick_texts}
 use Rattle.writer.proofs.PutLaws.{puts_first, puts_same, puts_next}
-use Rattle.writer.proofs.TokenLaws.{puts_last}
+use Rattle.writer.proofs.PutLaws.{puts_last}
 use Rattle.lin.proofs.PlayingLaws.{cards_end, cards_met, cards_pass, cards_other, tricks_end, tricks_full, tricks_more}
 use Rattle.lin.proofs.playing.put_tricks.Goals as goal
 
