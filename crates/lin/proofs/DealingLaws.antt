@@ -25,7 +25,8 @@ use Rattle.lin.specs.declared.dealing.LinHand.{LinHand}
 use Rattle.lin.specs.declared.dealing.LinHand.TheVariants.{Held, Again}
 use Rattle.lin.specs.declared.dealing.LinDeal.TheVariants.{Dealt, Faulty}
 use Rattle.lin.specs.declared.dealing.LinDealing.{LinDealing}
-use Rattle.lin.specs.Pairs.{parts, Pair, is_pair, md}
+use Rattle.lin.specs.declared.pairs.Command.TheVariants.{Md}
+use Rattle.lin.specs.Pairs.{parts, Pair, is_pair}
 use Rattle.lin.specs.Dealing.{Dealing, no_dealing, dealer_of, hand_cards, hand_of, unheld, is_thirteen, east_of, dealt_by, dealing_in, dealing_from, all_cards, has_card, is_hand, is_deal, dealt_hands}
 use Rattle.lin.specs.DealingSteps.{letter_step, after_letter, hand_run, start_part, held_count, hand_read, IsSoundHand, field_first, fields_behind, dealt_as, hands_dealt, fields_dealt, told_by, told, told_in}
 use Rattle.lin.specs.PieceSteps.{any_bits}
@@ -399,15 +400,15 @@ told_in_lem c d (b ∷ bs) = by_cases (ltb (dealer_of (single b bs)) 4) (λ t. r
 -- The walk over the pairs.
 abbrev pub told_from : Conventions → LinDealing → List Pair → LinDealing
 told_from c t [] = t
-told_from c t (p ∷ ps) = told_from c (cond (is_pair md p) (told_in c t (trimmed p.value)) t) ps
+told_from c t (p ∷ ps) = told_from c (cond (is_pair Md p) (told_in c t (trimmed p.value)) t) ps
 
 pub told_step : (c : Conventions) (d : Dealing) (p : Pair)
-    → cond (is_pair md p) (told_in c (told d) (trimmed p.value)) (told d) ≡ told (cond (is_pair md p) (dealing_in c d (trimmed p.value)) d)
-told_step c d p = by_cases (is_pair md p) (λ t. rw t (told_in_lem c d (trimmed p.value))) (λ t. rw t)
+    → cond (is_pair Md p) (told_in c (told d) (trimmed p.value)) (told d) ≡ told (cond (is_pair Md p) (dealing_in c d (trimmed p.value)) d)
+told_step c d p = by_cases (is_pair Md p) (λ t. rw t (told_in_lem c d (trimmed p.value))) (λ t. rw t)
 
 pub told_from_lem : (c : Conventions) (d : Dealing) (ps : List Pair) → told_from c (told d) ps ≡ told (dealing_from c d ps)
 told_from_lem c d [] = refl
-told_from_lem c d (p ∷ ps) = rw (told_step c d p) (told_from_lem c (cond (is_pair md p) (dealing_in c d (trimmed p.value)) d) ps)
+told_from_lem c d (p ∷ ps) = rw (told_step c d p) (told_from_lem c (cond (is_pair Md p) (dealing_in c d (trimmed p.value)) d) ps)
 
 pub told_dealer : (d : Dealing) → (told d).dealer ≡ d.dealer
 told_dealer d = by_cases (is_deal d) (λ t. rw t) (λ t. rw t)
@@ -426,8 +427,8 @@ dealer_in c d (b ∷ bs) h =
 pub dealer_from : (c : Conventions) (d : Dealing) (ps : List Pair) → d.dealer ≤ 3 → (dealing_from c d ps).dealer ≤ 3
 dealer_from c d [] h = h
 dealer_from c d (p ∷ ps) h =
-    dealer_from c (cond (is_pair md p) (dealing_in c d (trimmed p.value)) d) ps
-    (by_cases (is_pair md p) (λ t. rw t (dealer_in c d (trimmed p.value) h)) (λ t. rw t h))
+    dealer_from c (cond (is_pair Md p) (dealing_in c d (trimmed p.value)) d) ps
+    (by_cases (is_pair Md p) (λ t. rw t (dealer_in c d (trimmed p.value) h)) (λ t. rw t h))
 
 pub told_dealer_low : (c : Conventions) (ps : List Pair) → (told (dealing_from c no_dealing ps)).dealer ≤ 3
 told_dealer_low c ps = rw (told_dealer (dealing_from c no_dealing ps)) (dealer_from c no_dealing ps (omega arith))
@@ -472,8 +473,8 @@ packed_in c d (b ∷ bs) p =
 packed_from : (c : Conventions) (d : Dealing) (ps : List Pair) → Packed d → Packed (dealing_from c d ps)
 packed_from c d [] p = p
 packed_from c d (q ∷ ps) p =
-    packed_from c (cond (is_pair md q) (dealing_in c d (trimmed q.value)) d) ps
-    (by_cases (is_pair md q) (λ t. rw t (packed_in c d (trimmed q.value) p)) (λ t. rw t p))
+    packed_from c (cond (is_pair Md q) (dealing_in c d (trimmed q.value)) d) ps
+    (by_cases (is_pair Md q) (λ t. rw t (packed_in c d (trimmed q.value) p)) (λ t. rw t p))
 
 few_cards : (ks : List ℕ) → distinct ks ≡ true → every in_pack ks ≡ true → is_hand ks ≡ true → card_count (hand_bits ks) ≤ 13
 few_cards ks d f h = rw (count_total ks d f) (leb-true (length ks) 13 h)

@@ -15,7 +15,8 @@ use Rattle.writer.specs.Remarks.{lines_text}
 use Rattle.writer.proofs.PutLaws.{puts_then, puts_as, puts_nothing}
 use Rattle.lin.specs.declared.pieces.Progress.{Progress}
 use Rattle.lin.specs.declared.survey.Survey.{Survey}
-use Rattle.lin.specs.Pairs.{Pair, has_pair, md}
+use Rattle.lin.specs.declared.pairs.Command.TheVariants.{Md}
+use Rattle.lin.specs.Pairs.{Pair, has_pair}
 use Rattle.lin.specs.Pieces.{with_deal}
 use Rattle.lin.specs.Dealing.{Dealing, no_dealing, dealing_from, has_card, is_deal}
 use Rattle.lin.specs.SurveySteps.{no_survey, survey_from}
@@ -191,13 +192,13 @@ going_next {c} {pieces} {x} {rest} {page₀} {page} {page'} {g} {r} n m =
 pub going_if : {c : Conventions} {pieces : List (List Pair)} (x : List Pair) (rest : List (List Pair)) {page₀ page page' : List ℕ} {g r : Progress} → Going c pieces (with_deal (x ∷ rest)) page₀ page g
     → GoesIf c x page g page' r → Going c pieces (with_deal rest) page₀ page' r
 going_if {c} {pieces} x rest {page₀} {page} {page'} {g} {r} n m =
-    by_cases (has_pair md x)
+    by_cases (has_pair Md x)
     (λ t. going_next (going_same (rw t) n) (m.takes t))
     (λ t. let s = m.skips t in rw (s.0, s.1) (going_same (rw t) n))
 
 pub if_more : {c : Conventions} {x : List Pair} {page page' : List ℕ} {g r : Progress} → GoesIf c x page g page' r → r.boards ≤ g.boards + 1
 if_more {c} {x} {page} {page'} {g} {r} m =
-    by_cases (has_pair md x) (λ t. (m.takes t).one_more) (λ t. rw (m.skips t).1 (omega arith))
+    by_cases (has_pair Md x) (λ t. (m.takes t).one_more) (λ t. rw (m.skips t).1 (omega arith))
 
 pub going_end : {c : Conventions} {pieces : List (List Pair)} {page₀ page : List ℕ} {g : Progress} → Going c pieces [] page₀ page g → GoesAll c pieces page₀ page g
 going_end {c} {pieces} n = rw (n.pieces_are, append-nil n.done) n.gone

@@ -4,7 +4,8 @@ use Rattle.tables.specs.declared.letters.Conventions.{Conventions}
 use Rattle.tables.specs.Text.{trimmed}
 use Rattle.lin.specs.declared.dealing.LinDealing.{LinDealing}
 use Rattle.lin.specs.declared.survey.Survey.{Survey}
-use Rattle.lin.specs.Pairs.{Pair, is_pair, md, sv, mb, pc}
+use Rattle.lin.specs.declared.pairs.Command.TheVariants.{Md, Sv, Mb, Pc}
+use Rattle.lin.specs.Pairs.{Pair, is_pair}
 use Rattle.lin.specs.Dealing.{no_dealing}
 use Rattle.lin.specs.DealingSteps.{told, told_in}
 use Rattle.lin.specs.Bidding.{vulnerability_in, call_in, next_seat, no_contract, with_call}
@@ -39,10 +40,10 @@ survey_card s t =
 -- One more pair.
 unfoldable pub surveyed : Conventions → Survey → Pair → Survey
 surveyed c s p =
-    cond (is_pair md p) (survey_deal s (told_in c s.deal (trimmed p.value)))
-    (cond (is_pair sv p) (survey_sides s (vulnerability_in (trimmed p.value)))
-    (cond (is_pair mb p) (survey_call s (call_in c p.value))
-    (cond (is_pair pc p) (survey_card s (ltb (card_in c (trimmed p.value)) 52)) s)))
+    cond (is_pair Md p) (survey_deal s (told_in c s.deal (trimmed p.value)))
+    (cond (is_pair Sv p) (survey_sides s (vulnerability_in (trimmed p.value)))
+    (cond (is_pair Mb p) (survey_call s (call_in c p.value))
+    (cond (is_pair Pc p) (survey_card s (ltb (card_in c (trimmed p.value)) 52)) s)))
 
 abbrev pub survey_from : Conventions → Survey → List Pair → Survey
 survey_from c s [] = s
