@@ -129,13 +129,19 @@ fn declarer_of(c: Conventions, text: &[u8], dealer: usize, k: Contract) -> u8
     ((dealer as u8) + first_to_name(c, text, k)) % 4
 }
 
-// All lines of a board of which s is known, and whose hands make a deal.
-pub(crate) fn put_board(c: Conventions, text: &[u8], s: Survey, page: &mut [u8], at: usize) -> usize
+// All lines of a board of which s is known, and whose hands these are.
+pub(crate) fn put_board(
+    c: Conventions,
+    text: &[u8],
+    s: Survey,
+    hands: Hands,
+    page: &mut [u8],
+    at: usize,
+) -> usize
     requires { s.deal.dealer ≤ 3 }
-    ensures { Puts page.old at (survey_text c s (pairs_of text.now)) page.new result }
+    ensures { Puts page.old at (survey_text c s hands (pairs_of text.now)) page.new result }
 {
     let d = s.deal;
-    let hands = d.hands;
     let k = s.contract;
     let declarer = declarer_of(c, text, d.dealer, k);
     let a = put_head(page, at, c, d.dealer, s.vulnerability as usize, hands);

@@ -59,11 +59,9 @@ fn put_piece(c: Conventions, text: &[u8], page: &mut [u8], g: Progress) -> Progr
 {
     if g.good {
         let s = survey_of(c, text);
-        let d = s.deal;
-        if d.good {
-            let hands = d.hands;
+        if let Some(hands) = s.deal.hands {
             let above = put_above(page, g.at, g.boards == 0);
-            let at = put_board(c, text, s, page, above);
+            let at = put_board(c, text, s, hands, page, above);
             return Progress {
                 at,
                 boards: g.boards + 1,

@@ -2,7 +2,7 @@
 ghost use Rattle.std.specs.Prelude.{◌≡◌, ◌≤◌};
 ghost use Rattle.lin.specs.Pairs.{pairs_of};
 ghost use Rattle.lin.specs.PairSteps.{pair_of};
-ghost use Rattle.lin.specs.SurveySteps.{no_survey, survey_call, survey_deal, survey_sides, survey_card, surveyed, survey_from};
+ghost use Rattle.lin.specs.SurveySteps.{no_survey, survey_call, surveyed, survey_from};
 
 use crate::bidding::{Contract, call_in, next_seat, vulnerability_in, with_call};
 use crate::dealing::{LinDealing, deal_in};
@@ -27,27 +27,24 @@ pub struct Survey {
 fn no_survey() -> Survey
     ensures { (result ≡ no_survey) × (result.seat ≤ 3) }
 {
-    let deal = LinDealing {
-        dealer: 0,
-        hands: Hands {
-            north: 0,
-            east: 0,
-            south: 0,
-            west: 0,
-        },
-        good: true,
-    };
-    let contract = Contract {
-        bid: 0,
-        bidder: 0,
-        doubling: 0,
-    };
     Survey {
-        deal,
+        deal: LinDealing {
+            dealer: 0,
+            hands: Some(Hands {
+                north: 0,
+                east: 0,
+                south: 0,
+                west: 0,
+            }),
+        },
         vulnerability: 0,
         called: false,
         seat: 0,
-        contract,
+        contract: Contract {
+            bid: 0,
+            bidder: 0,
+            doubling: 0,
+        },
         played: false,
     }
 }
@@ -58,66 +55,14 @@ fn survey_call(s: Survey, code: u8) -> Survey
     ensures { (result ≡ survey_call s code) × (result.seat ≤ 3) }
 {
     if code < 47 {
-        let k = s.contract;
-        let contract = with_call(s.seat, k, code);
-        let deal = s.deal;
         return Survey {
-            deal,
-            vulnerability: s.vulnerability,
             called: true,
             seat: next_seat(s.seat),
-            contract,
-            played: s.played,
+            contract: with_call(s.seat, s.contract, code),
+            ..s
         };
     }
     s
-}
-
-// With another deal.
-fn survey_deal(s: Survey, deal: LinDealing) -> Survey
-    ensures { result ≡ survey_deal s deal }
-{
-    let contract = s.contract;
-    Survey {
-        deal,
-        vulnerability: s.vulnerability,
-        called: s.called,
-        seat: s.seat,
-        contract,
-        played: s.played,
-    }
-}
-
-// With another vulnerability.
-fn survey_sides(s: Survey, vulnerability: u8) -> Survey
-    ensures { result ≡ survey_sides s vulnerability }
-{
-    let deal = s.deal;
-    let contract = s.contract;
-    Survey {
-        deal,
-        vulnerability,
-        called: s.called,
-        seat: s.seat,
-        contract,
-        played: s.played,
-    }
-}
-
-// With a card, where there is one.
-fn survey_card(s: Survey, card: bool) -> Survey
-    ensures { result ≡ survey_card s card }
-{
-    let deal = s.deal;
-    let contract = s.contract;
-    Survey {
-        deal,
-        vulnerability: s.vulnerability,
-        called: s.called,
-        seat: s.seat,
-        contract,
-        played: s.played | card,
-    }
 }
 
 // One more pair.
@@ -127,13 +72,19 @@ fn survey_step(c: Conventions, s: Survey, p: PairAt) -> Survey
 {
     let value = p.value;
     match p.command {
-        Command::Md => {
-            let d = s.deal;
-            survey_deal(s, deal_in(c, d, trim(value)))
-        }
-        Command::Sv => survey_sides(s, vulnerability_in(trim(value))),
+        Command::Md => Survey {
+            deal: deal_in(c, s.deal, trim(value)),
+            ..s
+        },
+        Command::Sv => Survey {
+            vulnerability: vulnerability_in(trim(value)),
+            ..s
+        },
         Command::Mb => survey_call(s, call_in(c, value)),
-        Command::Pc => survey_card(s, card_in(c, trim(value)) < 52),
+        Command::Pc => Survey {
+            played: s.played | (card_in(c, trim(value)) < 52),
+            ..s
+        },
         Command::Qx | Command::Heading | Command::Other => s,
     }
 }

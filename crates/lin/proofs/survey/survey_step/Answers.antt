@@ -1,15 +1,14 @@
-use Rattle.lin.specs.SurveySteps.{surveyed}
 use mathlib.Core.Logic.{inl, inr}
-use borrow.Author.Rules.{rules}
+use Rattle.lin.specs.SurveySteps.{surveyed}
 use Rattle.lin.proofs.survey.survey_step.Goals as goal
 
 pub returns-in-Md : goal.returns-in-Md
 unfolding surveyed
-returns-in-Md c = (rw (c.in-Md.is, ← c.trim.ensures, ← c.deal_in.ensures) c.survey_deal.ensures, rw c.survey_deal.ensures (search rules))
+returns-in-Md c = (rw (c.in-Md.is, ← c.trim.ensures, ← c.deal_in.ensures), c.requires)
 
 pub returns-in-Sv : goal.returns-in-Sv
 unfolding surveyed
-returns-in-Sv c = (rw (c.in-Sv.is, ← c.trim-in-Sv.ensures, ← c.vulnerability_in.ensures.0) c.survey_sides.ensures, rw c.survey_sides.ensures (search rules))
+returns-in-Sv c = (rw (c.in-Sv.is, ← c.trim-in-Sv.ensures, ← c.vulnerability_in.ensures.0), c.requires)
 
 pub returns-in-Mb : goal.returns-in-Mb
 unfolding surveyed
@@ -17,7 +16,7 @@ returns-in-Mb c = (rw (c.in-Mb.is, ← c.call_in.ensures.0) c.survey_call.ensure
 
 pub returns-in-Pc : goal.returns-in-Pc
 unfolding surveyed
-returns-in-Pc c = (rw (c.in-Pc.is, ← c.trim-in-Pc.ensures, ← c.card_in.ensures.0) c.survey_card.ensures, rw c.survey_card.ensures (search rules))
+returns-in-Pc c = (rw (c.in-Pc.is, ← c.trim-in-Pc.ensures, ← c.card_in.ensures.0), c.requires)
 
 pub returns-in-Qx : goal.returns-in-Qx
 unfolding surveyed
