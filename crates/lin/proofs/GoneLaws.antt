@@ -7,7 +7,9 @@ use native.Mathlib.Omega.{arith}
 use lib.Dec.{eqb}
 use lib.ListN.{length, length-append}
 use borrow.Author.Tests.{ne_eqb}
+use Rattle.std.specs.Prelude.{Some, None}
 use Rattle.tables.specs.declared.letters.Conventions.{Conventions}
+use Rattle.reader.specs.declared.deal.Hands.{Hands}
 use Rattle.tables.proofs.Laws.{by_cases, clash}
 use Rattle.writer.specs.Puts.{Puts}
 use Rattle.writer.specs.Pages.{built_in_header}
@@ -15,14 +17,16 @@ use Rattle.writer.specs.Remarks.{lines_text}
 use Rattle.writer.proofs.PutLaws.{puts_then, puts_as, puts_nothing}
 use Rattle.lin.specs.declared.pieces.Progress.{Progress}
 use Rattle.lin.specs.declared.survey.Survey.{Survey}
-use Rattle.lin.specs.Pairs.{Pair, has_pair, md}
+use Rattle.lin.specs.declared.pairs.Command.TheVariants.{Md}
+use Rattle.lin.specs.Pairs.{Pair, has_pair}
 use Rattle.lin.specs.Pieces.{with_deal}
-use Rattle.lin.specs.Dealing.{Dealing, no_dealing, dealing_from, has_card, is_deal}
+use Rattle.lin.specs.Dealing.{Dealing, no_dealing, dealing_from, has_card, is_deal, dealt_hands}
+use Rattle.lin.specs.DealingSteps.{dealt_as}
 use Rattle.lin.specs.SurveySteps.{no_survey, survey_from}
 use Rattle.lin.specs.BoardSteps.{survey_text}
 use Rattle.lin.specs.LinBoards.{LinBoard, board_of, any_card, all_deals, lin_lines, lin_next, lin_page}
 use Rattle.lin.specs.PieceSteps.{no_progress, above_text, any_bits, part_text, Goes, GoesIf, Gone, GoesAll}
-use Rattle.lin.proofs.DealingLaws.{told_in_lem, told_good, told_hands, told_dealer_low, any_card_lem}
+use Rattle.lin.proofs.DealingLaws.{told_in_lem, dealt_some, dealt_none, told_dealer_low, any_card_lem}
 use Rattle.lin.proofs.SurveyLaws.{survey_is, dealer_low, vulnerability_low}
 use Rattle.lin.proofs.BoardTextLaws.{board_text}
 
@@ -36,41 +40,41 @@ module _ (c : Conventions) (ps : List Pair) where
   pub survey_dealer : (survey_from c no_survey ps).deal.dealer ≤ 3
   survey_dealer = rw (survey_is c (told_in_lem c) ps).deal_is (told_dealer_low c ps)
 
-  survey_good : (survey_from c no_survey ps).deal.good ≡ is_deal (board_of c ps).dealing
+  survey_hands : (s : Survey) → s ≡ survey_from c no_survey ps → s.deal.hands ≡ dealt_as (board_of c ps).dealing
   unfolding board_of
-  survey_good = rw (survey_is c (told_in_lem c) ps).deal_is (told_good dealing)
+  survey_hands s e = rw (e, (survey_is c (told_in_lem c) ps).deal_is)
 
-  survey_any : is_deal (board_of c ps).dealing ≡ true → any_bits (survey_from c no_survey ps).deal.hands ≡ has_card (board_of c ps).dealing
+  board_any : any_bits (dealt_hands (board_of c ps).dealing) ≡ has_card (board_of c ps).dealing
   unfolding board_of
-  survey_any e = rw ((survey_is c (told_in_lem c) ps).deal_is, told_hands dealing e) (any_card_lem dealing)
+  board_any = any_card_lem dealing
 
-  survey_text_lem : is_deal (board_of c ps).dealing ≡ true → survey_text c (survey_from c no_survey ps) ps ≡ lines_text (lin_lines c (board_of c ps))
-  survey_text_lem e = sym (board_text c ps (survey_from c no_survey ps) (survey_is c (told_in_lem c) ps) (dealer_low c ps) (vulnerability_low c ps) e)
+  survey_text_lem : survey_text c (survey_from c no_survey ps) (dealt_hands (board_of c ps).dealing) ps ≡ lines_text (lin_lines c (board_of c ps))
+  survey_text_lem = sym (board_text c ps (survey_from c no_survey ps) (survey_is c (told_in_lem c) ps) (dealer_low c ps) (vulnerability_low c ps))
 
   -- A board that makes a deal is put; one that does not stops; nothing goes on behind such a one.
-  pub goes_good : (page : List ℕ) (g : Progress) (s : Survey) (page₁ page' : List ℕ) (a at : ℕ) (any : Bool) → g.good ≡ true → s ≡ survey_from c no_survey ps → s.deal.good ≡ true
-      → any ≡ any_bits s.deal.hands
-      → Puts page g.at (above_text (eqb g.boards 0)) page₁ a → Puts page₁ a (survey_text c s ps) page' at
+  pub goes_good : (page : List ℕ) (g : Progress) (s : Survey) (h : Hands) (page₁ page' : List ℕ) (a at : ℕ) (any : Bool) → g.good ≡ true → s ≡ survey_from c no_survey ps → s.deal.hands ≡ Some h
+      → any ≡ any_bits h
+      → Puts page g.at (above_text (eqb g.boards 0)) page₁ a → Puts page₁ a (survey_text c s h ps) page' at
       → Goes c ps page g page' (record { at = at; boards = g.boards + 1; any = g.any || any; good = true })
-  goes_good page g s page₁ page' a at any t e d k above own =
-      let good : is_deal (board_of c ps).dealing ≡ true = sym survey_good ∙ ap (λ (x : Survey). x.deal.good) (sym e) ∙ d in
-      let both = puts_then above (puts_as (ap (λ (x : Survey). survey_text c x ps) e ∙ survey_text_lem good) own) in
+  goes_good page g s h page₁ page' a at any t e d k above own =
+      let deal = dealt_some (board_of c ps).dealing h (sym (survey_hands s e) ∙ d) in
+      let both = puts_then above (puts_as (rw (e, ← deal.1) survey_text_lem) own) in
       record {
         stays = λ f. clash (sym f ∙ t);
         goes = λ f. record {
-          good_is = sym good;
-          any_is = λ h. ap (λ (x : Bool). g.any || x) (k ∙ ap (λ (x : Survey). any_bits x.deal.hands) e ∙ survey_any good);
-          boards_are = λ h. refl;
-          puts = λ h. both;
+          good_is = sym deal.0;
+          any_is = λ z. ap (λ (x : Bool). g.any || x) (k ∙ rw (← deal.1) board_any);
+          boards_are = λ z. refl;
+          puts = λ z. both;
         };
         kept = both.kept;
         one_more = omega arith;
       }
 
-  pub goes_bad : (page : List ℕ) (g : Progress) (s : Survey) → g.good ≡ true → s ≡ survey_from c no_survey ps → s.deal.good ≡ false
+  pub goes_bad : (page : List ℕ) (g : Progress) (s : Survey) → g.good ≡ true → s ≡ survey_from c no_survey ps → s.deal.hands ≡ None
       → Goes c ps page g page (record { at = g.at; boards = g.boards; any = g.any; good = false })
   goes_bad page g s t e d =
-      let bad : is_deal (board_of c ps).dealing ≡ false = sym survey_good ∙ ap (λ (x : Survey). x.deal.good) (sym e) ∙ d in
+      let bad = dealt_none (board_of c ps).dealing (sym (survey_hands s e) ∙ d) in
       record {
         stays = λ f. refl;
         goes = λ f. record { good_is = sym bad; any_is = λ h. clash h; boards_are = λ h. clash h; puts = λ h. clash h };
@@ -191,13 +195,13 @@ going_next {c} {pieces} {x} {rest} {page₀} {page} {page'} {g} {r} n m =
 pub going_if : {c : Conventions} {pieces : List (List Pair)} (x : List Pair) (rest : List (List Pair)) {page₀ page page' : List ℕ} {g r : Progress} → Going c pieces (with_deal (x ∷ rest)) page₀ page g
     → GoesIf c x page g page' r → Going c pieces (with_deal rest) page₀ page' r
 going_if {c} {pieces} x rest {page₀} {page} {page'} {g} {r} n m =
-    by_cases (has_pair md x)
+    by_cases (has_pair Md x)
     (λ t. going_next (going_same (rw t) n) (m.takes t))
     (λ t. let s = m.skips t in rw (s.0, s.1) (going_same (rw t) n))
 
 pub if_more : {c : Conventions} {x : List Pair} {page page' : List ℕ} {g r : Progress} → GoesIf c x page g page' r → r.boards ≤ g.boards + 1
 if_more {c} {x} {page} {page'} {g} {r} m =
-    by_cases (has_pair md x) (λ t. (m.takes t).one_more) (λ t. rw (m.skips t).1 (omega arith))
+    by_cases (has_pair Md x) (λ t. (m.takes t).one_more) (λ t. rw (m.skips t).1 (omega arith))
 
 pub going_end : {c : Conventions} {pieces : List (List Pair)} {page₀ page : List ℕ} {g : Progress} → Going c pieces [] page₀ page g → GoesAll c pieces page₀ page g
 going_end {c} {pieces} n = rw (n.pieces_are, append-nil n.done) n.gone

@@ -6,7 +6,8 @@ use Rattle.writer.specs.Puts.{Puts}
 use Rattle.writer.specs.Pages.{built_in_header}
 use Rattle.writer.specs.Remarks.{lines_text}
 use Rattle.lin.specs.declared.pieces.Progress.{Progress}
-use Rattle.lin.specs.Pairs.{Pair, is_pair, has_pair, qx, heading, md}
+use Rattle.lin.specs.declared.pairs.Command.TheVariants.{Qx, Heading, Md}
+use Rattle.lin.specs.Pairs.{Pair, is_pair, has_pair}
 use Rattle.lin.specs.Dealing.{has_card, is_deal}
 use Rattle.lin.specs.LinBoards.{LinBoard, board_of, any_card, all_deals, lin_lines, lin_page}
 
@@ -19,8 +20,8 @@ is_some (p ∷ ps) = true
 abbrev pub split_from : List Pair → List Pair → List Pair → List (List Pair)
 split_from own run [] = (own ++ run) ∷ []
 split_from own run (p ∷ ps) =
-    cond (is_pair heading p) (split_from own (run ++ p ∷ []) ps)
-    (cond (is_pair qx p && is_some own) (own ∷ split_from (run ++ p ∷ []) [] ps) (split_from (own ++ (run ++ p ∷ [])) [] ps))
+    cond (is_pair Heading p) (split_from own (run ++ p ∷ []) ps)
+    (cond (is_pair Qx p && is_some own) (own ∷ split_from (run ++ p ∷ []) [] ps) (split_from (own ++ (run ++ p ∷ [])) [] ps))
 
 -- ---- progress
 
@@ -54,8 +55,8 @@ pub record Goes (c : Conventions) (ps : List Pair) (page : List ℕ) (g : Progre
 
 -- The same, where the pairs have an md; else nothing.
 pub record GoesIf (c : Conventions) (ps : List Pair) (page : List ℕ) (g : Progress) (page' : List ℕ) (r : Progress) : Type 0 where
-  pub skips : has_pair md ps ≡ false → (page' ≡ page) × (r ≡ g)
-  pub takes : has_pair md ps ≡ true → Goes c ps page g page' r
+  pub skips : has_pair Md ps ≡ false → (page' ≡ page) × (r ≡ g)
+  pub takes : has_pair Md ps ≡ true → Goes c ps page g page' r
 
 -- ---- all boards
 

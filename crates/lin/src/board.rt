@@ -7,8 +7,8 @@ ghost use Rattle.lin.specs.Pairs.{pairs_of};
 ghost use Rattle.lin.specs.Bidding.{calls_from, strain, declarer_of};
 ghost use Rattle.lin.specs.BoardSteps.{lin_head_text, lin_result_text, call_tokens, lin_auction_text, lin_play_text, survey_text};
 
-use crate::bidding::{Contract, call_in, first_to_name, next_seat, put_contract};
-use crate::pairs::{NextPair, next_pair, part};
+use crate::bidding::{Contract, call_at, first_to_name, next_seat, put_contract};
+use crate::pairs::pairs_in;
 use crate::playing::put_tricks;
 use crate::survey::Survey;
 use reader::deal::Hands;
@@ -59,22 +59,15 @@ fn put_calls(c: Conventions, text: &[u8], page: &mut [u8], at: usize) -> usize
 {
     let mut k = at;
     let mut n = 0;
-    let mut here = 0;
-    loop {
-        let NextPair::Found(p) = next_pair(text, here) else {
-            return put_last(page, k, n);
+    for p in pairs_in(text) {
+        let Some(code) = call_at(c, p) else {
+            continue;
         };
-        here = p.end + 1;
-        if p.command == 5 {
-            let code = call_in(c, part(text, p.start, p.end));
-            if code < 47 {
-                let a = put_before(page, k, n);
-                k = put_call(page, a, c, code as usize);
-                n += 1;
-                continue;
-            }
-        }
+        let a = put_before(page, k, n);
+        k = put_call(page, a, c, code as usize);
+        n += 1;
     }
+    put_last(page, k, n)
 }
 
 // The auction, where there are calls.
@@ -136,13 +129,19 @@ fn declarer_of(c: Conventions, text: &[u8], dealer: usize, k: Contract) -> u8
     ((dealer as u8) + first_to_name(c, text, k)) % 4
 }
 
-// All lines of a board of which s is known, and whose hands make a deal.
-pub(crate) fn put_board(c: Conventions, text: &[u8], s: Survey, page: &mut [u8], at: usize) -> usize
+// All lines of a board of which s is known, and whose hands these are.
+pub(crate) fn put_board(
+    c: Conventions,
+    text: &[u8],
+    s: Survey,
+    hands: Hands,
+    page: &mut [u8],
+    at: usize,
+) -> usize
     requires { s.deal.dealer ≤ 3 }
-    ensures { Puts page.old at (survey_text c s (pairs_of text.now)) page.new result }
+    ensures { Puts page.old at (survey_text c s hands (pairs_of text.now)) page.new result }
 {
     let d = s.deal;
-    let hands = d.hands;
     let k = s.contract;
     let declarer = declarer_of(c, text, d.dealer, k);
     let a = put_head(page, at, c, d.dealer, s.vulnerability as usize, hands);

@@ -7,7 +7,7 @@ ghost use Rattle.lin.specs.Pieces.{split, with_deal, line_pieces, board_pieces};
 ghost use Rattle.lin.specs.PieceSteps.{no_progress, above_text, any_bits, Goes, GoesIf, GoesAll};
 
 use crate::board::put_board;
-use crate::pairs::{NextPair, has_pair, next_pair, part};
+use crate::pairs::{Command, has_pair, pairs_in};
 use crate::survey::survey_of;
 use reader::deal::Hands;
 use tables::letters::Conventions;
@@ -59,11 +59,9 @@ fn put_piece(c: Conventions, text: &[u8], page: &mut [u8], g: Progress) -> Progr
 {
     if g.good {
         let s = survey_of(c, text);
-        let d = s.deal;
-        if d.good {
-            let hands = d.hands;
+        if let Some(hands) = s.deal.hands {
             let above = put_above(page, g.at, g.boards == 0);
-            let at = put_board(c, text, s, page, above);
+            let at = put_board(c, text, s, hands, page, above);
             return Progress {
                 at,
                 boards: g.boards + 1,
@@ -86,7 +84,7 @@ fn put_dealt(c: Conventions, text: &[u8], page: &mut [u8], g: Progress) -> Progr
     requires { g.boards ≤ 2 ^ 63 }
     ensures { GoesIf c (pairs_of text.now) page.old g page.new result }
 {
-    if has_pair(text, 3) {
+    if has_pair(text, Command::Md) {
         return put_piece(c, text, page, g);
     }
     g
@@ -118,30 +116,24 @@ fn put_split(c: Conventions, text: &[u8], page: &mut [u8]) -> Progress
     let mut g = no_progress();
     let mut start = 0;
     let mut run = 0;
-    let mut here = 0;
-    loop {
-        let NextPair::Found(p) = next_pair(text, here) else {
-            return put_dealt(c, from(text, start), page, g);
-        };
-        here = p.end + 1;
-        if p.command == 2 {
+    for p in pairs_in(text) {
+        if p.command == Command::Heading {
             continue;
         }
-        if (p.command == 1) & (start < run) {
-            g = put_dealt(c, part(text, start, run), page, g);
+        if (p.command == Command::Qx) & (start < run) {
+            g = put_dealt(c, upto(from(text, start), run - start), page, g);
             start = run;
-            run = here;
-            continue;
         }
-        run = here;
+        run = p.end;
     }
+    put_dealt(c, from(text, start), page, g)
 }
 
 // All boards of a text.
 pub(crate) fn put_boards(c: Conventions, text: &[u8], page: &mut [u8]) -> Progress
     ensures { GoesAll c (board_pieces text.now) page.old page.new result }
 {
-    if has_pair(text, 1) {
+    if has_pair(text, Command::Qx) {
         return put_split(c, text, page);
     }
     put_lines(c, text, page)

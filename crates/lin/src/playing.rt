@@ -2,10 +2,11 @@
 ghost use Rattle.std.specs.Prelude.{◌≡◌, ◌≤◌};
 ghost use Rattle.writer.specs.Puts.{Puts};
 ghost use Rattle.lin.specs.Pairs.{pairs_of};
+ghost use Rattle.lin.specs.PairSteps.{pair_of};
 ghost use Rattle.lin.specs.Playing.{card_in, cards_played, slot_at, slot_word};
-ghost use Rattle.lin.specs.PlayingSteps.{word_text, trick_text, FineTrick, taken, empty_trick, next_trick, trick_texts, last_line};
+ghost use Rattle.lin.specs.PlayingSteps.{card_at, word_text, trick_text, FineTrick, taken, empty_trick, next_trick, trick_texts, last_line};
 
-use crate::pairs::{NextPair, next_pair, part};
+use crate::pairs::{Command, PairAt, pairs_in};
 use reader::play::{Slots, no_slots, slot_of, winner, with_slot};
 use reader::words::card_named;
 use tables::letters::Conventions;
@@ -22,6 +23,19 @@ pub(crate) fn card_in(c: Conventions, t: &[u8]) -> u8
         return card_named(c, t).unwrap_or(52);
     }
     52
+}
+
+// The card of a pair, where it is one.
+pub(crate) fn card_at(c: Conventions, p: PairAt) -> Option<u8>
+    ensures { result ≡ card_at c (pair_of p.entry) }
+{
+    if p.command == Command::Pc {
+        let card = card_in(c, trim(p.value));
+        if card < 52 {
+            return Some(card);
+        }
+    }
+    None
 }
 
 // A trick of at most four cards: its leader, its cards, and how many they are.
@@ -137,25 +151,18 @@ pub(crate) fn put_tricks(
     ensures { Puts page.old at (trick_texts c lead trump (empty_trick lead) (cards_played c (pairs_of text.now))) page.new result }
 {
     let mut k = at;
-    let mut here = 0;
     let mut t = new_trick(lead);
-    loop {
-        let NextPair::Found(p) = next_pair(text, here) else {
-            return put_rest(page, k, c, lead, t);
+    for p in pairs_in(text) {
+        let Some(card) = card_at(c, p) else {
+            continue;
         };
-        here = p.end + 1;
-        if p.command == 6 {
-            let card = card_in(c, trim(part(text, p.start, p.end)));
-            if card < 52 {
-                let u = take_card(t, card);
-                if u.count == 4 {
-                    k = put_line(page, k, c, lead, u);
-                    t = next_trick(trump, u);
-                    continue;
-                }
-                t = u;
-                continue;
-            }
+        let u = take_card(t, card);
+        if u.count == 4 {
+            k = put_line(page, k, c, lead, u);
+            t = next_trick(trump, u);
+            continue;
         }
+        t = u;
     }
+    put_rest(page, k, c, lead, t)
 }
