@@ -88,7 +88,7 @@ pub(crate) fn search_with(cards: &[Card], d: [u32; 8], tabled: bool) -> Found
     let mut words = 0;
     for (k, card) in cards.iter().enumerate() {
         let tried = try_board(card, &d, tabled);
-        words += tried;
+        words += tried.words;
         if tried.fits {
             return Found {
                 board: k + 1,
