@@ -14,7 +14,7 @@ use crate::held::{bytes_at, entry_word};
 use crate::put::{put_byte, put_bytes, put_number};
 use crate::remarks::{Sought, put_remark, put_remarks};
 use crate::tags::{put_close, put_open};
-use reader::names::{NOTE, tag_number};
+use reader::names::{TagName, tag_name};
 use reader::words::same;
 use tables::numbers::{Number, parse_number};
 use tables::text::{from, index_of, trim, upto};
@@ -34,12 +34,14 @@ fn note_number(value: &[u8]) -> usize
 }
 
 // The number of the note that the entry e names, 256 where it names none.
+#[tactic(auto, unfolding(crate::specs::Items::note_number_at))]
 fn note_at(text: &[u8], entries: &[u32], e: usize) -> usize
     requires { e ≤ 8589934592 }
     ensures { (result ≡ note_number_at text.now entries.now e) × (result ≤ 256) }
 {
     if entry_word(entries, e, 0) == 1 {
-        if tag_number(bytes_at(text, entries, e)) == NOTE {
+        let name = tag_name(bytes_at(text, entries, e));
+        if matches!(name, Some(TagName::Note)) {
             return note_number(bytes_at(text, entries, e + 1));
         }
         return 256;

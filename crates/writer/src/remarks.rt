@@ -8,7 +8,7 @@ ghost use Rattle.writer.specs.Items.{sought_by, is_first, remark_text, sought_te
 use crate::held::{bytes_at, entry_word};
 use crate::present::{Present, is_written};
 use crate::put::{put_byte, put_bytes};
-use reader::names::tag_number;
+use reader::names::tag_name;
 use reader::words::same;
 use tables::text::byte_at;
 
@@ -28,7 +28,7 @@ fn is_sought(s: Sought, name: &[u8], tag: &[u8]) -> bool
         Sought::Leading => false,
         Sought::Under => same(name, tag),
         Sought::Unwritten(p) => {
-            let written = is_written(p, tag_number(tag));
+            let written = is_written(p, tag_name(tag));
             !written
         }
     }

@@ -8,7 +8,7 @@ use crate::held::{bytes_at, entry_word};
 use crate::names::find_name;
 use crate::put::{put_byte, put_bytes};
 use crate::remarks::put_after;
-use reader::names::tag_number;
+use reader::names::tag_name;
 use reader::words::same;
 
 // `[`, the name, a blank and a quote.
@@ -55,6 +55,7 @@ pub(crate) fn put_tagged(
 }
 
 // Whether the entry e names a supplemental tag, other than Scoring, that no entry from first on names before.
+#[tactic(auto, unfolding(crate::specs::Items::is_extra_at))]
 fn is_extra(text: &[u8], entries: &[u32], first: usize, e: usize) -> bool
     requires { (first ≤ e) × (e ≤ 8589934592) }
     ensures { result ≡ is_extra_at text.now entries.now first e }
@@ -63,7 +64,7 @@ fn is_extra(text: &[u8], entries: &[u32], first: usize, e: usize) -> bool
         return false;
     }
     let name = bytes_at(text, entries, e);
-    if tag_number(name) != 0 {
+    if tag_name(name).is_some() {
         return false;
     }
     if same(b"Scoring", name) {
