@@ -1,5 +1,4 @@
 use Rattle.tables.specs.Tables.{gathered}
-use native.Mathlib.Omega.{arith}
 use Rattle.reader.proofs.ReadingLaws.{rows_taken, rows_refused}
 use mathlib.Core.Path.{sym}
 use Rattle.reader.proofs.reading.table_closed.Goals as goal
