@@ -16,7 +16,7 @@ use Rattle.tables.proofs.RowLaws.{every_append, field_then, field_last}
 use Rattle.tables.proofs.Digits.{at_each}
 use Rattle.tables.proofs.RowLaws.{plain_word}
 use Rattle.reader.specs.declared.deal.Hands.{Hands}
-use Rattle.std.specs.Prelude.{Option, Some, None}
+use Rattle.std.specs.Prelude.{Option, Some}
 use Rattle.reader.specs.Deals.{has, card_count, card_before, cards_from_suit, is_dash, cards_named, starts_white, hands_after, card_text, onward, turned, deal_in, deal_of, Proper, ranks_text, suit_text, hand_text, back, clockwise, hands_text, deal_text}
 use Rattle.reader.proofs.DealLaws.{DealProper}
 use Rattle.reader.proofs.CardSets.{down, down_none, down_more, down_zero, total_deck, times_deck, times_append, times_distinct, count_down}

@@ -1,7 +1,7 @@
 -- Laws of cards, and of reading record after record.
 use Prim.Native.Nat.{ℕ, ◌+◌, ◌*◌, ◌-◌, ◌/◌, ◌%◌, ◌≤◌, ◌<◌}
 use mathlib.Core.Path.{◌≡◌, refl, sym, ap, ◌∙◌}
-use mathlib.Core.Bool.{Bool, true, false, cond, not}
+use mathlib.Core.Bool.{Bool, true, false, cond}
 use mathlib.Core.List.{List, [], ◌∷◌, ◌++◌, map, append-nil}
 use native.Mathlib.Omega.{arith}
 use borrow.Author.Tests.{ltb-false, lt-ltb, le-ltb}
@@ -9,7 +9,7 @@ use lib.Dec.{ltb}
 use lib.ListN.{length, take, drop, replicate, length-append, length-map, length-take, length-drop, length-replicate}
 use lib.Seq.{sets, sets-eq, drop-length}
 use Rattle.tables.specs.declared.letters.Conventions.{Conventions}
-use Rattle.tables.proofs.Laws.{clash, stop}
+use Rattle.tables.proofs.Laws.{clash}
 use Rattle.tables.proofs.PageLaws.{sets_append}
 use Rattle.reader.specs.declared.store.Entry.{Entry}
 use Rattle.reader.specs.declared.board.Board.{Board}
@@ -26,7 +26,6 @@ use Rattle.reader.specs.RecordSteps.{EndsAt}
 use Rattle.reader.specs.Boards.{record_out}
 use Rattle.reader.specs.Editions.{is_taken, head_words, back_words, card_words, card_of, cards_from, entries_from, cards_of, entries_of, counts_answer, reading_of, IsRead}
 use Rattle.reader.specs.EditionSteps.{RecordIn, FullCards, none, one, AllIn, ReadingEnded}
-use Rattle.reader.proofs.Seams.{no_records}
 use Rattle.reader.proofs.StoreLaws.{put_all_append, Blocks, blocks_append, blocks_map, put_zeros}
 use Rattle.reader.proofs.BoardLaws.{record_counts}
 use Rattle.reader.proofs.Counts.{EntriesFew, TextEntriesFew}

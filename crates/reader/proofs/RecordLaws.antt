@@ -1,14 +1,13 @@
 -- Laws of the end of a record.
 use Prim.Native.Nat.{ℕ, ◌+◌, ◌-◌, ◌≤◌, ◌<◌}
 use mathlib.Core.Path.{◌≡◌, refl, ap, ◌∙◌}
-use mathlib.Core.Bool.{Bool, true, false, cond, not, ◌&&◌, ◌||◌}
-use mathlib.Core.List.{List, [], ◌∷◌, ◌++◌}
+use mathlib.Core.Bool.{Bool, true, false}
+use mathlib.Core.List.{List, [], ◌++◌}
 use native.Mathlib.Omega.{arith}
 use lib.ListN.{length, take, drop}
 use lib.Seq.{take-add, drop-drop}
 use Rattle.tables.proofs.Laws.{stop}
 use Rattle.reader.specs.declared.record.Scan.{Scan}
-use Rattle.reader.specs.Lines.{is_blank}
 use Rattle.reader.specs.Pieces.{raw_lines}
 use Rattle.reader.specs.Records.{fresh, scanned, closes_record, emit, records_from, records_of}
 use Rattle.reader.specs.RecordSteps.{EndsAt, FirstEnd}

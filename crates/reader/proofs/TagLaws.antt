@@ -12,7 +12,7 @@ use borrow.Author.Tests.{lt-ltb, le-ltb, ltb-true, ltb-false}
 use Rattle.tables.specs.Text.{is_white, front, beyond, lead, trim_start, trim_end, trimmed, before, differs}
 use Rattle.tables.specs.Letters.{among}
 use Rattle.tables.proofs.Laws.{step, by_cases, clash}
-use Rattle.tables.proofs.TextLaws.{drop_front, front_few, length_zero}
+use Rattle.tables.proofs.TextLaws.{drop_front, front_few}
 use Rattle.reader.specs.declared.tag.Span.{Span}
 use Rattle.std.specs.Prelude.{Some, None}
 use Rattle.std.specs.Bool.{then_some}

@@ -23,13 +23,6 @@ pub and_false : (p : Bool) → (p && false) ≡ false
 and_false true = refl
 and_false false = refl
 
--- Texts of different lengths are not the same.
-pub same_long : (a b : List ℕ) → (length a ≡ length b → ⊥) → same a b ≡ false
-same_long [] [] h = absurd (h refl)
-same_long [] (y ∷ ys) h = refl
-same_long (x ∷ xs) [] h = refl
-same_long (x ∷ xs) (y ∷ ys) h = rw (same_long xs ys (λ e. h (rw e))) (and_false (eqb x y))
-
 -- Each byte of a word is the capital of the token's, or some byte differs.
 abbrev pub Meets : List ℕ → List ℕ → Bool → Type 0
 Meets a b r = MatchBool r ((k : ℕ) → k < length a → get_or a k 0 ≡ capital (get_or b k 0)) ((k : ℕ) × (k < length a) × (get_or a k 0 ≡ capital (get_or b k 0) → ⊥))
@@ -49,6 +42,19 @@ word_differs (x ∷ xs) (y ∷ ys) (suc k) l h = rw (word_differs xs ys k (omega
 pub word_is : (a b : List ℕ) (r : Bool) → length a ≡ length b → Meets a b r → r ≡ same_word a b
 word_is a b true e h = sym (word_meets a b e h)
 word_is a b false e h = sym (word_differs a b h.0 h.1 h.2)
+
+-- Texts of different lengths are not the same.
+pub same_long : (a b : List ℕ) → (length a ≡ length b → ⊥) → same a b ≡ false
+same_long [] [] h = absurd (h refl)
+same_long [] (y ∷ ys) h = refl
+same_long (x ∷ xs) [] h = refl
+same_long (x ∷ xs) (y ∷ ys) h = rw (same_long xs ys (λ e. h (rw e))) (and_false (eqb x y))
+
+pub word_long : (a b : List ℕ) → (length a ≡ length b → ⊥) → same_word a b ≡ false
+word_long [] [] h = absurd (h refl)
+word_long [] (y ∷ ys) h = refl
+word_long (x ∷ xs) [] h = refl
+word_long (x ∷ xs) (y ∷ ys) h = rw (word_long xs ys (λ e. h (rw e))) (and_false (eqb x (capital y)))
 
 -- ---- the front of a text, by the first place that is not in it
 

@@ -3,13 +3,13 @@ ghost use Rattle.std.specs.Prelude.{◌≡◌, ◌≤◌};
 ghost use Rattle.tables.specs.Text.{first_character};
 ghost use Rattle.tables.specs.Letters.{seat_of};
 ghost use Rattle.reader.specs.Words.{vulnerability_of};
-ghost use Rattle.reader.specs.Names.{deal_name, double_dummy_tricks_name};
+ghost use Rattle.reader.specs.Names.{deal_name, double_dummy_tricks_name, number_of};
 ghost use Rattle.reader.specs.Boards.{with_number, with_result, identity_by, parsed_deal, table_by, is_kept_contract, contract_by, is_kept_value, value_put, applied, no_open, seat_open, open_by, no_board};
 ghost use Rattle.reader.specs.BoardSteps.{values_put};
 
 use crate::board::{Board, DealCard, Identity, Section, TableCard, Values};
 use crate::deal::{Hands, hand_words, read_deal};
-use crate::names;
+use crate::names::TagName;
 use crate::section::Open;
 use crate::tag::Span;
 use crate::words::{contract_trump, same, vulnerability_of};
@@ -58,24 +58,25 @@ fn with_result(mut i: Identity, n: Number) -> Identity
 }
 
 // Board, Dealer, Vulnerable, Declarer, Result.
-fn identity_by(c: Conventions, k: u8, value: &[u8], mut i: Identity) -> Identity
-    ensures { result ≡ identity_by c k value.now i }
+#[tactic(auto, unfolding(crate::specs::Boards::identity_by))]
+fn identity_by(c: Conventions, k: Option<TagName>, value: &[u8], mut i: Identity) -> Identity
+    ensures { result ≡ identity_by c (number_of k) value.now i }
 {
     match k {
-        names::BOARD => with_number(i, parse_number(value, 4294967295)),
-        names::DEALER => {
+        Some(TagName::Board) => with_number(i, parse_number(value, 4294967295)),
+        Some(TagName::Dealer) => {
             i.dealer = seat_in(c, value);
             i
         }
-        names::VULNERABLE => {
+        Some(TagName::Vulnerable) => {
             i.vulnerability = vulnerability_of(value) as usize;
             i
         }
-        names::DECLARER => {
+        Some(TagName::Declarer) => {
             i.declarer = seat_in(c, value);
             i
         }
-        names::RESULT => with_result(i, parse_signed(value, 128)),
+        Some(TagName::Result) => with_result(i, parse_signed(value, 128)),
         _ => i,
     }
 }
@@ -130,51 +131,52 @@ fn is_kept_contract(value: &[u8]) -> bool
     !(value.len() == 0) & !same(b"?", value)
 }
 
-fn contract_by(c: Conventions, k: u8, value: &[u8], trump: usize) -> usize
-    ensures { result ≡ contract_by c k value.now trump }
+#[tactic(auto, unfolding(crate::specs::Boards::contract_by))]
+fn contract_by(c: Conventions, k: Option<TagName>, value: &[u8], trump: usize) -> usize
+    ensures { result ≡ contract_by c (number_of k) value.now trump }
 {
-    if k == names::CONTRACT {
-        if is_kept_contract(value) {
-            return contract_trump(c, value) as usize;
-        }
-        return trump;
+    if matches!(k, Some(TagName::Contract)) && is_kept_contract(value) {
+        return contract_trump(c, value) as usize;
     }
     trump
 }
 
 // Whether the value of a tag other than Deal is kept.
-fn is_kept(k: u8, value: &[u8]) -> bool
-    ensures { result ≡ is_kept_value k value.now }
-{
-    if k == names::CONTRACT {
-        return is_kept_contract(value);
-    }
-    ((k == names::OPTIMUM_SCORE) | (k == names::PAR_CONTRACT)) | !(value.len() == 0)
-}
-
-fn value_put(k: u8, place: usize, mut v: Values) -> Values
-    ensures { result ≡ value_put k place v }
+#[tactic(auto, unfolding(crate::specs::Boards::is_kept_value))]
+fn is_kept(k: Option<TagName>, value: &[u8]) -> bool
+    ensures { result ≡ is_kept_value (number_of k) value.now }
 {
     match k {
-        names::BOARD => v.id = place,
-        names::DEAL => v.deal = place,
-        names::EVENT => v.event = place,
-        names::SITE => v.site = place,
-        names::DATE => v.date = place,
-        names::CONTRACT => v.contract = place,
-        names::NORTH => v.north = place,
-        names::EAST => v.east = place,
-        names::SOUTH => v.south = place,
-        names::WEST => v.west = place,
-        names::OPTIMUM_SCORE => v.score = place,
-        names::PAR_CONTRACT => v.par = place,
+        Some(TagName::Contract) => is_kept_contract(value),
+        Some(TagName::OptimumScore) | Some(TagName::ParContract) => true,
+        _ => value.len() != 0,
+    }
+}
+
+fn value_put(k: Option<TagName>, place: usize, mut v: Values) -> Values
+    ensures { result ≡ value_put (number_of k) place v }
+{
+    match k {
+        Some(TagName::Board) => v.id = place,
+        Some(TagName::Deal) => v.deal = place,
+        Some(TagName::Event) => v.event = place,
+        Some(TagName::Site) => v.site = place,
+        Some(TagName::Date) => v.date = place,
+        Some(TagName::Contract) => v.contract = place,
+        Some(TagName::North) => v.north = place,
+        Some(TagName::East) => v.east = place,
+        Some(TagName::South) => v.south = place,
+        Some(TagName::West) => v.west = place,
+        Some(TagName::OptimumScore) => v.score = place,
+        Some(TagName::ParContract) => v.par = place,
         _ => {}
     }
     v
 }
 
-fn values_by(k: u8, value: &[u8], place: usize, v: Values) -> Values
-    ensures { result ≡ values_put k value.now place v }
+#[tactic(auto, unfolding(crate::specs::BoardSteps::values_put))]
+fn values_by(k: Option<TagName>, value: &[u8], place: usize, v: Values) -> Values
+    ensures { result ≡ values_put (number_of k) value.now place v }
 {
     if is_kept(k, value) {
         return value_put(k, place, v);
@@ -182,14 +184,23 @@ fn values_by(k: u8, value: &[u8], place: usize, v: Values) -> Values
     v
 }
 
-// A board after a tag of number k; place is the value's entry plus 1.
-pub(crate) fn apply_tag(c: Conventions, k: u8, value: &[u8], place: usize, mut b: Board) -> Board
-    ensures { result ≡ applied c k value.now place b }
+// A board after a tag whose name is k; place is the value's entry plus 1.
+pub(crate) fn apply_tag(
+    c: Conventions,
+    k: Option<TagName>,
+    value: &[u8],
+    place: usize,
+    mut b: Board,
+) -> Board
+    ensures { result ≡ applied c (number_of k) value.now place b }
 {
-    match k {
-        0 | names::NOTE => b,
-        names::DEAL => deal_tag(c, value, place, b),
-        names::DOUBLE_DUMMY_TRICKS => {
+    let Some(name) = k else {
+        return b;
+    };
+    match name {
+        TagName::Note => b,
+        TagName::Deal => deal_tag(c, value, place, b),
+        TagName::DoubleDummyTricks => {
             b.table = table_by(value, b.table);
             b
         }
@@ -228,13 +239,19 @@ fn seat_open(kind: usize, seat: usize, at: usize, split: Span) -> Open
 }
 
 // The section that a tag opens.
-pub(crate) fn open_by(c: Conventions, k: u8, value: &[u8], at: usize, split: Span) -> Open
-    ensures { (result ≡ open_by c k value.now at split) × (result.seat ≤ 4) × (result.kind ≤ 3) × (result.kind ≡ 2 → result.seat ≤ 3) × (result.kind ≡ 1 → result.seat ≤ 3) }
+pub(crate) fn open_by(
+    c: Conventions,
+    k: Option<TagName>,
+    value: &[u8],
+    at: usize,
+    split: Span,
+) -> Open
+    ensures { (result ≡ open_by c (number_of k) value.now at split) × (result.seat ≤ 4) × (result.kind ≤ 3) × (result.kind ≡ 2 → result.seat ≤ 3) × (result.kind ≡ 1 → result.seat ≤ 3) }
 {
     match k {
-        names::AUCTION => seat_open(1, seat_in(c, value), at, split),
-        names::PLAY => seat_open(2, seat_in(c, value), at, split),
-        names::OPTIMUM_RESULT_TABLE => Open {
+        Some(TagName::Auction) => seat_open(1, seat_in(c, value), at, split),
+        Some(TagName::Play) => seat_open(2, seat_in(c, value), at, split),
+        Some(TagName::OptimumResultTable) => Open {
             kind: 3,
             seat: 4,
             at,

@@ -17,7 +17,7 @@ ghost use Rattle.reader.specs.BoardSteps.{Sound, Stepped, LastStored, data_out, 
 use crate::apply::{apply_tag, no_board, no_open, open_by};
 use crate::board::{Board, Section, State, TableCard};
 use crate::line::{Line, TagReading, has_brace, last_brace, line_kind};
-use crate::names::tag_number;
+use crate::names::tag_name;
 use crate::play::last_trick;
 use crate::section::{Open, Walk, walk_section};
 use crate::store::{Entries, Entry};
@@ -218,7 +218,7 @@ fn tag_step(
     let value = tag.value;
     put_part(entries, 1, p, name, 0);
     put_part(entries, 2, p, value, 0);
-    let k = tag_number(cut_span(l, name));
+    let k = tag_name(cut_span(l, name));
     let v = cut_span(l, value);
     State {
         board: apply_tag(c, k, v, s.n + 2, s.board),

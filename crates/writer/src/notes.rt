@@ -13,7 +13,7 @@ ghost use Rattle.writer.specs.Items.{items_of, remarks_text, tag_line_text, note
 use crate::items::{BLOCK, DIRECTIVE, Items, TAG};
 use crate::remarks::{Sought, put_remark, put_remarks};
 use crate::tags::{put_close, put_open};
-use reader::names::{NOTE, tag_number};
+use reader::names::{TagName, tag_name};
 use reader::words::same;
 use tables::numbers::{Number, parse_number};
 use tables::page::Page;
@@ -42,6 +42,7 @@ fn note_number(value: &[u8]) -> Option<u8>
 }
 
 // The number of the note that the entry e names.
+#[tactic(auto, unfolding(crate::specs::Items::note_number_at))]
 fn note_at(items: &Items, e: usize) -> Option<u8>
     requires { e ≤ 8589934592 }
     ensures { MatchOption result
@@ -51,10 +52,10 @@ fn note_at(items: &Items, e: usize) -> Option<u8>
     if items.kind_at(e) != TAG {
         return None;
     }
-    if tag_number(items.bytes_at(e)) != NOTE {
-        return None;
+    match tag_name(items.bytes_at(e)) {
+        Some(TagName::Note) => note_number(items.bytes_at(e + 1)),
+        _ => None,
     }
-    note_number(items.bytes_at(e + 1))
 }
 
 // Whether an auction has notes, given the entries from its calls on.

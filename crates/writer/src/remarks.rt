@@ -6,7 +6,7 @@ ghost use Rattle.writer.specs.Items.{items_of, sought_by, is_first, remark_text,
 
 use crate::items::{BLOCK, DIRECTIVE, Items, TAG};
 use crate::present::{Present, is_written};
-use reader::names::tag_number;
+use reader::names::tag_name;
 use reader::words::same;
 use tables::page::Page;
 use tables::text::byte_at;
@@ -27,7 +27,7 @@ fn is_sought(s: Sought, name: &[u8], tag: &[u8]) -> bool
         Sought::Leading => false,
         Sought::Under => same(name, tag),
         Sought::Unwritten(p) => {
-            let written = is_written(p, tag_number(tag));
+            let written = is_written(p, tag_name(tag));
             !written
         }
     }

@@ -1,7 +1,4 @@
-use Rattle.std.proofs.Common.{rules, ◌≡◌, ◌≤◌, length, ℕ, ◌+◌, ◌-◌, ◌*◌, ◌<◌, Bool, true, false, get_or, MatchOption}
-use Rattle.std.proofs.lemmas.Grind.{common_steps}
-use native.Mathlib.Omega.{arith}
-use Rattle.reader.specs.Lines.{last_brace}
+use Rattle.std.proofs.Common.{rules}
 use Rattle.reader.proofs.LineLaws.{LastAt, last_from}
 use Rattle.reader.proofs.line.last_brace.Goals as goal
 

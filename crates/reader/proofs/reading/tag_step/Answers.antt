@@ -14,4 +14,4 @@ overflow_add-result c = omega (arith, c.requires.2)
 pub returns : goal.returns
 returns c =
     tag_stepped c.args.c c.args.l.now c.args.tag c.args.split c.requires.3 (omega arith) c.requires.6
-    c.put_part.ensures c.put_part-2.ensures c.cut_span.ensures c.tag_number-k.ensures.0 c.cut_span-v.ensures c.apply_tag.ensures c.open_by.ensures.0
+    c.put_part.ensures c.put_part-2.ensures c.cut_span.ensures c.tag_name-k.ensures c.cut_span-v.ensures c.apply_tag.ensures c.open_by.ensures.0

@@ -1,7 +1,7 @@
 use mathlib.Core.Path.{ap, ◌∙◌}
 use native.Mathlib.Omega.{arith}
 use borrow.Author.Tests.{leb-true}
-use Rattle.std.proofs.Common.{rules, Bor, List, ℕ}
+use Rattle.std.proofs.Common.{Bor, List, ℕ}
 use Rattle.reader.proofs.LineWalk.{line_of_next, next_place}
 use Rattle.reader.proofs.RecordLaws.{scanning, scan_on, scan_closed, scan_ended}
 use Rattle.reader.proofs.record.record_end.Goals as goal

@@ -6,4 +6,4 @@ returns-in-Under c =
 
 pub returns-in-Unwritten : goal.returns-in-Unwritten
 returns-in-Unwritten c =
-    rw (c.in-Unwritten.is, ← c.tag_number.ensures.0, ← c.is_written-written.ensures)
+    rw (c.in-Unwritten.is, ← c.tag_name.ensures, ← c.is_written-written.ensures)
