@@ -22,7 +22,7 @@ use Rattle.reader.specs.LineSteps.{LinePlaced}
 use Rattle.reader.specs.Pieces.{Piece, raw_lines}
 use Rattle.reader.specs.PieceSteps.{piece}
 use Rattle.reader.specs.Sections.{opens_commentary, commentary_after, closes_section, stops_at, data_piece, piece_of, data_in}
-use Rattle.reader.specs.SectionSteps.{visit_kind, visit_of, no_piece, NextPiece}
+use Rattle.reader.specs.SectionSteps.{visit_kind, visit_of, data_from, PieceFrom}
 use Rattle.reader.proofs.Inside.{LineInside}
 use Rattle.reader.proofs.LineLaws.{blank_span}
 use Rattle.reader.proofs.SectionLaws.{LineAt}
@@ -155,17 +155,14 @@ module _ (r : List ℕ) (p : ℕ) where
   pub seek_pass : (commentary : Bool) (e : ℕ) (l : List ℕ) → Seeking r p commentary e → LineAt r e l → visit_of commentary l ≡ Pass → Seeking r p (commentary_after commentary l) (e + length l)
   seek_pass commentary e l k q h = record { lines = seek_line commentary e l Pass k q h; from_p = omega (arith, k.from_p); inside = q.inside }
 
-  no_next : (e : ℕ) → data_in false p (raw_lines (drop p r)) ≡ [] → p ≤ e → e ≤ length r → NextPiece r p (no_piece e)
-  no_next e d h i = record { data_lines = d; piece_inside = omega arith; inside = i; past = omega (arith, h); later = clash }
+  pub seek_stop : (commentary : Bool) (e : ℕ) (l : List ℕ) → Seeking r p commentary e → LineAt r e l → visit_of commentary l ≡ Stop → data_from r p ≡ []
+  seek_stop commentary e l k q h = seek_line commentary e l Stop k q h
 
-  pub seek_stop : (commentary : Bool) (e : ℕ) (l : List ℕ) → Seeking r p commentary e → LineAt r e l → visit_of commentary l ≡ Stop → NextPiece r p (no_piece e)
-  seek_stop commentary e l k q h = no_next e (seek_line commentary e l Stop k q h) k.from_p k.inside
-
-  pub seek_end : (commentary : Bool) (e : ℕ) → Seeking r p commentary e → length r ≤ e → NextPiece r p (no_piece e)
-  seek_end commentary e k h = no_next e (k.lines ∙ ap (λ (x : List ℕ). data_in commentary e (raw_lines x)) (stop r e h)) k.from_p k.inside
+  pub seek_end : (commentary : Bool) (e : ℕ) → Seeking r p commentary e → length r ≤ e → data_from r p ≡ []
+  seek_end commentary e k h = k.lines ∙ ap (λ (x : List ℕ). data_in commentary e (raw_lines x)) (stop r e h)
 
   pub seek_piece : (commentary : Bool) (e : ℕ) (l : List ℕ) (s : Span) → Seeking r p commentary e → LineAt r e l → visit_of commentary l ≡ PieceOn s
-      → NextPiece r p (record { more = true; piece = record { start = e + s.start; len = s.len }; at = e + length l })
+      → PieceFrom r p (record { piece = record { start = e + s.start; len = s.len }; at = e + length l })
   seek_piece commentary e l s k q h =
       let i = piece_placed commentary l s h in
       record {
@@ -173,5 +170,5 @@ module _ (r : List ℕ) (p : ℕ) where
         piece_inside = omega (arith, q.inside, i);
         inside = q.inside;
         past = omega (arith, k.from_p, i);
-        later = λ t. omega (arith, k.from_p, q.filled);
+        later = omega (arith, k.from_p, q.filled);
       }

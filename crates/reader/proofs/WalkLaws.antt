@@ -23,7 +23,7 @@ use Rattle.reader.specs.Auction.{called_piece}
 use Rattle.reader.specs.Play.{played_piece}
 use Rattle.reader.specs.TokenSteps.{Seated}
 use Rattle.reader.specs.Sections.{data_in, split_piece, lines_data, section_data, row_stored, rowed_piece, walked, no_walk, walked_all}
-use Rattle.reader.specs.SectionSteps.{next_data, NextPiece, walk_count, Walks}
+use Rattle.reader.specs.SectionSteps.{data_from, PieceFrom, walk_count, Walks}
 use Rattle.reader.proofs.EntryLaws.{out_count}
 use Rattle.reader.proofs.AuctionLaws.{calls_counted}
 use Rattle.reader.proofs.PlayLaws.{none_seated, tricks_counted}
@@ -72,10 +72,10 @@ unfolding no_walk
 no_seated = none_seated
 
 -- What a section's walk starts with.
-start_seated : {w : Walk} → w ≡ no_walk → Seated w.tricks
+pub start_seated : {w : Walk} → w ≡ no_walk → Seated w.tricks
 start_seated e = rw e no_seated
 
-start_none : {w : Walk} → w ≡ no_walk → walk_count w ≡ 0
+pub start_none : {w : Walk} → w ≡ no_walk → walk_count w ≡ 0
 start_none e = rw e no_count
 
 -- One piece of at most k bytes.
@@ -127,71 +127,50 @@ emitting_run f l₀ o l s xs rest l' s' t e =
       start = e.adds.start ∙ t.start;
     }
 
--- The walk over the data of the section o: next is what is left of it.
-pub record Walking (c : Conventions) (r : List ℕ) (o : Open) (trump : ℕ) (l₀ : Entries) (w : Walk) (next : Next) (l : Entries) : Type 0 where
-  pub left : ToEmit (walked c o trump) l₀ (walked_all c r o trump) l w (next_data r next)
+-- The walk over the data of the section o, of which the data lines from the place `at` on are left.
+pub record Walking (c : Conventions) (r : List ℕ) (o : Open) (trump : ℕ) (l₀ : Entries) (w : Walk) (at : ℕ) (l : Entries) : Type 0 where
+  pub left : ToEmit (walked c o trump) l₀ (walked_all c r o trump) l w (data_from r at)
   pub counted : l.count ≡ l₀.count + walk_count w
   pub seated : Seated w.tricks
-  pub few : walk_count w + 3 * next.piece.len ≤ 3 * (o.split.len + (next.at - o.at))
-  pub from_at : o.at ≤ next.at
-  pub inside : next.at ≤ length r
-  pub piece_inside : next.piece.start + next.piece.len ≤ length r
+  pub few : walk_count w ≤ 3 * (o.split.len + (at - o.at))
+  pub from_at : o.at ≤ at
+  pub inside : at ≤ length r
 
 module _ (c : Conventions) (r : List ℕ) (o : Open) (trump : ℕ) (l₀ : Entries) where
   all_left : ToEmit (walked c o trump) l₀ (walked_all c r o trump) l₀ no_walk (split_piece r o.split ++ lines_data r o)
   unfolding walked_all section_data
   all_left = to_emit (walked c o trump) l₀ no_walk (split_piece r o.split ++ lines_data r o)
 
-  pub walking : (w : Walk) → w ≡ no_walk → o.at ≤ length r → o.split.start + o.split.len ≤ length r
-      → Walking c r o trump l₀ w (record { more = true; piece = o.split; at = o.at }) l₀
-  walking w e h i =
+  -- What was split off the tag line is walked.
+  pub walking : (w₀ w : Walk) (l : Entries) → w₀ ≡ no_walk → o.at ≤ length r
+      → Walks (walk_count w₀ + 3 * o.split.len) l₀ l w (out_all (walked c o trump) w₀ (split_piece r o.split)) → Walking c r o trump l₀ w o.at l
+  walking w₀ w l e h k =
+      let t : ToEmit (walked c o trump) l₀ (walked_all c r o trump) l₀ w₀ (split_piece r o.split ++ data_from r o.at) = rw e all_left in
       record {
-        left = rw e all_left;
-        counted = omega (arith, start_none e);
-        seated = start_seated e;
-        few = omega (arith, start_none e);
+        left = emitting_run (walked c o trump) l₀ (walked_all c r o trump) l₀ w₀ (split_piece r o.split) (data_from r o.at) l w t k.emits;
+        counted = rw k.emits.answer (omega (arith, start_none e, k.emits.adds.count, walk_count_lem c o trump w₀ (split_piece r o.split)));
+        seated = k.seated;
+        few = omega (arith, start_none e, k.few);
         from_at = omega arith;
         inside = h;
-        piece_inside = i;
       }
 
-  pub walk_on : (w : Walk) (next : Next) (l : Entries) (w' : Walk) (next' : Next) (l' : Entries)
-      → Walking c r o trump l₀ w next l → next.more ≡ true
+  pub walk_on : (w : Walk) (at : ℕ) (l : Entries) (w' : Walk) (next : Next) (l' : Entries)
+      → Walking c r o trump l₀ w at l
       → Walks (walk_count w + 3 * next.piece.len) l l' w' (out_all (walked c o trump) w (split_piece r next.piece))
-      → NextPiece r next.at next' → Walking c r o trump l₀ w' next' l'
-  walk_on w next l w' next' l' v m k q =
+      → PieceFrom r at next → Walking c r o trump l₀ w' next.at l'
+  walk_on w at l w' next l' v k q =
       let ps : List Piece = split_piece r next.piece in
-      let rest : List Piece = data_in false next.at (raw_lines (drop next.at r)) in
-      let e : next_data r next ≡ ps ++ rest = ap (λ (b : Bool). cond b (ps ++ rest) []) m in
-      let t : ToEmit (walked c o trump) l₀ (walked_all c r o trump) l w (ps ++ rest) = rw e at v.left in
-      let u : ToEmit (walked c o trump) l₀ (walked_all c r o trump) l' w' rest = emitting_run (walked c o trump) l₀ (walked_all c r o trump) l w ps rest l' w' t k.emits in
+      let t : ToEmit (walked c o trump) l₀ (walked_all c r o trump) l w (ps ++ data_from r next.at) = rw q.data_lines at v.left in
       record {
-        left = rw q.data_lines at u;
+        left = emitting_run (walked c o trump) l₀ (walked_all c r o trump) l w ps (data_from r next.at) l' w' t k.emits;
         counted = rw k.emits.answer (omega (arith, v.counted, k.emits.adds.count, walk_count_lem c o trump w ps));
         seated = k.seated;
         few = omega (arith, k.few, v.few, v.from_at, q.past);
         from_at = omega (arith, v.from_at, q.past);
         inside = q.inside;
-        piece_inside = q.piece_inside;
       }
 
-  pub walk_ended : (w : Walk) (next : Next) (l : Entries) → Walking c r o trump l₀ w next l → next.more ≡ false
+  pub walk_ended : (w : Walk) (at : ℕ) (l : Entries) → Walking c r o trump l₀ w at l → data_from r at ≡ []
       → Walks (3 * (o.split.len + (length r - o.at))) l₀ l w (walked_all c r o trump)
-  walk_ended w next l v m =
-      let e : next_data r next ≡ [] = ap (λ (b : Bool). cond b (split_piece r next.piece ++ data_in false next.at (raw_lines (drop next.at r))) []) m in
-      record { emits = emitted (rw e at v.left); seated = v.seated; few = omega (arith, v.few, v.inside) }
-
--- What is left of a section: the bytes from the place of the lines not looked at on, and one for the piece at hand.
-abbrev pub left_of : List ℕ → Next → ℕ
-left_of r n = cond n.more (suc (length r - n.at)) 0
-
-pub less_left : (r : List ℕ) (n n' : Next) → n.more ≡ true → n.at ≤ length r → NextPiece r n.at n' → left_of r n' < left_of r n
-less_left r n n' m h q =
-    let e : left_of r n ≡ suc (length r - n.at) = ap (λ (b : Bool). cond b (suc (length r - n.at)) 0) m in
-    by_cases n'.more
-    (λ t.
-    let f : left_of r n' ≡ suc (length r - n'.at) = ap (λ (b : Bool). cond b (suc (length r - n'.at)) 0) t in
-    omega (arith, e, f, q.later t, q.inside, h))
-    (λ t.
-    let f : left_of r n' ≡ 0 = ap (λ (b : Bool). cond b (suc (length r - n'.at)) 0) t in
-    omega (arith, e, f))
+  walk_ended w at l v e = record { emits = emitted (rw e at v.left); seated = v.seated; few = omega (arith, v.few, v.inside) }

@@ -96,7 +96,13 @@ fn head_words(n: usize, count: usize, b: Board) -> [u32; 10]
 fn cell_words(t: TableCard) -> [u32; 20]
     ensures { result ≡ t.cells }
 {
-    t.cells.map(|cell| cell as u32)
+    // The array's map would take some 500 instructions a board more.
+    let cells = t.cells;
+    let mut words = [0; 20];
+    for i in 0..20 {
+        words[i] = cells[i] as u32;
+    }
+    words
 }
 
 // The table's kind, and the value entries.

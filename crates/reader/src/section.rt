@@ -5,7 +5,7 @@ ghost use Rattle.reader.specs.Pieces.{out_all};
 ghost use Rattle.reader.specs.PieceSteps.{piece};
 ghost use Rattle.reader.specs.TokenSteps.{Seated};
 ghost use Rattle.reader.specs.Sections.{commentary_after, split_piece, row_stored, walked, no_walk, walked_all};
-ghost use Rattle.reader.specs.SectionSteps.{visit_of, no_piece, NextPiece, walk_count, Walks};
+ghost use Rattle.reader.specs.SectionSteps.{visit_of, NextPiece, walk_count, Walks};
 
 use crate::auction::{Bidding, call_piece, no_bidding};
 use crate::line::{Line, has_brace, line_kind};
@@ -61,10 +61,9 @@ pub enum Visit {
     Piece(Span),
 }
 
-// The next piece of a section's data, and where the lines after it start; `more` is false where the section has ended.
+// A piece of a section's data, and where the lines after it start.
 #[derive(Clone, Copy)]
 pub struct Next {
-    pub more: bool,
     pub piece: Span,
     pub at: usize,
 }
@@ -85,18 +84,8 @@ fn visit_line(commentary: bool, l: &[u8]) -> Visit
     }
 }
 
-fn no_piece(at: usize) -> Next
-    ensures { result ≡ no_piece at }
-{
-    Next {
-        more: false,
-        piece: Span { start: 0, len: 0 },
-        at,
-    }
-}
-
-// The section's next data line, of the lines from `at` on.
-fn next_piece(r: &[u8], at: usize) -> Next
+// The section's next data line, of the lines from `at` on; none where the section has ended.
+fn next_piece(r: &[u8], at: usize) -> Option<Next>
     requires { (at ≤ length r.now) × (length r.now ≤ 2 ^ 40) }
     ensures { NextPiece r.now at result }
 {
@@ -105,24 +94,24 @@ fn next_piece(r: &[u8], at: usize) -> Next
     while e < r.len() {
         let l = line_at(r, e);
         match visit_line(commentary, l) {
-            Visit::Stop => return no_piece(e),
+            Visit::Stop => return None,
             Visit::Pass => {
                 commentary = commentary_after(commentary, l);
                 e += l.len();
             }
             Visit::Piece(s) => {
-                return Next {
-                    more: true,
-                    piece: Span {
-                        start: e + s.start,
-                        len: s.len,
-                    },
-                    at: e + l.len(),
+                let piece = Span {
+                    start: e + s.start,
+                    len: s.len,
                 };
+                return Some(Next {
+                    piece,
+                    at: e + l.len(),
+                });
             }
         }
     }
-    no_piece(e)
+    None
 }
 
 fn no_walk() -> Walk
@@ -235,17 +224,11 @@ pub(crate) fn walk_section(
     requires { (entries.old.start + length r.now ≤ 2 ^ 40) × (entries.old.count ≤ 2 ^ 57) × (o.at ≤ length r.now) × (o.split.start + o.split.len ≤ length r.now) × (o.kind ≡ 2 → o.seat ≤ 3) }
     ensures { Walks (3 * (o.split.len + (length r.now - o.at))) entries.old entries.new result (walked_all c r.now o trump) }
 {
-    let split = o.split;
-    let mut w = no_walk();
-    let mut next = Next {
-        more: true,
-        piece: split,
-        at: o.at,
-    };
-    while next.more {
-        let s = next.piece;
-        w = walk_span(c, r, o, trump, w, s, entries);
-        next = next_piece(r, next.at);
+    let mut w = walk_span(c, r, o, trump, no_walk(), o.split, entries);
+    let mut at = o.at;
+    while let Some(next) = next_piece(r, at) {
+        w = walk_span(c, r, o, trump, w, next.piece, entries);
+        at = next.at;
     }
     w
 }
