@@ -1,6 +1,6 @@
 -- What the C functions hand back. An answer array is: refusal number (0 none), edition (0 none), carried number, then the values, which
 -- are 0 after a refusal. Each function also returns the refusal number.
-use Rattle.std.specs.Prelude.{ℕ, ◌-◌, ◌≡◌, List, [], ◌∷◌, length, get_or}
+use Rattle.std.specs.Prelude.{ℕ, ◌-◌, ◌≡◌, List, [], ◌∷◌, length, get_or, Result, Ok, Err, is_ok}
 use Rattle.tables.specs.declared.dd.Decoded.{Decoded}
 use Rattle.tables.specs.declared.dd.Decoded.TheVariants.{Table}
 use Rattle.tables.specs.declared.dd.Decoded.TheVariants as decoded
@@ -11,11 +11,10 @@ use Rattle.tables.specs.Refusals.{refusal_number, refusal_carries}
 use Rattle.tables.specs.Page.{answer_of, page_of}
 use Rattle.tables.specs.Tables.{TableReading, table_read}
 use Rattle.tables.specs.declared.letters.Conventions.{Conventions}
-use Rattle.reader.specs.declared.edition.Reading.{Reading}
-use Rattle.reader.specs.declared.edition.Reading.TheVariants.{Taken}
-use Rattle.reader.specs.declared.edition.Reading.TheVariants as edition
+use Rattle.reader.specs.declared.edition.Counts.{Counts}
+use Rattle.reader.specs.declared.edition.ReadRefusal.{ReadRefusal}
 use Rattle.reader.specs.Store.{lent}
-use Rattle.reader.specs.Editions.{read_number, read_carries, reading_of, is_taken, cards_of, entries_of}
+use Rattle.reader.specs.Editions.{read_number, read_carries, reading_of, cards_of, entries_of}
 use Rattle.planning.specs.declared.state.BoardState.{BoardState}
 use Rattle.planning.specs.declared.behind.Behind.{Behind}
 use Rattle.planning.specs.declared.behind.Behind.TheVariants.{InOld, InNew, Nothing}
@@ -30,15 +29,12 @@ use Rattle.planning.specs.declared.plan.Planning.TheVariants as planning
 use Rattle.planning.specs.States.{state_number, from_of}
 use Rattle.planning.specs.Slips.{slips_of}
 use Rattle.planning.specs.Plans.{plan_number, plan_edition, plan_carries, Boxes, editions_of, are_both, planning_of, is_planned, plans_of, BoxesAfter, state_by, behind_by, boards_after, searches_after, words_by}
-use Rattle.writer.specs.declared.write.Writing.{Writing}
-use Rattle.writer.specs.declared.write.Writing.TheVariants as writing
+use Rattle.writer.specs.declared.write.WriteRefusal.{WriteRefusal}
 use Rattle.writer.specs.Writings.{write_number, write_carries, writing_of, IsWritten}
-use Rattle.writer.specs.declared.finish.Finishing.{Finishing}
-use Rattle.writer.specs.declared.finish.Finishing.TheVariants as finishing
+use Rattle.writer.specs.declared.finish.FinishRefusal.{FinishRefusal}
 use Rattle.writer.specs.Finishings.{finish_number, finish_edition, finish_carries, finishing_of, IsFinished}
 use Rattle.lin.specs.declared.convert.Converted.{Converted}
-use Rattle.lin.specs.declared.convert.Converted.TheVariants.{Page}
-use Rattle.lin.specs.declared.convert.Converted.TheVariants as converted
+use Rattle.lin.specs.declared.convert.LinRefusal.{LinRefusal}
 use Rattle.lin.specs.Conversions.{lin_number, lin_carries, converted_of, IsConverted}
 use Rattle.golavimes.specs.declared.Head.{Head}
 
@@ -53,24 +49,24 @@ decoded_numbers Table = 0 ∷ 0 ∷ 0 ∷ []
 decoded_numbers (decoded.Refused f) = refusal_number f ∷ 0 ∷ refusal_carries f ∷ []
 
 -- An edition's answer: its boards and entries.
-abbrev pub reading_numbers : Reading → List ℕ
-reading_numbers (Taken boards entries) = 0 ∷ 0 ∷ 0 ∷ boards ∷ entries ∷ []
-reading_numbers (edition.Refused f) = read_number f ∷ 0 ∷ read_carries f ∷ 0 ∷ 0 ∷ []
+abbrev pub reading_numbers : Result Counts ReadRefusal → List ℕ
+reading_numbers (Ok n) = 0 ∷ 0 ∷ 0 ∷ n.boards ∷ n.entries ∷ []
+reading_numbers (Err f) = read_number f ∷ 0 ∷ read_carries f ∷ 0 ∷ 0 ∷ []
 
 -- A written edition's answer: the bytes written.
-abbrev pub writing_numbers : Writing → List ℕ
-writing_numbers (writing.Written n) = 0 ∷ 0 ∷ 0 ∷ n ∷ []
-writing_numbers (writing.Refused f) = write_number f ∷ 0 ∷ write_carries f ∷ 0 ∷ []
+abbrev pub writing_numbers : Result ℕ WriteRefusal → List ℕ
+writing_numbers (Ok n) = 0 ∷ 0 ∷ 0 ∷ n ∷ []
+writing_numbers (Err f) = write_number f ∷ 0 ∷ write_carries f ∷ 0 ∷ []
 
 -- A finished edition's answer: the bytes written.
-abbrev pub finishing_numbers : Finishing → List ℕ
-finishing_numbers (finishing.Finished n) = 0 ∷ 0 ∷ 0 ∷ n ∷ []
-finishing_numbers (finishing.Refused f) = finish_number f ∷ finish_edition f ∷ finish_carries f ∷ 0 ∷ []
+abbrev pub finishing_numbers : Result ℕ FinishRefusal → List ℕ
+finishing_numbers (Ok n) = 0 ∷ 0 ∷ 0 ∷ n ∷ []
+finishing_numbers (Err f) = finish_number f ∷ finish_edition f ∷ finish_carries f ∷ 0 ∷ []
 
 -- A converted LIN text's answer: the bytes written and the boards.
-abbrev pub converted_numbers : Converted → List ℕ
-converted_numbers (Page n boards) = 0 ∷ 0 ∷ 0 ∷ n ∷ boards ∷ []
-converted_numbers (converted.Refused f) = lin_number f ∷ 0 ∷ lin_carries f ∷ 0 ∷ 0 ∷ []
+abbrev pub converted_numbers : Result Converted LinRefusal → List ℕ
+converted_numbers (Ok k) = 0 ∷ 0 ∷ 0 ∷ k.bytes ∷ k.boards ∷ []
+converted_numbers (Err f) = lin_number f ∷ 0 ∷ lin_carries f ∷ 0 ∷ 0 ∷ []
 
 -- The first three numbers of planning's answers: refusal, edition (0 none, 1 old, 2 new), carried number.
 abbrev pub refused_head : PlanRefusal → Head
@@ -128,8 +124,8 @@ pub record ReadOut (reading : TableReading) (table' answer' : List ℕ) (r : ℕ
 -- A text is read into lent cards and entries, whatever they and the answer held.
 pub record EditionOut (c : Conventions) (text cards entries cards' entries' answer' : List ℕ) (r : ℕ) : Type 0 where
   pub told : answer' ≡ reading_numbers (reading_of c text (length cards) (length entries))
-  pub cards_after : cards' ≡ lent (is_taken (reading_of c text (length cards) (length entries))) (length cards) (cards_of c text)
-  pub entries_after : entries' ≡ lent (is_taken (reading_of c text (length cards) (length entries))) (length entries) (entries_of c text)
+  pub cards_after : cards' ≡ lent (is_ok (reading_of c text (length cards) (length entries))) (length cards) (cards_of c text)
+  pub entries_after : entries' ≡ lent (is_ok (reading_of c text (length cards) (length entries))) (length entries) (entries_of c text)
   pub returned : r ≡ get_or answer' 0 0
 
 -- A text is read and written on a lent page, whatever was lent and whatever it held.
