@@ -2,12 +2,15 @@
 use Prim.Native.Nat.{ℕ, ◌+◌, ◌*◌, ◌/◌, ◌%◌, ◌≤◌, ◌<◌}
 use mathlib.Core.Path.{◌≡◌, refl, sym, ap, ◌∙◌}
 use mathlib.Core.Bool.{true, false, cond}
-use mathlib.Core.List.{List}
-use native.Mathlib.Nat.{add-zero}
+use mathlib.Core.List.{List, [], ◌∷◌}
 use native.Mathlib.Omega.{arith}
-use lib.Dec.{eqb, leb}
+use lib.Dec.{eqb, leb, ltb}
 use lib.ListN.{length, drop, get_or}
-use borrow.Author.Tests.{lt-ltb, le-ltb, le-leb, lt-leb, eq-eqb, ne_eqb}
+use borrow.Author.Tests.{ltb-false, lt-ltb, le-ltb, le-leb, lt-leb, eq-eqb, ne_eqb}
+use Rattle.std.proofs.Common.{Option, None, Some}
+use Rattle.std.proofs.lemmas.List.Recursion.{is_position_or_len}
+use Rattle.std.specs.List.{position_or_len}
+use Rattle.std.specs.Option.{MatchOption}
 use Rattle.std.specs.Result.{result_and}
 use Rattle.std.specs.Prelude.{Result, Ok, Err, is_ok}
 use Rattle.tables.specs.declared.letters.Conventions.{Conventions}
@@ -18,7 +21,7 @@ use Rattle.tables.specs.declared.refusal.Refusal.TheVariants as refusal
 use Rattle.tables.specs.Page.{page_of}
 use Rattle.tables.specs.PageSteps.{PageEnded as PageFinished}
 use Rattle.tables.proofs.PageLaws.{finished}
-use Rattle.tables.proofs.Laws.{step, stop, by_cases}
+use Rattle.tables.proofs.Laws.{by_cases}
 use Rattle.reader.specs.Store.{zeros}
 use Rattle.planning.specs.PlanSteps.{cards_in, BoxesKept}
 use Rattle.planning.specs.Plans.{Boxes}
@@ -34,15 +37,18 @@ use Rattle.writer.proofs.ChangedCards.{marked_long, cleared_long, changed_length
 
 -- ---- the first byte above 13
 
-pub above_here : (bs : List ℕ) (i : ℕ) → i < length bs → 13 < get_or bs i 0 → i + first_above (drop i bs) ≡ i
-above_here bs i h t = rw (step bs i h, lt-ltb 13 (get_or bs i 0) t) (add-zero i)
+above_most : (bs : List ℕ) → first_above bs ≤ length bs
+above_most [] = omega arith
+above_most (b ∷ bs) = by_cases (ltb 13 b) (λ t. rw t (omega arith)) (λ t. rw t (omega (arith, above_most bs)))
 
-pub above_next : (bs : List ℕ) (i : ℕ) → i < length bs → get_or bs i 0 ≤ 13
-    → i + first_above (drop i bs) ≡ i + 1 + first_above (drop (i + 1) bs)
-above_next bs i h t = rw (step bs i h, le-ltb 13 (get_or bs i 0) t) (omega arith)
-
-pub above_none : (bs : List ℕ) (i : ℕ) → length bs ≤ i → i + first_above (drop i bs) ≡ i
-above_none bs i h = rw (stop bs i h) (add-zero i)
+-- It is what `position` finds.
+pub above_found : (bs : List ℕ) (r : Option ℕ) → r ≡ cond (ltb (position_or_len (ltb 13) bs) (length bs)) (Some (position_or_len (ltb 13) bs)) None
+    → MatchOption r (length bs ≡ first_above bs) (λ i. i ≡ first_above bs)
+above_found bs r e =
+    let q = is_position_or_len first_above (ltb 13) refl (λ x xs. ap (cond (ltb 13 x) 0) (omega arith)) bs in
+    by_cases (ltb (position_or_len (ltb 13) bs) (length bs))
+    (λ t. rw (e, t, q))
+    (λ t. rw (e, t) (omega (arith, above_most bs, q, ltb-false _ _ t)))
 
 -- ---- the answers checked
 
