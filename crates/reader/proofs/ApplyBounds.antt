@@ -10,7 +10,7 @@ use lib.Dec.{eqb, ltb, leb}
 use lib.ListN.{length, take, length-map, length-take}
 use Rattle.tables.specs.declared.letters.Conventions.{Conventions}
 use Rattle.tables.specs.Text.{trimmed, first_character, characters, differs}
-use Rattle.tables.specs.Numbers.{digits_from, some_digits, number_of, raised, lowered, signed_of}
+use Rattle.tables.specs.Numbers.{Number, digits_from, some_digits, number_of, raised, lowered, signed_of}
 use Rattle.tables.specs.NumberSteps.{IsWithin}
 use Rattle.tables.specs.Letters.{every, seat_of, strain_of, capital}
 use Rattle.tables.specs.Tables.{TableReading, digit_of, first_bad, digits_checked, digits_reading, table_of_digits}
@@ -58,15 +58,15 @@ number_within limit (b ∷ bs) = go (eqb b 43)
     go true = some_within limit bs
     go false = some_within limit (b ∷ bs)
 
-lowered_within : (half : ℕ) (n : Option ℕ) → IsWithin (lowered half n) half
+lowered_within : (half : ℕ) (n : Number) → IsWithin (lowered half n) half
 lowered_within half None = tt
 lowered_within half (Some v) = omega arith
 
-raised_within : (half limit : ℕ) (n : Option ℕ) → IsWithin n limit → IsWithin (raised half n) (half + limit)
+raised_within : (half limit : ℕ) (n : Number) → IsWithin n limit → IsWithin (raised half n) (half + limit)
 raised_within half limit None h = tt
 raised_within half limit (Some v) h = omega arith
 
-wider : (n : Option ℕ) (a b : ℕ) → a ≤ b → IsWithin n a → IsWithin n b
+wider : (n : Number) (a b : ℕ) → a ≤ b → IsWithin n a → IsWithin n b
 wider None a b h w = tt
 wider (Some v) a b h w = omega arith
 
@@ -125,13 +125,13 @@ pub record IdentityLow (i : Identity) : Type 0 where
   pub result_met_low : i.result_met ≤ 1
   pub result_low : i.result ≤ 255
 
-number_put : (i : Identity) (n : Option ℕ) → IsWithin n 4294967295 → IdentityLow i → IdentityLow (with_number i n)
+number_put : (i : Identity) (n : Number) → IsWithin n 4294967295 → IdentityLow i → IdentityLow (with_number i n)
 number_put i None w h =
     record { number_met_low = omega arith; number_low = omega arith; dealer_low = h.dealer_low; vulnerable_low = h.vulnerable_low; declarer_low = h.declarer_low; result_met_low = h.result_met_low; result_low = h.result_low }
 number_put i (Some v) w h =
     record { number_met_low = omega arith; number_low = w; dealer_low = h.dealer_low; vulnerable_low = h.vulnerable_low; declarer_low = h.declarer_low; result_met_low = h.result_met_low; result_low = h.result_low }
 
-result_put : (i : Identity) (n : Option ℕ) → IsWithin n 255 → IdentityLow i → IdentityLow (with_result i n)
+result_put : (i : Identity) (n : Number) → IsWithin n 255 → IdentityLow i → IdentityLow (with_result i n)
 result_put i None w h =
     record { number_met_low = h.number_met_low; number_low = h.number_low; dealer_low = h.dealer_low; vulnerable_low = h.vulnerable_low; declarer_low = h.declarer_low; result_met_low = omega arith; result_low = omega arith }
 result_put i (Some v) w h =

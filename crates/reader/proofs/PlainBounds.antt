@@ -10,7 +10,7 @@ use borrow.Author.Tests.{eqb-true, ltb-false, le-leb}
 use Rattle.tables.specs.declared.letters.Conventions.{Conventions}
 use Rattle.tables.specs.declared.refusal.Refusal.TheVariants.{Declarer, Denomination, Over}
 use Rattle.tables.specs.Text.{fields, first_character}
-use Rattle.tables.specs.Numbers.{number_of}
+use Rattle.tables.specs.Numbers.{Number, number_of}
 use Rattle.tables.specs.Letters.{every, seat_of, strain_of}
 use Rattle.tables.specs.Tables.{cell_of, result_row, strain_row, fields_row, row_with, row_of, missing, gathered, gives, Row}
 use Rattle.tables.proofs.Laws.{by_cases, both}
@@ -35,7 +35,7 @@ use Rattle.reader.specs.Kept.{TableKept}
 use Rattle.reader.proofs.ApplyBounds.{IdentityLow, DealSized, Bounded, no_board_bounded, applied_bounded}
 use Rattle.reader.proofs.Counts.{chosen}
 use Rattle.reader.proofs.PlainSteps.{board_cases, closed_leaves, HoldsOfRecord}
-use Rattle.std.specs.Prelude.{Option, Some, None, Ok, Err}
+use Rattle.std.specs.Prelude.{Some, None, Ok, Err}
 
 -- ---- rows
 
@@ -52,7 +52,7 @@ or_last : (b c : Bool) → c ≡ true → (b || c) ≡ true
 or_last true c e = refl
 or_last false c e = e
 
-result_small : (n cell : ℕ) (m : Option ℕ) → SmallRow (result_row n cell m)
+result_small : (n cell : ℕ) (m : Number) → SmallRow (result_row n cell m)
 result_small n cell None = tt
 result_small n cell (Some v) =
     chosen SmallRow (ltb 13 v) (Err (Over n)) (gives cell v) (λ t. tt) (λ t. or_last (eqb v 255) (leb v 13) (le-leb v 13 (ltb-false 13 v t)))

@@ -3,7 +3,7 @@
 use Rattle.std.specs.Prelude.{ℕ, ◌+◌, ◌-◌, List, [], ◌∷◌, ◌++◌, Bool, true, false, cond, ◌&&◌, ◌||◌, not, ltb, eqb, length, replicate}
 use Rattle.tables.specs.declared.letters.Conventions.{Conventions}
 use Rattle.tables.specs.Text.{is_white, lead, trimmed, first_character}
-use Rattle.tables.specs.Numbers.{number_of, signed_of}
+use Rattle.tables.specs.Numbers.{Number, number_of, signed_of}
 use Rattle.tables.specs.Letters.{seat_of, every}
 use Rattle.tables.specs.Tables.{TableReading, table_of_digits, gathered}
 use Rattle.reader.specs.declared.store.Entry.{Entry}
@@ -38,7 +38,7 @@ use Rattle.std.specs.Prelude.{Option, Some, None, Ok, Err}
 -- ---- what a tag's value does to a board
 
 -- Option ℕ, dealer, vulnerability (4 where none was read), declarer, result plus 128. A bad one takes the earlier value away.
-abbrev pub with_number : Identity → Option ℕ → Identity
+abbrev pub with_number : Identity → Number → Identity
 with_number i None = record { number_met = 0; number = 0; dealer = i.dealer; vulnerability = i.vulnerability; declarer = i.declarer; result_met = i.result_met; result = i.result }
 with_number i (Some v) = record { number_met = 1; number = v; dealer = i.dealer; vulnerability = i.vulnerability; declarer = i.declarer; result_met = i.result_met; result = i.result }
 
@@ -51,7 +51,7 @@ with_vulnerability i v = record { number_met = i.number_met; number = i.number; 
 abbrev pub with_declarer : Identity → ℕ → Identity
 with_declarer i s = record { number_met = i.number_met; number = i.number; dealer = i.dealer; vulnerability = i.vulnerability; declarer = s; result_met = i.result_met; result = i.result }
 
-abbrev pub with_result : Identity → Option ℕ → Identity
+abbrev pub with_result : Identity → Number → Identity
 with_result i None = record { number_met = i.number_met; number = i.number; dealer = i.dealer; vulnerability = i.vulnerability; declarer = i.declarer; result_met = 0; result = 0 }
 with_result i (Some v) = record { number_met = i.number_met; number = i.number; dealer = i.dealer; vulnerability = i.vulnerability; declarer = i.declarer; result_met = 1; result = v }
 

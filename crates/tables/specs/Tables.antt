@@ -5,7 +5,7 @@ use Rattle.tables.specs.declared.refusal.Refusal.TheVariants.{Length, Digit, Fie
 use Rattle.tables.specs.declared.dd.Cell.{Cell}
 use Rattle.tables.specs.declared.letters.Conventions.{Conventions}
 use Rattle.tables.specs.Text.{ascii, trimmed, fields, lines, characters, first_character}
-use Rattle.tables.specs.Numbers.{number_of, decimal}
+use Rattle.tables.specs.Numbers.{Number, number_of, decimal}
 use Rattle.tables.specs.Letters.{seat_of, strain_of, seat_letter, suit_letter}
 use Rattle.tables.specs.Page.{right}
 
@@ -91,7 +91,7 @@ abbrev pub gives : ℕ → ℕ → Row
 gives place tricks = Ok (Some (record { place = place; tricks = tricks }))
 
 -- The third field: a number 0 to 255 (13) that is at most 13 (14).
-abbrev pub result_row : ℕ → ℕ → Option ℕ → Row
+abbrev pub result_row : ℕ → ℕ → Number → Row
 result_row n cell None = Err (Outcome n)
 result_row n cell (Some v) = cond (ltb 13 v) (Err (Over n)) (gives cell v)
 

@@ -10,8 +10,6 @@ use borrow.Author.Tests.{le-leb, lt-leb}
 use native.Mathlib.Nat.{sub-zero}
 use Rattle.tables.specs.declared.letters.Conventions.{Conventions}
 use Rattle.tables.specs.declared.page.Written.{Written as PageWritten}
-use Rattle.tables.specs.declared.page.Written.TheVariants.{Bytes}
-use Rattle.tables.specs.declared.page.Written.TheVariants as paged
 use Rattle.tables.specs.declared.refusal.Refusal.TheVariants as refusal
 use Rattle.tables.specs.Page.{page_of}
 use Rattle.tables.specs.PageSteps.{PageEnded}
@@ -33,6 +31,8 @@ use Rattle.writer.specs.WritingSteps.{WritingEnded}
 use Rattle.writer.proofs.HeldBoards.{taken_holds}
 use Rattle.writer.proofs.HeldPages.{PageHeld}
 use Rattle.writer.proofs.Sizes.{BytesFew}
+use Rattle.tables.specs.declared.refusal.Refusal.{Refusal}
+use Rattle.std.specs.Prelude.{Ok, Err}
 
 -- A text that is taken: as many boards as cards.
 taken_boards : (c : Conventions) (text : List ℕ) (lc le b e : ℕ) → Taken b e ≡ reading_of c text lc le → b ≡ length (cards_of c text)
@@ -73,7 +73,7 @@ written_taken {c} {text} {cards} {entries} {page} {cards₁} {entries₁} {page�
     let put = text_put.put (omega arith) in
     let en : n ≡ length (written_text c text) = omega (arith, put.next) in
     let el = text_put.kept in
-    let ended : PageEnded n page₁ page₂ (cond (leb n (length page₁)) (Bytes n) (paged.Refused (refusal.PageFull n))) = record { told = refl; page_left = d.page_left } in
+    let ended : PageEnded n page₁ page₂ (cond (leb n (length page₁)) (Ok n) (Err (refusal.PageFull n))) = record { told = refl; page_left = d.page_left } in
     let out : r ≡ page_answer (length (written_text c text)) (length page) = rw (← en, ← el) d.answer in
     let lent : is_written r ≡ leb n (length page₁) = ap is_written d.answer ∙ out_is n (length page₁) in
     record {

@@ -16,7 +16,7 @@ use crate::remarks::{Sought, put_remark, put_remarks};
 use crate::tags::{put_close, put_open};
 use reader::names::{NOTE, tag_number};
 use reader::words::same;
-use tables::numbers::{Number, parse_number};
+use tables::numbers::parse_number;
 use tables::text::{from, index_of, trim, upto};
 
 // The number of a note's value, 256 where it has none.
@@ -25,10 +25,7 @@ fn note_number(value: &[u8]) -> usize
 {
     let k = index_of(value, 58);
     if k < value.len() {
-        let Number::Value(n) = parse_number(trim(upto(value, k)), 255) else {
-            return 256;
-        };
-        return n as usize;
+        return parse_number(trim(upto(value, k)), 255).map_or(256, |n| n as usize);
     }
     256
 }
