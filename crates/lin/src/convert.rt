@@ -51,7 +51,7 @@ fn end_converting(g: Progress, page: &mut [u8]) -> Converted
     if g.any & g.good {
         let n = g.at;
         if n <= page.len() {
-            finish(page, n);
+            let _ = finish(page, n);
             return Converted::Page(n as u64, g.boards);
         }
         clear(page);

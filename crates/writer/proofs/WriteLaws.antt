@@ -9,7 +9,6 @@ use lib.ListN.{length, replicate}
 use borrow.Author.Tests.{le-leb, lt-leb}
 use native.Mathlib.Nat.{sub-zero}
 use Rattle.tables.specs.declared.letters.Conventions.{Conventions}
-use Rattle.tables.specs.declared.page.Written.{Written as PageWritten}
 use Rattle.tables.specs.declared.refusal.Refusal.TheVariants as refusal
 use Rattle.tables.specs.Page.{page_of}
 use Rattle.tables.specs.PageSteps.{PageEnded}
@@ -32,7 +31,7 @@ use Rattle.writer.proofs.HeldBoards.{taken_holds}
 use Rattle.writer.proofs.HeldPages.{PageHeld}
 use Rattle.writer.proofs.Sizes.{BytesFew}
 use Rattle.tables.specs.declared.refusal.Refusal.{Refusal}
-use Rattle.std.specs.Prelude.{Ok, Err}
+use Rattle.std.specs.Prelude.{Result, Ok, Err}
 
 -- A text that is taken: as many boards as cards.
 taken_boards : (c : Conventions) (text : List ℕ) (lc le b e : ℕ) → Taken b e ≡ reading_of c text lc le → b ≡ length (cards_of c text)
@@ -98,13 +97,13 @@ written_refused {c} {text} {cards} {entries} {page} i z =
     }
 
 -- A page of which nothing is kept.
-pub cleared_none : (page page' : List ℕ) (r : PageWritten) → PageEnded 0 page page' r → page' ≡ zeros page
+pub cleared_none : (page page' : List ℕ) (r : Result ℕ Refusal) → PageEnded 0 page page' r → page' ≡ zeros page
 cleared_none page page' r f =
     let z : leb 0 (length page) ≡ true = le-leb 0 (length page) (omega arith) in
     rw z at f.page_left ∙ ap (λ (k : ℕ). replicate k 0) (sub-zero (length page))
 
 -- The answer for n bytes that fit, and for more.
-pub ended_in : {n : ℕ} {cards entries page page' : List ℕ} {w : PageWritten} → n ≤ length page → PageEnded n page page' w → WritingEnded n cards entries page (Written n) cards entries page'
+pub ended_in : {n : ℕ} {cards entries page page' : List ℕ} {w : Result ℕ Refusal} → n ≤ length page → PageEnded n page page' w → WritingEnded n cards entries page (Written n) cards entries page'
 ended_in {n} {cards} {entries} {page} h f =
     let q = le-leb n (length page) h in
     record { answer = rw q; page_left = f.page_left; cards_after = rw q; entries_after = rw q }

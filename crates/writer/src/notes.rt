@@ -25,7 +25,10 @@ fn note_number(value: &[u8]) -> usize
 {
     let k = index_of(value, 58);
     if k < value.len() {
-        return parse_number(trim(upto(value, k)), 255).map_or(256, |n| n as usize);
+        let Some(n) = parse_number(trim(upto(value, k)), 255) else {
+            return 256;
+        };
+        return n as usize;
     }
     256
 }

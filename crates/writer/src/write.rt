@@ -47,7 +47,7 @@ pub fn write_carried(f: WriteRefusal) -> u64
 pub fn clear(page: &mut [u8])
     ensures { page.new ≡ zeros page.old }
 {
-    finish(page, 0);
+    let _ = finish(page, 0);
 }
 
 // The answer for n bytes; all that was lent is set to 0 where they do not fit.
@@ -55,7 +55,7 @@ fn end_writing(n: usize, cards: &mut [u32], entries: &mut [u32], page: &mut [u8]
     ensures { WritingEnded n cards.old entries.old page.old result cards.new entries.new page.new }
 {
     if n <= page.len() {
-        finish(page, n);
+        let _ = finish(page, n);
         return Writing::Written(n as u64);
     }
     clear(page);
