@@ -1,15 +1,9 @@
 -- What the C functions hand back. An answer array is: refusal number (0 none), edition (0 none), carried number, then the values, which
 -- are 0 after a refusal. Each function also returns the refusal number.
-use Rattle.std.specs.Prelude.{ℕ, ◌-◌, ◌≡◌, List, [], ◌∷◌, length, get_or, Result, Ok, Err, is_ok}
-use Rattle.tables.specs.declared.dd.Decoded.{Decoded}
-use Rattle.tables.specs.declared.dd.Decoded.TheVariants.{Table}
-use Rattle.tables.specs.declared.dd.Decoded.TheVariants as decoded
-use Rattle.tables.specs.declared.page.Written.{Written}
-use Rattle.tables.specs.declared.page.Written.TheVariants.{Bytes}
-use Rattle.tables.specs.declared.page.Written.TheVariants as written
+use Rattle.std.specs.Prelude.{ℕ, ◌-◌, ◌≡◌, List, [], ◌∷◌, length, get_or, replicate, Result, Ok, Err, is_ok}
 use Rattle.tables.specs.Refusals.{refusal_number, refusal_carries}
 use Rattle.tables.specs.Page.{answer_of, page_of}
-use Rattle.tables.specs.Tables.{TableReading, table_read}
+use Rattle.tables.specs.Tables.{TableReading}
 use Rattle.tables.specs.declared.letters.Conventions.{Conventions}
 use Rattle.reader.specs.declared.edition.Counts.{Counts}
 use Rattle.reader.specs.declared.edition.ReadRefusal.{ReadRefusal}
@@ -37,16 +31,22 @@ use Rattle.lin.specs.declared.convert.Converted.{Converted}
 use Rattle.lin.specs.declared.convert.LinRefusal.{LinRefusal}
 use Rattle.lin.specs.Conversions.{lin_number, lin_carries, converted_of, IsConverted}
 use Rattle.golavimes.specs.declared.Head.{Head}
+use Rattle.tables.specs.declared.refusal.Refusal.{Refusal}
 
 -- A writer's answer: the value is the bytes written.
-abbrev pub written_numbers : Written → List ℕ
-written_numbers (Bytes n) = 0 ∷ 0 ∷ 0 ∷ n ∷ []
-written_numbers (written.Refused f) = refusal_number f ∷ 0 ∷ refusal_carries f ∷ 0 ∷ []
+abbrev pub written_numbers : Result ℕ Refusal → List ℕ
+written_numbers (Ok n) = 0 ∷ 0 ∷ 0 ∷ n ∷ []
+written_numbers (Err f) = refusal_number f ∷ 0 ∷ refusal_carries f ∷ 0 ∷ []
 
 -- A reader's answer has no values.
-abbrev pub decoded_numbers : Decoded → List ℕ
-decoded_numbers Table = 0 ∷ 0 ∷ 0 ∷ []
-decoded_numbers (decoded.Refused f) = refusal_number f ∷ 0 ∷ refusal_carries f ∷ []
+abbrev pub decoded_numbers : TableReading → List ℕ
+decoded_numbers (Ok cells) = 0 ∷ 0 ∷ 0 ∷ []
+decoded_numbers (Err f) = refusal_number f ∷ 0 ∷ refusal_carries f ∷ []
+
+-- The table that it leaves, all zero after a refusal.
+abbrev pub table_left : TableReading → List ℕ
+table_left (Ok cells) = cells
+table_left (Err f) = replicate 20 0
 
 -- An edition's answer: its boards and entries.
 abbrev pub reading_numbers : Result Counts ReadRefusal → List ℕ
@@ -117,8 +117,8 @@ pub record WroteOut (bs page page' answer' : List ℕ) (r : ℕ) : Type 0 where
 
 -- A table is read into a lent one, whatever that and the answer held.
 pub record ReadOut (reading : TableReading) (table' answer' : List ℕ) (r : ℕ) : Type 0 where
-  pub told : answer' ≡ decoded_numbers (table_read reading).answer
-  pub table_after : table' ≡ (table_read reading).table
+  pub told : answer' ≡ decoded_numbers reading
+  pub table_after : table' ≡ table_left reading
   pub returned : r ≡ get_or answer' 0 0
 
 -- A text is read into lent cards and entries, whatever they and the answer held.

@@ -9,9 +9,6 @@ use lib.ListN.{length}
 use borrow.Author.Tests.{le-leb, lt-leb, lt-ltb, le-ltb, ne_eqb}
 use Rattle.std.specs.Prelude.{Result, Ok, Err, is_ok}
 use Rattle.tables.specs.declared.letters.Conventions.{Conventions}
-use Rattle.tables.specs.declared.page.Written.{Written}
-use Rattle.tables.specs.declared.page.Written.TheVariants.{Bytes}
-use Rattle.tables.specs.declared.page.Written.TheVariants as paged
 use Rattle.tables.specs.declared.refusal.Refusal.TheVariants as refusal
 use Rattle.tables.specs.Page.{page_of}
 use Rattle.tables.specs.PageSteps.{PageEnded}
@@ -31,10 +28,11 @@ use Rattle.lin.specs.PieceSteps.{Gone, GoesAll}
 use Rattle.lin.specs.Conversions.{gives_deals, lin_page_answer, converted_of, IsConverted}
 use Rattle.lin.specs.ConversionSteps.{ConvertingEnded}
 use Rattle.lin.proofs.Sizes.{lin_text_few}
+use Rattle.tables.specs.declared.refusal.Refusal.{Refusal}
 
 -- ---- the end
 
-pub ended_in : {g : Progress} {page page' : List ℕ} {w : Written} → (g.any && g.good) ≡ true → g.at ≤ length page → PageEnded g.at page page' w
+pub ended_in : {g : Progress} {page page' : List ℕ} {w : Result ℕ Refusal} → (g.any && g.good) ≡ true → g.at ≤ length page → PageEnded g.at page page' w
     → ConvertingEnded g page (Ok (record { bytes = g.at; boards = g.boards })) page'
 ended_in {g} {page} t h f =
     let q = le-leb g.at (length page) h in
@@ -93,7 +91,7 @@ module _ {c : Conventions} {text page page₁ page' : List ℕ} {g : Progress} {
       let el = n.kept in
       let told : r ≡ lin_page_answer g.at g.boards (length page₁) = d.told ∙ rw (any, good) in
       let fits : is_ok r ≡ leb g.at (length page₁) = ap is_ok told ∙ answer_is g.at g.boards (length page₁) in
-      let ended : PageEnded g.at page₁ page' (cond (leb g.at (length page₁)) (Bytes g.at) (paged.Refused (refusal.PageFull g.at))) =
+      let ended : PageEnded g.at page₁ page' (cond (leb g.at (length page₁)) (Ok g.at) (Err (refusal.PageFull g.at))) =
       record { told = refl; page_left = rw fits at d.page_left } in
       let out : r ≡ lin_page_answer (length (lin_text c text)) (length bs) (length page) = rw (← en, ← el, ← count) told in
       record {

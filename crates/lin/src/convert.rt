@@ -51,7 +51,7 @@ fn end_converting(g: Progress, page: &mut [u8]) -> Result<Converted, LinRefusal>
     if g.any & g.good {
         let n = g.at;
         if n <= page.len() {
-            finish(page, n);
+            let _ = finish(page, n);
             return Ok(Converted {
                 bytes: n as u64,
                 boards: g.boards,

@@ -5,7 +5,6 @@ use listing_text::listing::list;
 use std::io::{Read, Write};
 use std::rt::Files;
 use std::{fs, io};
-use tables::page::Written;
 use tables::text::upto;
 
 // What a file holds; a file that is not opened is empty. An edition may have 16,384 bytes: one more is read, so that a longer file is seen.
@@ -40,8 +39,8 @@ fn print_listing(rt: &impl Print, old: &[u8], new: &[u8]) -> io::Result<()> {
         &mut page,
     );
     match written {
-        Written::Bytes(n) => io::writer(rt).write_all(upto(&page, n as usize)),
-        Written::Refused(_) => Ok(()),
+        Ok(n) => io::writer(rt).write_all(upto(&page, n as usize)),
+        Err(_) => Ok(()),
     }
 }
 

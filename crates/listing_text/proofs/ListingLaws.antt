@@ -7,9 +7,8 @@ use native.Mathlib.Omega.{arith}
 use lib.Dec.{ltb, leb}
 use lib.ListN.{length, take, replicate, length-replicate}
 use lib.Seq.{length-sets}
-use Rattle.std.specs.Prelude.{is_ok}
+use Rattle.std.specs.Prelude.{is_ok, Result}
 use Rattle.tables.specs.declared.letters.Conventions.{Conventions}
-use Rattle.tables.specs.declared.page.Written.{Written}
 use Rattle.tables.specs.Page.{Wrote}
 use Rattle.tables.specs.PageSteps.{Put}
 use Rattle.tables.proofs.Laws.{by_cases, clash}
@@ -41,6 +40,7 @@ use Rattle.planning.proofs.BoardLaws.{boards_left, left_first, left_step, left_n
 use Rattle.planning.proofs.PlanLaws.{count_few}
 use Rattle.planning.proofs.SlipLaws.{slips_count, slips_five}
 use Rattle.planning.proofs.AnswerLaws.{SameRoom, boxes_kept, listed_fits, solve_sum, there, boards_are}
+use Rattle.tables.specs.declared.refusal.Refusal.{Refusal}
 
 -- ---- two editions that were taken are within the limit
 
@@ -162,7 +162,7 @@ listed_low os ns {slips = slips} {t = t} {u = u} et h p e =
 -- ---- the end
 
 -- What the answer of the plan is called does not matter.
-listed_as : {js : List BoardPlan} {boxes : Boxes} {slips page : List ℕ} {boxes' : Boxes} {slips' page' : List ℕ} {r : Written} (q : Planning) → q ≡ slips_answer (length slips / 5) (totals_of js)
+listed_as : {js : List BoardPlan} {boxes : Boxes} {slips page : List ℕ} {boxes' : Boxes} {slips' page' : List ℕ} {r : Result ℕ Refusal} (q : Planning) → q ≡ slips_answer (length slips / 5) (totals_of js)
     → Wrote (list_text q js) page page' r → BoxesKept (well_on q js (length page)) boxes boxes' → slips' ≡ cond (well_on q js (length page)) (put_all 5 slips 0 (slips_of js)) (zeros slips)
     → BoardsOnPage js boxes slips page boxes' slips' page' r
 listed_as {js} {boxes} {slips} {page} {boxes'} {slips'} {page'} {r} q e w k s = record {
@@ -177,7 +177,7 @@ module _ (js : List BoardPlan) (slips : List ℕ) {boxes : Boxes} {ps : List ℕ
   answer_is = p.answer ∙ ap (λ (k : ℕ). slips_answer (k / 5) t) el ∙ ap (slips_answer (length slips / 5)) f.0
 
   -- The plan is refused.
-  pub boards_refused : {g : PlanRefusal} {page page' : List ℕ} {r : Written} → q ≡ planning.Refused g → Wrote (refused_line g) page page' r
+  pub boards_refused : {g : PlanRefusal} {page page' : List ℕ} {r : Result ℕ Refusal} → q ≡ planning.Refused g → Wrote (refused_line g) page page' r
       → BoardsOnPage js boxes slips page boxes' slips' page' r
   unfolding well_on
   boards_refused {g} e w =
@@ -195,7 +195,7 @@ module _ (js : List BoardPlan) (slips : List ℕ) {boxes : Boxes} {ps : List ℕ
     subst (λ (x : Planning). slips' ≡ cond (is_planned x) ps (zeros ps)) e p.slips_after,
   )
 
-  pub boards_listed : (a b : ℕ) {u : Totals} {boxes'' : Boxes} {slips'' page page₁ page' : List ℕ} {n : ℕ} {r : Written} → js ≡ board_plans (cards_in a boxes.old_cards) (cards_in b boxes.new_cards) → q ≡ Planned u
+  pub boards_listed : (a b : ℕ) {u : Totals} {boxes'' : Boxes} {slips'' page page₁ page' : List ℕ} {n : ℕ} {r : Result ℕ Refusal} → js ≡ board_plans (cards_in a boxes.old_cards) (cards_in b boxes.new_cards) → q ≡ Planned u
       → Put page 0 (listing_lines (board_plans (cards_in a boxes'.old_cards) (cards_in b boxes'.new_cards)) ++ total_line u) page₁ n
       → PageKept n boxes' slips' page₁ boxes'' slips'' page' r
       → BoardsOnPage js boxes slips page boxes'' slips'' page' r
@@ -239,7 +239,7 @@ slips_well true L k h e = e ∙ put_zeros 5 L k (h refl)
 slips_well false L k h e = e
 
 module _ {c : Conventions} {limit : ℕ} {old new : List ℕ} {boxes boxes' : Boxes} {slips zs page : List ℕ} {r : Editions} (b : BothLimited c limit old new boxes boxes' r) (z : zs ≡ zeros slips) where
-  pub list_refused : {f : EditionsRefusal} {page' : List ℕ} {w : Written} → r ≡ editions.Refused f → Wrote (refused_line (Edition f)) page page' w
+  pub list_refused : {f : EditionsRefusal} {page' : List ℕ} {w : Result ℕ Refusal} → r ≡ editions.Refused f → Wrote (refused_line (Edition f)) page page' w
       → IsListing c limit old new boxes slips page boxes' zs page' w
   unfolding listing_plan well_on
   list_refused {f} e p =
@@ -251,7 +251,7 @@ module _ {c : Conventions} {limit : ℕ} {old new : List ℕ} {boxes boxes' : Bo
         slips_after = rw a z;
       }
 
-  pub list_both : {m n : ℕ} {boxes'' : Boxes} {slips'' page' : List ℕ} {w : Written} → r ≡ Both m n → SameRoom boxes boxes'
+  pub list_both : {m n : ℕ} {boxes'' : Boxes} {slips'' page' : List ℕ} {w : Result ℕ Refusal} → r ≡ Both m n → SameRoom boxes boxes'
       → BoardsOnPage (board_plans (cards_in m boxes'.old_cards) (cards_in n boxes'.new_cards)) boxes' zs page boxes'' slips'' page' w
       → IsListing c limit old new boxes slips page boxes'' slips'' page' w
   unfolding listing_plan

@@ -1,11 +1,9 @@
 -- The listing: a line for each board and the totals, or a refusal alone.
-use Rattle.std.specs.Prelude.{ℕ, ◌/◌, ◌≤◌, ◌≡◌, Bool, true, false, cond, ◌&&◌, List, [], ◌∷◌, ◌++◌, eqb, leb, length}
+use Rattle.std.specs.Prelude.{ℕ, ◌/◌, ◌≤◌, ◌≡◌, Bool, true, false, cond, ◌&&◌, List, [], ◌∷◌, ◌++◌, eqb, leb, length, Result, Ok}
 use Rattle.tables.specs.Text.{ascii}
 use Rattle.tables.specs.Numbers.{decimal}
 use Rattle.tables.specs.Page.{answer_of, Wrote}
 use Rattle.tables.specs.declared.letters.Conventions.{Conventions}
-use Rattle.tables.specs.declared.page.Written.{Written}
-use Rattle.tables.specs.declared.page.Written.TheVariants.{Bytes}
 use Rattle.reader.specs.Store.{lent}
 use Rattle.planning.specs.declared.state.BoardState.{BoardState}
 use Rattle.planning.specs.declared.state.BoardState.TheVariants.{Blank, Own, Old, Near, Twin, Solve}
@@ -18,6 +16,7 @@ use Rattle.planning.specs.States.{BoardPlan, from_of}
 use Rattle.planning.specs.Slips.{slips_of, totals_of}
 use Rattle.planning.specs.Plans.{plan_number, plan_edition, Boxes, plans_of, planned_by, is_planned, BoxesAfter}
 use Rattle.listing_text.specs.Limited.{limited_both}
+use Rattle.tables.specs.declared.refusal.Refusal.{Refusal}
 
 -- A name and a number.
 abbrev pub pair : List ℕ → ℕ → List ℕ
@@ -68,13 +67,13 @@ unfoldable pub well_on : Planning → List BoardPlan → ℕ → Bool
 well_on p js n = is_planned p && leb (length (list_text p js)) n
 
 -- A listing on a page, p the plan's answer: the text, or refusal 7 with the bytes that it has; and every lent word, zero after any refusal.
-pub record ListingFor (c : Conventions) (p : Planning) (old new : List ℕ) (boxes : Boxes) (slips page : List ℕ) (boxes' : Boxes) (slips' page' : List ℕ) (r : Written) : Type 0 where
+pub record ListingFor (c : Conventions) (p : Planning) (old new : List ℕ) (boxes : Boxes) (slips page : List ℕ) (boxes' : Boxes) (slips' page' : List ℕ) (r : Result ℕ Refusal) : Type 0 where
   pub wrote : Wrote (list_text p (plans_of c old new)) page page' r
   pub boxes_left : BoxesAfter c (well_on p (plans_of c old new) (length page)) old new boxes boxes'
   pub slips_after : slips' ≡ lent (well_on p (plans_of c old new) (length page)) (length slips) (slips_of (plans_of c old new))
 
 -- The contract of list.
-abbrev pub IsListing : Conventions → ℕ → List ℕ → List ℕ → Boxes → List ℕ → List ℕ → Boxes → List ℕ → List ℕ → Written → Type 0
+abbrev pub IsListing : Conventions → ℕ → List ℕ → List ℕ → Boxes → List ℕ → List ℕ → Boxes → List ℕ → List ℕ → Result ℕ Refusal → Type 0
 IsListing c limit old new boxes slips page boxes' slips' page' r =
     ListingFor c (listing_plan c limit old new boxes (length slips)) old new boxes slips page boxes' slips' page' r
 
@@ -97,7 +96,7 @@ abbrev pub PageNeverFull : Type 0
 PageNeverFull =
     (c : Conventions) (limit : ℕ) (old new : List ℕ) (boxes : Boxes) (ls : ℕ) → length boxes.new_cards ≡ 8192
     → answer_of (list_text (listing_plan c limit old new boxes ls) (plans_of c old new)) 8192
-    ≡ Bytes (length (list_text (listing_plan c limit old new boxes ls) (plans_of c old new)))
+    ≡ Ok (length (list_text (listing_plan c limit old new boxes ls) (plans_of c old new)))
 
 -- THEOREM (proofs/ListingTheorems.antt). With 128 cards an edition and 128 slips, refusal 4 is never met.
 abbrev pub SlipsEnough : Type 0

@@ -16,7 +16,8 @@ use planning::numbers::zero_numbers;
 use planning::plan::{PlanRefusal, Planning, Totals, finish_plan, put_slips, zero_boxes};
 use planning::state::state_of;
 use tables::letters::{Conventions, built_in};
-use tables::page::{Written, finish};
+use tables::page::finish;
+use tables::refusal::Refusal;
 
 // Puts the line of every board.
 fn put_lines(page: &mut [u8], olds: &[Card], news: &[Card]) -> usize
@@ -41,7 +42,7 @@ fn put_listing(page: &mut [u8], olds: &[Card], news: &[Card], t: Totals) -> usiz
 }
 
 // Writes the line of a refusal, and nothing else.
-fn write_refused(page: &mut [u8], f: PlanRefusal) -> Written
+fn write_refused(page: &mut [u8], f: PlanRefusal) -> Result<u64, Refusal>
     ensures { Wrote (refused_line f) page.old page.new result }
 {
     let n = put_refused(page, 0, f);
@@ -57,7 +58,7 @@ fn finish_listing(
     slips: &mut [u64],
     page: &mut [u8],
     n: usize,
-) -> Written
+) -> Result<u64, Refusal>
     ensures { PageKept n
         (record { old_cards = old_cards.old; old_entries = old_entries.old; new_cards = new_cards.old; new_entries = new_entries.old })
         slips.old page.old
@@ -82,7 +83,7 @@ fn list_taken(
     news: usize,
     slips: &mut [u64],
     page: &mut [u8],
-) -> Written
+) -> Result<u64, Refusal>
     requires { (64 * olds ≤ length old_cards.old) × (64 * news ≤ length new_cards.old) × (olds ≤ 16777215) × (news ≤ 16777215) }
     ensures { BoardsOnPage (board_plans (cards_in olds old_cards.old) (cards_in news new_cards.old))
         (record { old_cards = old_cards.old; old_entries = old_entries.old; new_cards = new_cards.old; new_entries = new_entries.old })
@@ -125,7 +126,7 @@ pub fn list_with(
     new_entries: &mut [u32],
     slips: &mut [u64],
     page: &mut [u8],
-) -> Written
+) -> Result<u64, Refusal>
     ensures { IsListing c limit old.now new.now
         (record { old_cards = old_cards.old; old_entries = old_entries.old; new_cards = new_cards.old; new_entries = new_entries.old })
         slips.old page.old
@@ -169,7 +170,7 @@ pub fn list(
     new_entries: &mut [u32],
     slips: &mut [u64],
     page: &mut [u8],
-) -> Written
+) -> Result<u64, Refusal>
     ensures { IsListing built_in limit old.now new.now
         (record { old_cards = old_cards.old; old_entries = old_entries.old; new_cards = new_cards.old; new_entries = new_entries.old })
         slips.old page.old

@@ -10,13 +10,11 @@ use lib.Dec.{eqb, ltb}
 use lib.ListN.{length, replicate}
 use Rattle.tables.specs.declared.letters.Conventions.{Conventions}
 use Rattle.tables.specs.declared.refusal.Refusal.{Refusal}
-use Rattle.tables.specs.declared.dd.Decoded.TheVariants.{Table, Refused}
-use Rattle.tables.specs.declared.dd.TableRead.{TableRead}
 use Rattle.tables.specs.Text.{trimmed, first_character}
 use Rattle.tables.specs.Letters.{seat_of}
-use Rattle.tables.specs.Tables.{TableReading, holds, refuses, table_read, table_of_digits}
+use Rattle.tables.specs.Tables.{TableReading, table_of_digits}
 use Rattle.reader.specs.declared.deal.Hands.{Hands}
-use Rattle.std.specs.Prelude.{Some, None}
+use Rattle.std.specs.Prelude.{Some, None, Ok, Err}
 use Rattle.reader.specs.declared.tag.Span.{Span}
 use Rattle.reader.specs.declared.section.Open.{Open}
 use Rattle.reader.specs.declared.board.Identity.{Identity}
@@ -163,7 +161,7 @@ table_stays c k value place b e = rw e
 -- After good digits, and after bad ones, where no table of rows is there.
 pub table_read_lem :
     (c : Conventions) (value : List ℕ) (place : ℕ) (b : Board) (cells : List ℕ) →
-    table_of_digits value ≡ holds cells →
+    table_of_digits value ≡ Ok cells →
     eqb b.table.kind 2 ≡ false →
     (applied c 18 value place b).table ≡ record { kind = 1; cells = cells }
 unfolding applied table_by
@@ -171,7 +169,7 @@ table_read_lem c value place b cells e t = rw (t, e)
 
 pub table_refused :
     (c : Conventions) (value : List ℕ) (place : ℕ) (b : Board) (f : Refusal) →
-    table_of_digits value ≡ refuses f →
+    table_of_digits value ≡ Err f →
     eqb b.table.kind 2 ≡ false →
     (applied c 18 value place b).table ≡ record { kind = 0; cells = replicate 20 0 }
 unfolding applied table_by
@@ -254,7 +252,7 @@ applied_from c k value place b = go (is_kept c k value)
     go true = put_from k place b.values
     go false = none_from place b.values
 
--- What holds of every place.
+-- What Ok of every place.
 pub record AllPlaces (P : ℕ → Type 0) (v : Values) : Type 0 where
   pub id_place : P v.id
   pub event_place : P v.event
@@ -297,16 +295,6 @@ pub applied_places :
     AllPlaces P (applied c k value place b).values
 applied_places P c k value place b p a =
     all_from P place b.values (applied c k value place b).values p a (applied_from c k value place b)
-
--- ---- the digits of a table, as they are answered
-
-pub digits_table_lem : (x : TableReading) (r : TableRead) → r ≡ table_read x → r.answer ≡ Table → digits_table x ≡ record { kind = 1; cells = r.table }
-digits_table_lem (holds cells) r e t = rw e
-digits_table_lem (refuses f) r e t = let z : ◌≡◌ {A = ℕ} 0 1 = cc in absurd (omega arith)
-
-pub digits_refused : (x : TableReading) (r : TableRead) (f : Refusal) → r ≡ table_read x → r.answer ≡ Refused f → digits_table x ≡ record { kind = 0; cells = r.table }
-digits_refused (holds cells) r f e t = let z : ◌≡◌ {A = ℕ} 0 1 = cc in absurd (omega arith)
-digits_refused (refuses g) r f e t = rw e
 
 -- ---- sections
 

@@ -9,9 +9,7 @@ use lib.ListN.{length, length-append}
 use borrow.Author.Tests.{ne_eqb}
 use Rattle.tables.specs.Text.{is_white, lead}
 use Rattle.tables.specs.Letters.{every}
-use Rattle.tables.specs.declared.dd.TableRead.{TableRead}
-use Rattle.tables.specs.declared.dd.Decoded.TheVariants.{Table, Refused}
-use Rattle.tables.specs.Tables.{TableReading, holds, refuses, table_read}
+use Rattle.tables.specs.Tables.{TableReading}
 use Rattle.tables.proofs.Laws.{by_cases}
 use Rattle.tables.specs.declared.letters.Conventions.{Conventions}
 use Rattle.reader.specs.declared.board.Board.{Board}
@@ -36,23 +34,12 @@ use Rattle.reader.proofs.PieceLaws.{adds_none, adds_then, emits_none}
 use Rattle.reader.proofs.PlayLaws.{last_counted}
 use Rattle.reader.proofs.TagStepLaws.{sound_later}
 use Rattle.reader.proofs.WalkLaws.{section_count}
+use Rattle.std.specs.Prelude.{Ok, Err}
 
 -- A text is all white where its lead is the whole of it.
 pub white_all : (s : List ℕ) → eqb (length (lead s)) (length s) ≡ every is_white s
 white_all [] = refl
 white_all (b ∷ bs) = by_cases (is_white b) (λ e. rw e (eqb-suc-suc (length (lead bs)) (length bs) ∙ white_all bs)) (λ e. rw e (ne_eqb 0 (suc (length bs)) (λ k. omega arith)))
-
--- A table that was gathered, and one that was refused.
-pub rows_taken : (b : Board) (g : TableReading) (read : TableRead) → read ≡ table_read g → read.answer ≡ Table → rows_closed b g ≡ with_sections b (record { kind = 2; cells = read.table }) b.auction b.play b.trump
-rows_taken b (holds cells) read e t = rw e
-rows_taken b (refuses f) read e t =
-    let k : Refused f ≡ Table = sym (ap (λ (x : TableRead). x.answer) e) ∙ t in
-    let z : ◌≡◌ {A = ℕ} 0 1 = cc in
-    absurd (omega arith)
-
-pub rows_refused : (b : Board) (g : TableReading) (read : TableRead) → read ≡ table_read g → (read.answer ≡ Table → ⊥) → rows_closed b g ≡ b
-rows_refused b (holds cells) read e t = absurd (t (ap (λ (x : TableRead). x.answer) e))
-rows_refused b (refuses f) read e t = refl
 
 -- ---- sections
 
@@ -110,7 +97,7 @@ pub block_zero : (r : List ℕ) (s t : State) (i j : ℕ) {l l' : Entries} → E
 unfolding blocked
 block_zero r s t i j e = ap (λ (x : State). x.block) e.answer
 
--- A line that holds nothing, and one inside commentary.
+-- A line that Ok nothing, and one inside commentary.
 pub quiet_commentary : (r : List ℕ) (s : State) (p : ℕ) (l : List ℕ) → s.commentary ≡ true → cond s.commentary (in_commentary r s p l) (unchanged s) ≡ in_commentary r s p l
 quiet_commentary r s p l e = ap (λ (b : Bool). cond b (in_commentary r s p l) (unchanged s)) e
 

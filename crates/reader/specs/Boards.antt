@@ -1,13 +1,11 @@
 -- A board: what each line of its record does to it, and the entries that the line adds. Places are counted from the record's
 -- start, entries from its first.
-use Rattle.std.specs.Prelude.{ℕ, ◌+◌, ◌-◌, List, [], ◌∷◌, ◌++◌, Bool, true, false, cond, ◌&&◌, ◌||◌, not, ltb, eqb, length, replicate}
+use Rattle.std.specs.Prelude.{ℕ, ◌+◌, ◌-◌, List, [], ◌∷◌, ◌++◌, Bool, true, false, cond, ◌&&◌, ◌||◌, not, ltb, eqb, length, replicate, Some, None, Option, Ok, Err}
 use Rattle.tables.specs.declared.letters.Conventions.{Conventions}
-use Rattle.tables.specs.declared.numbers.Number.{Number}
-use Rattle.tables.specs.declared.numbers.Number.TheVariants.{Value, Bad}
 use Rattle.tables.specs.Text.{is_white, lead, trimmed, first_character}
-use Rattle.tables.specs.Numbers.{number_of, signed_of}
+use Rattle.tables.specs.Numbers.{Number, number_of, signed_of}
 use Rattle.tables.specs.Letters.{seat_of, every}
-use Rattle.tables.specs.Tables.{TableReading, holds, refuses, table_of_digits, gathered}
+use Rattle.tables.specs.Tables.{TableReading, table_of_digits, gathered}
 use Rattle.reader.specs.declared.store.Entry.{Entry}
 use Rattle.reader.specs.declared.tag.Span.{Span}
 use Rattle.reader.specs.declared.tag.Tag.{Tag}
@@ -16,7 +14,6 @@ use Rattle.reader.specs.declared.line.Line.TheVariants.{Blank, Brace, Directive,
 use Rattle.reader.specs.declared.line.TagReading.{TagReading}
 use Rattle.reader.specs.declared.line.TagReading.TheVariants.{Plain, WithComment, WithData}
 use Rattle.reader.specs.declared.deal.Hands.{Hands}
-use Rattle.std.specs.Prelude.{Some, None}
 use Rattle.reader.specs.declared.board.Identity.{Identity}
 use Rattle.reader.specs.declared.board.DealCard.{DealCard}
 use Rattle.reader.specs.declared.board.TableCard.{TableCard}
@@ -37,10 +34,10 @@ use Rattle.reader.specs.Sections.{walked_all}
 
 -- ---- what a tag's value does to a board
 
--- Number, dealer, vulnerability (4 where none was read), declarer, result plus 128. A bad one takes the earlier value away.
+-- Option ℕ, dealer, vulnerability (4 where none was read), declarer, result plus 128. A bad one takes the earlier value away.
 abbrev pub with_number : Identity → Number → Identity
-with_number i Bad = record { number_met = 0; number = 0; dealer = i.dealer; vulnerability = i.vulnerability; declarer = i.declarer; result_met = i.result_met; result = i.result }
-with_number i (Value v) = record { number_met = 1; number = v; dealer = i.dealer; vulnerability = i.vulnerability; declarer = i.declarer; result_met = i.result_met; result = i.result }
+with_number i None = record { number_met = 0; number = 0; dealer = i.dealer; vulnerability = i.vulnerability; declarer = i.declarer; result_met = i.result_met; result = i.result }
+with_number i (Some v) = record { number_met = 1; number = v; dealer = i.dealer; vulnerability = i.vulnerability; declarer = i.declarer; result_met = i.result_met; result = i.result }
 
 abbrev pub with_dealer : Identity → ℕ → Identity
 with_dealer i s = record { number_met = i.number_met; number = i.number; dealer = s; vulnerability = i.vulnerability; declarer = i.declarer; result_met = i.result_met; result = i.result }
@@ -52,8 +49,8 @@ abbrev pub with_declarer : Identity → ℕ → Identity
 with_declarer i s = record { number_met = i.number_met; number = i.number; dealer = i.dealer; vulnerability = i.vulnerability; declarer = s; result_met = i.result_met; result = i.result }
 
 abbrev pub with_result : Identity → Number → Identity
-with_result i Bad = record { number_met = i.number_met; number = i.number; dealer = i.dealer; vulnerability = i.vulnerability; declarer = i.declarer; result_met = 0; result = 0 }
-with_result i (Value v) = record { number_met = i.number_met; number = i.number; dealer = i.dealer; vulnerability = i.vulnerability; declarer = i.declarer; result_met = 1; result = v }
+with_result i None = record { number_met = i.number_met; number = i.number; dealer = i.dealer; vulnerability = i.vulnerability; declarer = i.declarer; result_met = 0; result = 0 }
+with_result i (Some v) = record { number_met = i.number_met; number = i.number; dealer = i.dealer; vulnerability = i.vulnerability; declarer = i.declarer; result_met = 1; result = v }
 
 -- By the tag's number.
 unfoldable pub identity_by : Conventions → ℕ → List ℕ → Identity → Identity
@@ -77,8 +74,8 @@ deal_by c k value d = cond (eqb k deal_name) (deal_read (deal_of c value) value 
 
 -- DoubleDummyTricks: never over a table of an OptimumResultTable; bad digits take an earlier one away.
 abbrev pub digits_table : TableReading → TableCard
-digits_table (holds cells) = record { kind = 1; cells = cells }
-digits_table (refuses f) = record { kind = 0; cells = replicate 20 0 }
+digits_table (Ok cells) = record { kind = 1; cells = cells }
+digits_table (Err f) = record { kind = 0; cells = replicate 20 0 }
 
 unfoldable pub table_by : ℕ → List ℕ → TableCard → TableCard
 table_by k value t = cond (eqb k double_dummy_tricks_name && not (eqb t.kind 2)) (digits_table (table_of_digits value)) t
@@ -176,11 +173,11 @@ play_closed b o n w =
     b
 
 abbrev pub rows_closed : Board → TableReading → Board
-rows_closed b (holds cells) = with_sections b (record { kind = 2; cells = cells }) b.auction b.play b.trump
-rows_closed b (refuses f) = b
+rows_closed b (Ok cells) = with_sections b (record { kind = 2; cells = cells }) b.auction b.play b.trump
+rows_closed b (Err f) = b
 
 abbrev pub table_closed : Board → Walk → Board
-table_closed b w = cond w.rows.fault b (rows_closed b (gathered w.rows.cells.tricks))
+table_closed b w = cond w.rows.fault b (rows_closed b (gathered w.rows.cells))
 
 abbrev pub board_closed : Board → Open → ℕ → Walk → Board
 board_closed b o n w = cond (eqb o.kind 1) (auction_closed b o n w) (cond (eqb o.kind 2) (play_closed b o n w) (table_closed b w))

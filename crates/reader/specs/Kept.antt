@@ -1,11 +1,10 @@
 -- What a board keeps of its record: the deal, the values and the table, as its tags leave them. Proved of every record in proofs:
 -- PlainValues, PlainDeal, PlainBounds; of its card in CardKept.
-use Rattle.std.specs.Prelude.{ℕ, ◌≤◌, ◌≡◌, true, cond, ◌&&◌, List, [], ◌∷◌, map, eqb, leb, length, get_or, take, drop, replicate}
+use Rattle.std.specs.Prelude.{ℕ, ◌≤◌, ◌≡◌, true, cond, ◌&&◌, List, [], ◌∷◌, map, eqb, leb, length, get_or, take, drop, replicate, Some, None}
 use Rattle.std.proofs.Math.Option.{Option, none, some}
 use Rattle.tables.specs.declared.letters.Conventions.{Conventions}
 use Rattle.tables.specs.Letters.{every}
 use Rattle.reader.specs.declared.deal.Hands.{Hands}
-use Rattle.std.specs.Prelude.{Some, None}
 use Rattle.reader.specs.declared.board.TableCard.{TableCard}
 use Rattle.reader.specs.Names.{tag_number, board_name, deal_name, event_name, site_name, date_name, contract_name, north_name, east_name, south_name, west_name, optimum_score_name, par_contract_name}
 use Rattle.reader.specs.Deals.{DealRead, deal_of, hand_words, hands_of_words, Proper}

@@ -1,8 +1,7 @@
 -- The kinds of lines outside commentary.
-use Rattle.std.specs.Prelude.{ℕ, suc, List, [], ◌∷◌, Bool, true, false, ◌&&◌, ◌||◌, cond, not, eqb, length, get_or}
+use Rattle.std.specs.Prelude.{ℕ, suc, List, [], ◌∷◌, Bool, true, false, ◌&&◌, ◌||◌, cond, not, eqb, length, get_or, Some, None}
 use Rattle.tables.specs.Text.{trim_start, trimmed}
 use Rattle.tables.specs.Letters.{among}
-use Rattle.std.specs.Prelude.{Some, None}
 use Rattle.reader.specs.declared.line.TagReading.TheVariants.{Plain, WithComment, WithData}
 use Rattle.reader.specs.declared.line.Line.{Line}
 use Rattle.reader.specs.declared.line.Line.TheVariants.{Blank, Brace, Directive, Tag, Bracket, Data}

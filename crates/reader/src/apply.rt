@@ -13,9 +13,9 @@ use crate::names::TagName;
 use crate::section::Open;
 use crate::tag::Span;
 use crate::words::{contract_trump, same, vulnerability_of};
-use tables::dd::{Decoded, dd_table_from_pbn};
+use tables::dd::dd_table_from_pbn;
 use tables::letters::{Conventions, seat_of};
-use tables::numbers::{Number, parse_number, parse_signed};
+use tables::numbers::{parse_number, parse_signed};
 use tables::text::{first_character, trim};
 
 // The seat that a value's first character names, 4 where it names none.
@@ -25,15 +25,15 @@ fn seat_in(c: Conventions, value: &[u8]) -> usize
     seat_of(c, first_character(value)) as usize
 }
 
-fn with_number(mut i: Identity, n: Number) -> Identity
+fn with_number(mut i: Identity, n: Option<u32>) -> Identity
     ensures { result ≡ with_number i n }
 {
     match n {
-        Number::Value(v) => {
+        Some(v) => {
             i.number_met = 1;
             i.number = v as usize;
         }
-        Number::Bad => {
+        None => {
             i.number_met = 0;
             i.number = 0;
         }
@@ -41,15 +41,15 @@ fn with_number(mut i: Identity, n: Number) -> Identity
     i
 }
 
-fn with_result(mut i: Identity, n: Number) -> Identity
+fn with_result(mut i: Identity, n: Option<u32>) -> Identity
     ensures { result ≡ with_result i n }
 {
     match n {
-        Number::Value(v) => {
+        Some(v) => {
             i.result_met = 1;
             i.result = v as usize;
         }
-        Number::Bad => {
+        None => {
             i.result_met = 0;
             i.result = 0;
         }
@@ -108,6 +108,7 @@ fn deal_tag(c: Conventions, value: &[u8], place: usize, mut b: Board) -> Board
 }
 
 // DoubleDummyTricks: never over a table of an OptimumResultTable.
+#[tactic(auto, unfolding(crate::specs::Boards::table_by))]
 fn table_by(value: &[u8], t: TableCard) -> TableCard
     ensures { result ≡ table_by double_dummy_tricks_name value.now t }
 {
@@ -115,12 +116,12 @@ fn table_by(value: &[u8], t: TableCard) -> TableCard
     if kind == 2 {
         return t;
     }
-    let r = dd_table_from_pbn(value);
-    let cells = r.table;
-    let answer = r.answer;
-    match answer {
-        Decoded::Table => TableCard { kind: 1, cells },
-        Decoded::Refused(_) => TableCard { kind: 0, cells },
+    match dd_table_from_pbn(value) {
+        Ok(cells) => TableCard { kind: 1, cells },
+        Err(_) => TableCard {
+            kind: 0,
+            cells: [0; 20],
+        },
     }
 }
 

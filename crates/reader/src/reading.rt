@@ -23,7 +23,7 @@ use crate::section::{Open, Walk, walk_section};
 use crate::store::{Entries, Entry};
 use crate::tag::{Span, Tag};
 use crate::walk::line_at;
-use tables::dd::{Decoded, gathered_table};
+use tables::dd::gathered_table;
 use tables::letters::Conventions;
 use tables::text::{from, lead_len, upto};
 
@@ -97,17 +97,10 @@ fn table_closed(b: Board, w: Walk) -> Board
     if fault {
         return b;
     }
-    let cells = rows.cells;
-    let read = gathered_table(cells);
-    let answer = read.answer;
-    let Decoded::Table = answer else {
+    let Ok(cells) = gathered_table(rows.cells) else {
         return b;
     };
-    let tricks = read.table;
-    let table = TableCard {
-        kind: 2,
-        cells: tricks,
-    };
+    let table = TableCard { kind: 2, cells };
     let mut next = b;
     next.table = table;
     next

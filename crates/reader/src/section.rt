@@ -13,7 +13,7 @@ use crate::play::{Tricks, no_tricks, play_piece};
 use crate::store::Entries;
 use crate::tag::Span;
 use crate::walk::line_at;
-use tables::dd::{Cells, Row, no_cells, read_row, stored_row};
+use tables::dd::{no_cells, read_row, stored_row};
 use tables::letters::Conventions;
 use tables::text::{byte_at, from, lead_len, upto};
 
@@ -29,7 +29,7 @@ pub struct Open {
 // The rows of an OptimumResultTable so far.
 #[derive(Clone, Copy)]
 pub struct Rows {
-    pub cells: Cells,
+    pub cells: [u8; 20],
     pub fault: bool,
 }
 
@@ -114,6 +114,7 @@ fn next_piece(r: &[u8], at: usize) -> Option<Next>
     None
 }
 
+#[tactic(auto, unfolding(crate::specs::Sections::no_walk))]
 fn no_walk() -> Walk
     ensures { result ≡ no_walk }
 {
@@ -135,15 +136,11 @@ fn walk_row(c: Conventions, w: Rows, s: &[u8]) -> Rows
 {
     let cells = w.cells;
     match read_row(c, s, 0) {
-        Row::Blank => w,
-        Row::Cell(k, v) => {
-            let stored = stored_row(cells, Row::Cell(k, v));
-            Rows {
-                cells: stored,
-                fault: w.fault,
-            }
-        }
-        Row::Fault(_) => Rows { cells, fault: true },
+        Ok(given) => Rows {
+            cells: stored_row(cells, given),
+            fault: w.fault,
+        },
+        Err(_) => Rows { cells, fault: true },
     }
 }
 

@@ -3,7 +3,7 @@ ghost use Rattle.std.specs.Prelude.{◌≡◌, ◌≤◌, length};
 
 use crate::cases::{Case, case_of};
 use listing_text::listing::list;
-use tables::page::Written;
+use tables::refusal::Refusal;
 use tables::text::{byte_at, from, upto};
 
 // How the replay ended: all cases gave the expected answer, or the first that did not, or the first that is not whole.
@@ -30,12 +30,10 @@ pub struct Replayed {
 }
 
 // Whether the answer is the expected one: the bytes of the output, or a refusal with its carried number.
-fn is_told(w: Written, c: Case) -> bool {
+fn is_told(w: Result<u64, Refusal>, c: Case) -> bool {
     match w {
-        Written::Bytes(n) => (c.refusal == 0) & (n == c.carried) & (c.output as u64 == n),
-        Written::Refused(f) => {
-            (tables::refusal::number(f) == c.refusal) & (tables::refusal::carried(f) == c.carried)
-        }
+        Ok(n) => (c.refusal == 0) & (n == c.carried) & (c.output as u64 == n),
+        Err(f) => (f.number() == c.refusal) & (f.carried() == c.carried),
     }
 }
 
@@ -52,7 +50,7 @@ fn is_output(s: &[u8], output: &[u8]) -> bool {
 }
 
 // Lends four cards and sixteen entries an edition and two slips, each with a tail too short for one more. No lent word is zero before.
-fn list_on(page: &mut [u8], old: &[u8], new: &[u8], limit: usize) -> Written {
+fn list_on(page: &mut [u8], old: &[u8], new: &[u8], limit: usize) -> Result<u64, Refusal> {
     let mut old_cards = [170u32; 319];
     let mut old_entries = [170u32; 67];
     let mut new_cards = [170u32; 319];

@@ -3,10 +3,10 @@ ghost use Rattle.std.specs.Prelude.{◌≡◌, ◌≤◌, length};
 
 use crate::cases::{Case, case_of};
 use tables::dd::{
-    Decoded, TableRead, dd_table_from_pbn, dd_table_to_pbn, optimum_result_table_from_rows,
+    dd_table_from_pbn, dd_table_to_pbn, optimum_result_table_from_rows,
     optimum_result_table_header, optimum_result_table_rows,
 };
-use tables::page::Written;
+use tables::refusal::Refusal;
 use tables::text::{byte_at, from, upto};
 
 // How the replay ended: all cases gave the recorded answer, or the first that did not, or the first that is not whole.
@@ -38,33 +38,33 @@ struct Told {
     bytes: usize,
 }
 
-fn refused(f: tables::refusal::Refusal, bytes: usize) -> Told {
+fn refused(f: Refusal, bytes: usize) -> Told {
     Told {
-        refusal: tables::refusal::number(f),
-        carried: tables::refusal::carried(f),
+        refusal: f.number(),
+        carried: f.carried(),
         bytes,
     }
 }
 
-fn told_written(w: Written) -> Told {
+fn told_written(w: Result<u64, Refusal>) -> Told {
     match w {
-        Written::Bytes(n) => Told {
+        Ok(n) => Told {
             refusal: 0,
             carried: 0,
             bytes: n as usize,
         },
-        Written::Refused(f) => refused(f, 0),
+        Err(f) => refused(f, 0),
     }
 }
 
-fn told_decoded(d: Decoded) -> Told {
-    match d {
-        Decoded::Table => Told {
+fn told_read(r: Result<[u8; 20], Refusal>) -> Told {
+    match r {
+        Ok(_) => Told {
             refusal: 0,
             carried: 0,
             bytes: 20,
         },
-        Decoded::Refused(f) => refused(f, 20),
+        Err(f) => refused(f, 20),
     }
 }
 
@@ -94,7 +94,7 @@ fn table_of(s: &[u8]) -> [u8; 20] {
     table
 }
 
-fn write(kind: u8, table: &[u8; 20], page: &mut [u8]) -> Written {
+fn write(kind: u8, table: &[u8; 20], page: &mut [u8]) -> Result<u64, Refusal> {
     match kind {
         1 => dd_table_to_pbn(table, page),
         2 => optimum_result_table_header(table, page),
@@ -123,7 +123,7 @@ fn is_written(c: Case, input: &[u8], output: &[u8]) -> bool
     is_written_on(&mut page[..n], c, input, output)
 }
 
-fn read(kind: u8, text: &[u8]) -> TableRead {
+fn read(kind: u8, text: &[u8]) -> Result<[u8; 20], Refusal> {
     if kind == 4 {
         return dd_table_from_pbn(text);
     }
@@ -132,10 +132,11 @@ fn read(kind: u8, text: &[u8]) -> TableRead {
 
 fn is_read(c: Case, input: &[u8], output: &[u8]) -> bool {
     let r = read(c.kind, input);
-    let table = r.table;
-    let answer = r.answer;
-    let told = told_decoded(answer);
-    is_told(told, c) & is_output(&table, output)
+    let table = match r {
+        Ok(cells) => cells,
+        Err(_) => [0; 20],
+    };
+    is_told(told_read(r), c) & is_output(&table, output)
 }
 
 // Whether the case that s starts with gives the recorded answer.

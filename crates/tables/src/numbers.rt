@@ -3,34 +3,28 @@ ghost use Rattle.std.specs.Prelude.{◌≡◌, ◌<◌, ◌≤◌};
 ghost use Rattle.tables.specs.Numbers.{digits_from, some_digits, number_of, signed_of};
 ghost use Rattle.tables.specs.NumberSteps.{IsWithin};
 
-#[derive(Clone, Copy)]
-pub enum Number {
-    Value(u32),
-    Bad,
-}
-
 // One or more digits.
-fn some_digits(s: &[u8], limit: u32) -> Number
+fn some_digits(s: &[u8], limit: u32) -> Option<u32>
     ensures { (result ≡ some_digits limit s.now) × IsWithin result limit }
 {
     if s.is_empty() {
-        return Number::Bad;
+        return None;
     }
     let mut v: u64 = 0;
     for b in s {
         if !b.is_ascii_digit() {
-            return Number::Bad;
+            return None;
         }
         v = v * 10 + u64::from(*b - b'0');
         if v > u64::from(limit) {
-            return Number::Bad;
+            return None;
         }
     }
-    Number::Value(v as u32)
+    Some(v as u32)
 }
 
 // A number from 0 to `limit`.
-pub fn parse_number(s: &[u8], limit: u32) -> Number
+pub fn parse_number(s: &[u8], limit: u32) -> Option<u32>
     ensures { (result ≡ number_of limit s.now) × IsWithin result limit }
 {
     match s {
@@ -40,18 +34,12 @@ pub fn parse_number(s: &[u8], limit: u32) -> Number
 }
 
 // A signed number from -half to half - 1, given as the number plus half.
-pub fn parse_signed(s: &[u8], half: u32) -> Number
+pub fn parse_signed(s: &[u8], half: u32) -> Option<u32>
     requires { (0 < half) × (half ≤ 2147483648) }
     ensures { result ≡ signed_of half s.now }
 {
-    if let [b'-', rest @ ..] = s {
-        let Number::Value(v) = some_digits(rest, half) else {
-            return Number::Bad;
-        };
-        return Number::Value(half - v);
+    match s {
+        [b'-', rest @ ..] => Some(half - some_digits(rest, half)?),
+        _ => Some(half + parse_number(s, half - 1)?),
     }
-    let Number::Value(v) = parse_number(s, half - 1) else {
-        return Number::Bad;
-    };
-    Number::Value(half + v)
 }

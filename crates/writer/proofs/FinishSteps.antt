@@ -14,9 +14,6 @@ use Rattle.std.specs.Option.{MatchOption}
 use Rattle.std.specs.Result.{result_and}
 use Rattle.std.specs.Prelude.{Result, Ok, Err, is_ok}
 use Rattle.tables.specs.declared.letters.Conventions.{Conventions}
-use Rattle.tables.specs.declared.page.Written.{Written}
-use Rattle.tables.specs.declared.page.Written.TheVariants.{Bytes}
-use Rattle.tables.specs.declared.page.Written.TheVariants as paged
 use Rattle.tables.specs.declared.refusal.Refusal.TheVariants as refusal
 use Rattle.tables.specs.Page.{page_of}
 use Rattle.tables.specs.PageSteps.{PageEnded as PageFinished}
@@ -34,6 +31,7 @@ use Rattle.writer.specs.Writings.{page_after}
 use Rattle.writer.specs.Finishings.{first_above, finished_on, checked_of}
 use Rattle.writer.specs.GivenCards.{marked, given_cleared, changed_all, given_box, tabled_page, Gave, FinishEnded, FinishPut, BoardsFinished}
 use Rattle.writer.proofs.ChangedCards.{marked_long, cleared_long, changed_length}
+use Rattle.tables.specs.declared.refusal.Refusal.{Refusal}
 
 -- ---- the first byte above 13
 
@@ -71,7 +69,7 @@ module _ (solve : ℕ) (answers : List ℕ) where
 
 -- ---- the page ended
 
-pub ended_well : {n : ℕ} {boxes : Boxes} {page page' : List ℕ} {w : Written} → n ≤ length page → PageFinished n page page' w
+pub ended_well : {n : ℕ} {boxes : Boxes} {page page' : List ℕ} {w : Result ℕ Refusal} → n ≤ length page → PageFinished n page page' w
     → FinishEnded n boxes page (Ok n) boxes page'
 ended_well {n} {boxes} {page} h f =
     let q = le-leb n (length page) h in
@@ -126,7 +124,7 @@ module _ {c : Conventions} {new : List ℕ} {m n : ℕ} {oc oe nc ne answers nc�
         boxes_left = rw (well, ← cards) d.boxes_left;
         page_left = λ few.
             let ek : k ≡ length bs = omega (arith, (put.put (omega arith)).next) in
-            let ended : PageFinished k page₁ page₂ (cond (leb k (length page₁)) (Bytes k) (paged.Refused (refusal.PageFull k))) =
+            let ended : PageFinished k page₁ page₂ (cond (leb k (length page₁)) (Ok k) (Err (refusal.PageFull k))) =
             record { told = refl; page_left = d.page_left } in
             (finished (put.put (omega arith)) ended).page_left ∙ page_is bs (length page) ∙ rw (well, ek, lp);
       }

@@ -10,9 +10,6 @@ use borrow.Author.Tests.{le-leb, lt-leb}
 use native.Mathlib.Nat.{sub-zero}
 use Rattle.std.specs.Prelude.{Ok, Err, is_ok, Result}
 use Rattle.tables.specs.declared.letters.Conventions.{Conventions}
-use Rattle.tables.specs.declared.page.Written.{Written as PageWritten}
-use Rattle.tables.specs.declared.page.Written.TheVariants.{Bytes}
-use Rattle.tables.specs.declared.page.Written.TheVariants as paged
 use Rattle.tables.specs.declared.refusal.Refusal.TheVariants as refusal
 use Rattle.tables.specs.Page.{page_of}
 use Rattle.tables.specs.PageSteps.{PageEnded}
@@ -32,6 +29,7 @@ use Rattle.writer.specs.WritingSteps.{WritingEnded}
 use Rattle.writer.proofs.HeldBoards.{taken_holds}
 use Rattle.writer.proofs.HeldPages.{PageHeld}
 use Rattle.writer.proofs.Sizes.{BytesFew}
+use Rattle.tables.specs.declared.refusal.Refusal.{Refusal}
 
 abbrev boards_in : Result Counts ReadRefusal → ℕ
 boards_in (Ok n) = n.boards
@@ -76,7 +74,7 @@ written_taken {c} {text} {cards} {entries} {page} {cards₁} {entries₁} {page�
     let put = text_put.put (omega arith) in
     let en : n ≡ length (written_text c text) = omega (arith, put.next) in
     let el = text_put.kept in
-    let ended : PageEnded n page₁ page₂ (cond (leb n (length page₁)) (Bytes n) (paged.Refused (refusal.PageFull n))) = record { told = refl; page_left = d.page_left } in
+    let ended : PageEnded n page₁ page₂ (cond (leb n (length page₁)) (Ok n) (Err (refusal.PageFull n))) = record { told = refl; page_left = d.page_left } in
     let out : r ≡ page_answer (length (written_text c text)) (length page) = rw (← en, ← el) d.answer in
     let lent : is_ok r ≡ leb n (length page₁) = ap is_ok d.answer ∙ out_is n (length page₁) in
     record {
@@ -101,13 +99,13 @@ written_refused {c} {text} {cards} {entries} {page} i z =
     }
 
 -- A page of which nothing is kept.
-pub cleared_none : (page page' : List ℕ) (r : PageWritten) → PageEnded 0 page page' r → page' ≡ zeros page
+pub cleared_none : (page page' : List ℕ) (r : Result ℕ Refusal) → PageEnded 0 page page' r → page' ≡ zeros page
 cleared_none page page' r f =
     let z : leb 0 (length page) ≡ true = le-leb 0 (length page) (omega arith) in
     rw z at f.page_left ∙ ap (λ (k : ℕ). replicate k 0) (sub-zero (length page))
 
 -- The answer for n bytes that fit, and for more.
-pub ended_in : {n : ℕ} {cards entries page page' : List ℕ} {w : PageWritten} → n ≤ length page → PageEnded n page page' w → WritingEnded n cards entries page (Ok n) cards entries page'
+pub ended_in : {n : ℕ} {cards entries page page' : List ℕ} {w : Result ℕ Refusal} → n ≤ length page → PageEnded n page page' w → WritingEnded n cards entries page (Ok n) cards entries page'
 ended_in {n} {cards} {entries} {page} h f =
     let q = le-leb n (length page) h in
     record { answer = rw q; page_left = f.page_left; cards_after = rw q; entries_after = rw q }

@@ -1,7 +1,5 @@
 -- What the functions of writing put, said of the entries of a board as they stand in a row.
-use Rattle.std.specs.Prelude.{ℕ, zero, suc, ◌+◌, ◌-◌, ◌/◌, ◌%◌, ◌≡◌, Bool, true, false, cond, ◌&&◌, ◌||◌, not, List, [], ◌∷◌, ◌++◌, eqb, ltb, leb, length, drop, set, get_or}
-use Rattle.tables.specs.declared.numbers.Number.{Number}
-use Rattle.tables.specs.declared.numbers.Number.TheVariants.{Value, Bad}
+use Rattle.std.specs.Prelude.{ℕ, zero, suc, ◌+◌, ◌-◌, ◌/◌, ◌%◌, ◌≡◌, Bool, true, false, cond, ◌&&◌, ◌||◌, not, List, [], ◌∷◌, ◌++◌, eqb, ltb, leb, length, drop, set, get_or, Some, None}
 use Rattle.tables.specs.declared.letters.Conventions.{Conventions}
 use Rattle.reader.specs.declared.board.Identity.{Identity}
 use Rattle.reader.specs.Words.{same, call_token, card_token}
@@ -10,7 +8,7 @@ use Rattle.reader.specs.Plain.{Item, TagPair, first_bytes, without_returns}
 use Rattle.writer.specs.declared.remarks.Sought.{Sought}
 use Rattle.writer.specs.declared.remarks.Sought.TheVariants.{Leading, Under, Unwritten}
 use Rattle.tables.specs.Text.{ascii, trimmed, before}
-use Rattle.tables.specs.Numbers.{number_of, decimal}
+use Rattle.tables.specs.Numbers.{Number, number_of, decimal}
 use Rattle.writer.specs.Tags.{WrittenTag}
 use Rattle.writer.specs.PresentSteps.{is_tag_written, is_any}
 use Rattle.writer.specs.declared.items.Items.{Items}
@@ -224,8 +222,8 @@ deal_place text entries first count =
 
 -- A number that was read, 256 where it is none.
 abbrev pub or_none : Number → ℕ
-or_none Bad = 256
-or_none (Value v) = v
+or_none None = 256
+or_none (Some v) = v
 
 -- The number of a note's value, 256 where it has no colon (58) or no number before it.
 unfoldable pub note_number : List ℕ → ℕ

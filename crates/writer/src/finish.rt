@@ -163,7 +163,7 @@ fn end_finishing(
         page.new }
 {
     if n <= page.len() {
-        tables::page::finish(page, n);
+        let _ = tables::page::finish(page, n);
         return Ok(n as u64);
     }
     zero_all(old_cards, old_entries, new_cards, new_entries, page);

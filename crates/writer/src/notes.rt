@@ -15,7 +15,7 @@ use crate::remarks::{Sought, put_remark, put_remarks};
 use crate::tags::{put_close, put_open};
 use reader::names::{TagName, tag_name};
 use reader::words::same;
-use tables::numbers::{Number, parse_number};
+use tables::numbers::parse_number;
 use tables::page::Page;
 use tables::text::{from, index_of, trim, upto};
 
@@ -33,7 +33,7 @@ fn note_number(value: &[u8]) -> Option<u8>
 {
     let k = index_of(value, 58);
     if k < value.len() {
-        let Number::Value(n) = parse_number(trim(upto(value, k)), 255) else {
+        let Some(n) = parse_number(trim(upto(value, k)), 255) else {
             return None;
         };
         return Some(n as u8);

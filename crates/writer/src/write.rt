@@ -42,7 +42,7 @@ pub fn write_carried(f: WriteRefusal) -> u64
 pub fn clear(page: &mut [u8])
     ensures { page.new ≡ zeros page.old }
 {
-    finish(page, 0);
+    let _ = finish(page, 0);
 }
 
 // Puts the page of boards that were just read on lent bytes, and says how many bytes it has.
@@ -71,7 +71,7 @@ fn end_writing(
     ensures { WritingEnded n cards.old entries.old page.old result cards.new entries.new page.new }
 {
     if n <= page.len() {
-        finish(page, n);
+        let _ = finish(page, n);
         return Ok(n as u64);
     }
     clear(page);
