@@ -1,6 +1,6 @@
 -- Laws of lines.
 use Prim.Native.Nat.{ℕ, zero, suc, ◌+◌, ◌≤◌, ◌<◌}
-use mathlib.Core.Path.{◌≡◌, refl, sym, ap}
+use mathlib.Core.Path.{◌≡◌, refl, sym, ap, ◌∙◌}
 use mathlib.Core.Bool.{Bool, true, false, cond, not, ◌&&◌, ◌||◌}
 use mathlib.Core.List.{List, [], ◌∷◌}
 use native.Mathlib.Omega.{arith}
@@ -13,6 +13,7 @@ use Rattle.tables.specs.Text.{is_white, lead, trim_end, trimmed, keep_end}
 use Rattle.tables.specs.Letters.{among}
 use Rattle.tables.proofs.Laws.{by_cases, neither}
 use Rattle.reader.specs.declared.line.Line.TheVariants.{Blank}
+use Rattle.reader.specs.declared.tag.Span.{Span}
 use Rattle.reader.specs.Tag.{trim_span}
 use Rattle.reader.specs.Lines.{is_blank, last_brace, kind_by, line_kind}
 use Rattle.reader.proofs.TagLaws.{byte_front}
@@ -76,6 +77,10 @@ pub blank_span : (line : List ℕ) → is_blank line ≡ eqb (trim_span line).le
 unfolding is_blank trim_span
 blank_span line = refl
 
-pub kind_by_lem : (line : List ℕ) (b : ℕ) → b ≡ get_or line (trim_span line).start 0 → line_kind line ≡ cond (eqb (trim_span line).len 0) Blank (kind_by b line)
+kind_by_lem : (line : List ℕ) (b : ℕ) → b ≡ get_or line (trim_span line).start 0 → line_kind line ≡ cond (eqb (trim_span line).len 0) Blank (kind_by b line)
 unfolding is_blank trim_span line_kind
 kind_by_lem line b e = rw (e, byte_front is_white line)
+
+-- A line that is not blank is of the kind of the first byte that is not white.
+pub kind_of_byte : (line : List ℕ) (b : ℕ) (t : Span) → t ≡ trim_span line → (t.len ≡ 0 → ⊥) → b ≡ get_or line t.start 0 → line_kind line ≡ kind_by b line
+kind_of_byte line b t e n h = kind_by_lem line b (rw e at h) ∙ rw (← e, ne_eqb t.len 0 n)

@@ -62,7 +62,7 @@ fn stepped(c: Conventions, h: PartHand, b: u8) -> Option<PartHand>
     requires { Fine h }
     ensures { (result ≡ step_of c h b) × IsFine h.cards result }
 {
-    if b == 46 {
+    if b == b'.' {
         if h.suit == 0 {
             return None;
         }
@@ -108,10 +108,11 @@ fn read_suits(c: Conventions, seen: u64, s: &[u8]) -> Option<u64>
 fn dash(s: &[u8]) -> bool
     ensures { result ≡ is_dash (word s.now) }
 {
-    byte_at(s, 0) == 45 && word_len(s) == 1
+    byte_at(s, 0) == b'-' && word_len(s) == 1
 }
 
 // The hand that is the first field of s, put to the cards of the hands before it.
+#[tactic(auto, using(crate::proofs::DealLaws::dash_into, crate::proofs::DealLaws::suits_into))]
 fn read_hand(c: Conventions, seen: u64, s: &[u8]) -> Option<u64>
     requires { seen < 2 ^ 52 }
     ensures { (result ≡ hand_into c seen (word s.now)) × IsGrown seen result }
@@ -177,7 +178,7 @@ fn turn(seat: u8, mut h: Hands) -> Hands
 fn deal_in(c: Conventions, v: &[u8]) -> Option<Hands>
     ensures { (result ≡ deal_in c v.now) × IfSome result InDeck }
 {
-    if byte_at(v, 1) != 58 {
+    if byte_at(v, 1) != b':' {
         return None;
     }
     let seat = seat_of(c, byte_at(v, 0));
@@ -197,13 +198,14 @@ pub(crate) fn read_deal(c: Conventions, value: &[u8]) -> Option<Hands>
 }
 
 // 13 cards in each hand.
+#[tactic(auto, using(crate::proofs::CardSets::count_is), unfolding(crate::specs::Deals::whole_hands))]
 pub fn is_whole(h: Hands) -> bool
     ensures { result ≡ whole_hands h }
 {
-    (u64::count_ones(h.north) == 13)
-        & (u64::count_ones(h.east) == 13)
-        & (u64::count_ones(h.south) == 13)
-        & (u64::count_ones(h.west) == 13)
+    (h.north.count_ones() == 13)
+        & (h.east.count_ones() == 13)
+        & (h.south.count_ones() == 13)
+        & (h.west.count_ones() == 13)
 }
 
 fn low_word(x: u64) -> u32

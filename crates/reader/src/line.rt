@@ -25,6 +25,7 @@ pub enum Line {
     Data(Span),
 }
 
+#[tactic(auto, using(crate::proofs::LineLaws::blank_is))]
 pub(crate) fn is_blank(line: &[u8]) -> bool
     ensures { result ≡ is_blank line.now }
 {
@@ -32,17 +33,18 @@ pub(crate) fn is_blank(line: &[u8]) -> bool
 }
 
 // Whether the line has a `}`.
+#[tactic(auto, unfolding(crate::specs::Lines::has_brace))]
 pub(crate) fn has_brace(line: &[u8]) -> bool
     ensures { result ≡ has_brace line.now }
 {
-    contains(line, 125)
+    contains(line, b'}')
 }
 
 // The place of the last `}`, the line's length where there is none.
 pub(crate) fn last_brace(line: &[u8]) -> usize
     ensures { (result ≡ last_brace line.now) × (result ≤ length line.now) }
 {
-    line.iter().rposition(|b| *b == 125).unwrap_or(line.len())
+    line.iter().rposition(|b| *b == b'}').unwrap_or(line.len())
 }
 
 // A line that starts with `[` and is no tag, unless section data is split off.
@@ -69,6 +71,7 @@ fn bracket_line(line: &[u8]) -> Line
 }
 
 // A line outside commentary, by its first byte that is not white.
+#[tactic(auto, using(crate::proofs::LineLaws::blank_span), unfolding(crate::specs::Lines::line_kind))]
 pub(crate) fn line_kind(line: &[u8]) -> Line
     ensures { (result ≡ line_kind line.now) × LinePlaced result (length line.now) }
 {
@@ -76,18 +79,12 @@ pub(crate) fn line_kind(line: &[u8]) -> Line
     if t.len == 0 {
         return Line::Blank;
     }
-    let start = t.start;
-    let b = byte_at(line, start);
-    if b == 123 {
-        return Line::Brace;
+    match byte_at(line, t.start) {
+        b'{' => Line::Brace,
+        b';' | b'%' => Line::Directive(t),
+        b'[' => bracket_line(line),
+        _ => Line::Data(t),
     }
-    if (b == 59) | (b == 37) {
-        return Line::Directive(t);
-    }
-    if b == 91 {
-        return bracket_line(line);
-    }
-    Line::Data(t)
 }
 
 // Whether the line holds a tag, which opens a board or goes on with one.

@@ -41,6 +41,7 @@ fn last_byte(s: &[u8]) -> u8
     s.last().copied().unwrap_or(0)
 }
 
+#[tactic(auto, using(crate::proofs::TagLaws::among_before))]
 pub(crate) fn contains(s: &[u8], x: u8) -> bool
     ensures { result ≡ among x s.now }
 {
@@ -75,29 +76,31 @@ fn opening_bracket(line: &[u8]) -> Option<usize>
     ensures { (result ≡ bracket_of line.now) × IfSome result (λ a. a ≤ length line.now) }
 {
     let n = lead_len(line);
-    if byte_at(line, n) == 91 {
+    if byte_at(line, n) == b'[' {
         return Some(n + 1);
     }
     None
 }
 
 // Whether the text from `a` up to `e`, the white space off its end, ends with a quote.
+#[tactic(auto, unfolding(crate::specs::Tag::ends_quoted))]
 fn quote_before(line: &[u8], a: usize, e: usize) -> bool
     ensures { result ≡ ends_quoted (part a e line.now) }
 {
-    last_byte(trim_end(part(line, a, e))) == 34
+    last_byte(trim_end(part(line, a, e))) == b'"'
 }
 
 // The first `]` of the body, which starts at `a`, with a quote before it, white space apart.
 fn closing_bracket(line: &[u8], a: usize) -> Option<usize>
     ensures { (result ≡ close_at a [] (drop a line.now)) × IfSome result (λ k. k < length line.now) }
 {
-    let mut i = a + index_of(from(line, a), 93);
+    // From one `]` to the next, which `index_of` finds four bytes a turn: a `for` over places would look at each byte alone.
+    let mut i = a + index_of(from(line, a), b']');
     while i < line.len() {
         if quote_before(line, a, i) {
             return Some(i);
         }
-        i = i + 1 + index_of(from(line, i + 1), 93);
+        i = i + 1 + index_of(from(line, i + 1), b']');
     }
     None
 }
@@ -117,7 +120,7 @@ fn tag_name(line: &[u8], a: usize, e: usize) -> Option<usize>
 fn is_quoted(s: &[u8]) -> bool
     ensures { result ≡ is_quoted s.now }
 {
-    s.len() >= 2 && byte_at(s, 0) == 34 && last_byte(s) == 34
+    s.len() >= 2 && byte_at(s, 0) == b'"' && last_byte(s) == b'"'
 }
 
 // The value in quotes between `a` and `e`, white space apart.
@@ -137,14 +140,15 @@ fn quoted_value(line: &[u8], a: usize, e: usize) -> Option<Span>
 }
 
 // `;` and anything, or `{` closed on the line.
+#[tactic(auto, unfolding(crate::specs::Tag::is_comment))]
 fn is_comment(s: &[u8]) -> bool
     ensures { result ≡ is_comment s.now }
 {
     let b = byte_at(s, 0);
-    if b == 123 {
-        return contains(s, 125);
+    if b == b'{' {
+        return contains(s, b'}');
     }
-    b == 59
+    b == b';'
 }
 
 // The comment on the line from `a` on, if something stands there; nothing where that is no comment.
@@ -188,9 +192,9 @@ fn find_from(line: &[u8], x: u8, a: usize) -> Option<usize>
 fn data_bracket(line: &[u8]) -> Option<usize>
     ensures { (result ≡ data_bracket line.now) × IfSome result (λ k. k < length line.now) }
 {
-    let o = find_from(line, 34, 0)?;
-    let q = find_from(line, 34, o + 1)?;
-    find_from(line, 93, q + 1)
+    let o = find_from(line, b'"', 0)?;
+    let q = find_from(line, b'"', o + 1)?;
+    find_from(line, b']', q + 1)
 }
 
 // The tag that stands before `e`, whether or not a comment follows it, and the data from there.

@@ -9,7 +9,7 @@ pub(crate) fn line_at(text: &[u8], start: usize) -> &[u8]
     ensures { result.now ≡ line_at text.now start }
 {
     let rest = from(text, start);
-    upto(rest, index_of(rest, 10) + 1)
+    upto(rest, index_of(rest, b'\n') + 1)
 }
 
 // The lines of a text that are left, each with its LF: the text, and the start of the next line.

@@ -24,13 +24,10 @@ pub fn same_word(word: &[u8], token: &[u8]) -> bool
 fn level_of(b: u8) -> Option<u8>
     ensures { (unwrap_or result 0 ≡ level_of b) × IfSome result (λ l. (1 ≤ l) × (l ≤ 7)) }
 {
-    if b < 49 {
-        return None;
+    match b {
+        b'1'..=b'7' => Some(b - b'0'),
+        _ => None,
     }
-    if b > 55 {
-        return None;
-    }
-    Some(b - 48)
 }
 
 // A bid's code from its level and its strain.
@@ -115,7 +112,7 @@ pub fn call_code(c: Conventions, token: &[u8]) -> Option<u8>
 fn is_mark(b: u8) -> bool
     ensures { result ≡ is_mark b }
 {
-    (b == 61) | (b == 33) | (b == 63) | (b == 36)
+    matches!(b, b'=' | b'!' | b'?' | b'$')
 }
 
 // The number of bytes before a token's annotation.
