@@ -10,7 +10,7 @@ ghost use Rattle.reader.specs.BoardSteps.{values_put};
 use crate::board::{Board, DealCard, Identity, Section, TableCard, Values};
 use crate::deal::{DealRead, Hands, hand_words, read_deal};
 use crate::names;
-use crate::section::Open;
+use crate::section::{AUCTION, NO_SECTION, OPTIMUM, Open, PLAY};
 use crate::tag::Span;
 use crate::words::{contract_trump, same, vulnerability_of};
 use tables::dd::{Decoded, dd_table_from_pbn};
@@ -207,7 +207,7 @@ pub(crate) fn no_open() -> Open
     ensures { result ≡ no_open }
 {
     Open {
-        kind: 0,
+        kind: NO_SECTION,
         seat: 4,
         at: 0,
         split: Span { start: 0, len: 0 },
@@ -233,10 +233,10 @@ pub(crate) fn open_by(c: Conventions, k: u8, value: &[u8], at: usize, split: Spa
     ensures { (result ≡ open_by c k value.now at split) × (result.seat ≤ 4) × (result.kind ≤ 3) × (result.kind ≡ 2 → result.seat ≤ 3) × (result.kind ≡ 1 → result.seat ≤ 3) }
 {
     match k {
-        names::AUCTION => seat_open(1, seat_in(c, value), at, split),
-        names::PLAY => seat_open(2, seat_in(c, value), at, split),
+        names::AUCTION => seat_open(AUCTION, seat_in(c, value), at, split),
+        names::PLAY => seat_open(PLAY, seat_in(c, value), at, split),
         names::OPTIMUM_RESULT_TABLE => Open {
-            kind: 3,
+            kind: OPTIMUM,
             seat: 4,
             at,
             split,

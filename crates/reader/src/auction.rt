@@ -5,7 +5,7 @@ ghost use Rattle.reader.specs.PieceSteps.{Adds, Emits, piece};
 ghost use Rattle.reader.specs.Auction.{call_token_of, bidding, called, call_out, passes_out, called_piece, no_bidding};
 ghost use Rattle.reader.specs.TokenSteps.{CallInside};
 
-use crate::store::{Entries, Entry};
+use crate::store::{ANNOTATION, CALL, Entries, Entry};
 use crate::words::{call_code, call_len, is_all_pass, section_end};
 use tables::letters::Conventions;
 use tables::text::{from, lead_len, upto, word_len};
@@ -85,7 +85,7 @@ fn put_call_entry(entries: &mut Entries, at: usize, len: usize, code: usize)
     ensures { Adds entries.old entries.new (entry 6 at len code ∷ []) }
 {
     entries.push(Entry {
-        kind: 6,
+        kind: CALL,
         x: at,
         y: len,
         z: code,
@@ -98,7 +98,7 @@ fn put_annotation(entries: &mut Entries, at: usize, len: usize)
     ensures { Adds entries.old entries.new (entry 7 at len 0 ∷ []) }
 {
     entries.push(Entry {
-        kind: 7,
+        kind: ANNOTATION,
         x: at,
         y: len,
         z: 0,

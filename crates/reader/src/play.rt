@@ -4,7 +4,7 @@ ghost use Rattle.reader.specs.PieceSteps.{Emits, piece};
 ghost use Rattle.reader.specs.Play.{no_slots, with_slot, is_full, weight, best_slot, winner_of, trick_entry, new_trick, next_leader, opened, taking, slot_of, with_card, is_gap, played, played_bytes, played_piece, one_more, last_trick, no_tricks};
 ghost use Rattle.reader.specs.TokenSteps.{Low, Seated, OpenTrick};
 
-use crate::store::{Entries, Entry};
+use crate::store::{Entries, Entry, TRICK};
 use crate::words::{card_named, same, section_end};
 use tables::letters::Conventions;
 use tables::text::{from, lead_len, upto, word_len};
@@ -119,21 +119,15 @@ fn winner_now(trump: usize, leader: usize, before: usize, s: Slots) -> usize
     before
 }
 
-fn choose(test: bool, x: usize, y: usize) -> usize
-    ensures { result ≡ cond test x y }
-{
-    if test { x } else { y }
-}
-
 pub fn with_slot(s: Slots, k: usize, v: usize) -> Slots
     requires { Low s × (v ≤ 255) }
     ensures { (result ≡ with_slot s k v) × Low result }
 {
     Slots {
-        a: choose(k == 0, v, s.a),
-        b: choose(k == 1, v, s.b),
-        c: choose(k == 2, v, s.c),
-        d: choose(k == 3, v, s.d),
+        a: if k == 0 { v } else { s.a },
+        b: if k == 1 { v } else { s.b },
+        c: if k == 2 { v } else { s.c },
+        d: if k == 3 { v } else { s.d },
     }
 }
 
@@ -152,7 +146,7 @@ fn trick_entry(t: Tricks) -> Entry
 {
     let s = t.slots;
     Entry {
-        kind: 8,
+        kind: TRICK,
         x: t.leader,
         y: t.winner,
         z: s.a + 256 * s.b + 65536 * s.c + 16777216 * s.d,

@@ -17,7 +17,16 @@ use tables::dd::{Cells, Row, no_cells, read_row, stored_row};
 use tables::letters::Conventions;
 use tables::text::{byte_at, from, lead_len, upto};
 
-// An open section: 0 none, 1 auction, 2 play, 3 optimum; where the lines after its tag start, and what was split off its tag line.
+// The kinds of open sections, numbers as the last word of a data line's entry has them in C; 0 where none is open.
+pub(crate) const NO_SECTION: usize = 0;
+
+pub(crate) const AUCTION: usize = 1;
+
+pub(crate) const PLAY: usize = 2;
+
+pub(crate) const OPTIMUM: usize = 3;
+
+// An open section: where the lines after its tag start, and what was split off its tag line.
 #[derive(Clone, Copy)]
 pub struct Open {
     pub kind: usize,
@@ -163,7 +172,7 @@ fn walk_piece(
     let bidding = w.bidding;
     let tricks = w.tricks;
     let rows = w.rows;
-    if o.kind == 1 {
+    if o.kind == AUCTION {
         let bid = call_piece(c, bidding, s, at, entries);
         return Walk {
             bidding: bid,
@@ -171,7 +180,7 @@ fn walk_piece(
             rows,
         };
     }
-    if o.kind == 2 {
+    if o.kind == PLAY {
         let played = play_piece(c, o.seat, trump, tricks, s, at, entries);
         return Walk {
             bidding,
