@@ -260,26 +260,6 @@ fn no_identity() -> Identity
     }
 }
 
-// No value is kept.
-fn no_values() -> Values
-    ensures { result ≡ no_board.values }
-{
-    Values {
-        id: 0,
-        event: 0,
-        site: 0,
-        date: 0,
-        contract: 0,
-        north: 0,
-        east: 0,
-        south: 0,
-        west: 0,
-        deal: 0,
-        score: 0,
-        par: 0,
-    }
-}
-
 // Before the first tag.
 pub(crate) fn no_board() -> Board
     ensures { result ≡ no_board }
@@ -300,7 +280,7 @@ pub(crate) fn no_board() -> Board
             kind: 0,
             cells: [0; 20],
         },
-        values: no_values(),
+        values: Values::default(),
         auction: none,
         play: none,
         trump: 4,

@@ -2,7 +2,7 @@
 ghost use Rattle.std.specs.Prelude.{◌≡◌, ◌∷◌, [], ◌+◌, ◌*◌, ◌≤◌, ◌<◌, ◌^◌, length};
 ghost use Rattle.reader.specs.Pieces.{entry};
 ghost use Rattle.reader.specs.PieceSteps.{Adds, Emits, piece};
-ghost use Rattle.reader.specs.Auction.{call_token_of, bidding, called, call_out, passes_out, called_piece, no_bidding};
+ghost use Rattle.reader.specs.Auction.{call_token_of, bidding, called, call_out, passes_out, called_piece};
 ghost use Rattle.reader.specs.TokenSteps.{CallInside};
 
 use crate::store::{ANNOTATION, CALL, Entries, Entry};
@@ -21,26 +21,14 @@ pub enum CallToken {
     NoCall,
 }
 
-// Bidding so far.
-#[derive(Clone, Copy)]
+// Bidding so far; before the first token it is the default.
+#[derive(Clone, Copy, Default)]
 pub struct Bidding {
     pub any: bool,
     pub made: bool,
     pub end: usize,
     pub stopped: bool,
     pub count: usize,
-}
-
-pub(crate) fn no_bidding() -> Bidding
-    ensures { result ≡ no_bidding }
-{
-    Bidding {
-        any: false,
-        made: false,
-        end: 0,
-        stopped: false,
-        count: 0,
-    }
 }
 
 fn call_token(c: Conventions, t: &[u8]) -> CallToken

@@ -7,9 +7,9 @@ ghost use Rattle.reader.specs.TokenSteps.{Seated};
 ghost use Rattle.reader.specs.Sections.{commentary_after, split_piece, row_stored, walked, no_walk, walked_all};
 ghost use Rattle.reader.specs.SectionSteps.{visit_of, NextPiece, walk_count, Walks};
 
-use crate::auction::{Bidding, call_piece, no_bidding};
+use crate::auction::{Bidding, call_piece};
 use crate::line::{Line, has_brace, line_kind};
-use crate::play::{Tricks, no_tricks, play_piece};
+use crate::play::{Terms, Tricks, no_tricks, play_piece};
 use crate::store::Entries;
 use crate::tag::Span;
 use crate::walk::line_at;
@@ -17,7 +17,7 @@ use tables::dd::{Cells, Row, no_cells, read_row, stored_row};
 use tables::letters::Conventions;
 use tables::text::{byte_at, from, lead_len, upto};
 
-// The kinds of open sections, numbers as the last word of a data line's entry has them in C; 0 where none is open.
+// The kinds of open sections: numbers, as the last word of a data line's entry in C; 0 where none is open.
 pub(crate) const NO_SECTION: usize = 0;
 
 pub(crate) const AUCTION: usize = 1;
@@ -123,6 +123,7 @@ fn next_piece(r: &[u8], at: usize) -> Option<Next>
     None
 }
 
+#[tactic(auto, unfolding(crate::specs::Sections::no_walk))]
 fn no_walk() -> Walk
     ensures { result ≡ no_walk }
 {
@@ -132,7 +133,7 @@ fn no_walk() -> Walk
         fault: false,
     };
     Walk {
-        bidding: no_bidding(),
+        bidding: Bidding::default(),
         tricks: no_tricks(),
         rows,
     }
@@ -181,7 +182,12 @@ fn walk_piece(
         };
     }
     if o.kind == PLAY {
-        let played = play_piece(c, o.seat, trump, tricks, s, at, entries);
+        let by = Terms {
+            c,
+            lead: o.seat,
+            trump,
+        };
+        let played = play_piece(by, tricks, s, at, entries);
         return Walk {
             bidding,
             tricks: played,

@@ -4,7 +4,7 @@ ghost use Rattle.std.proofs.lemmas.List.Edits.{sets};
 ghost use Rattle.reader.specs.Store.{low_word, zeros, moved};
 ghost use Rattle.reader.specs.PieceSteps.{Adds};
 
-// The kinds of entries, numbers as the first word of an entry has them in C.
+// The kinds of entries: numbers, as the first of an entry's four words in C.
 pub(crate) const NAME: usize = 1;
 
 pub(crate) const VALUE: usize = 2;
