@@ -39,18 +39,6 @@ none_seated = record { leader_low = omega arith; winner_low = omega arith; seat_
 
 -- ---- slots, winners, new tricks
 
-pub slots_are : (s : Slots) (k v : ℕ) {a b c d : ℕ} → Low s → v ≤ 255 → a ≡ cond (eqb k 0) v s.a → b ≡ cond (eqb k 1) v s.b → c ≡ cond (eqb k 2) v s.c
-    → d ≡ cond (eqb k 3) v s.d → (◌≡◌ {A = Slots} (record { a = a; b = b; c = c; d = d }) (with_slot s k v)) × Low (record { a = a; b = b; c = c; d = d })
-slots_are s k v {a} {b} {c} {d} low h ea eb ec ed = (
-  rw (ea, eb, ec, ed),
-  record {
-    a_low = rw ea (cond_low (eqb k 0) v s.a 255 h low.a_low);
-    b_low = rw eb (cond_low (eqb k 1) v s.b 255 h low.b_low);
-    c_low = rw ec (cond_low (eqb k 2) v s.c 255 h low.c_low);
-    d_low = rw ed (cond_low (eqb k 3) v s.d 255 h low.d_low);
-  },
-)
-
 pub winner_is : (trump leader : ℕ) (s : Slots) {p q r t k : ℕ} → p ≡ weight trump (s.a / 13) s.a → q ≡ weight trump (s.a / 13) s.b → r ≡ weight trump (s.a / 13) s.c
     → t ≡ weight trump (s.a / 13) s.d → k ≡ best_slot p q r t → ((leader + k) % 4 ≡ winner_of trump leader s) × ((leader + k) % 4 ≤ 4)
 winner_is trump leader s {p} {q} {r} {t} {k} ep eq er et ek = (rw (ek, ep, eq, er, et), omega arith)

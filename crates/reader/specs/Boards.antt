@@ -40,13 +40,13 @@ with_number i None = record { number_met = 0; number = 0; dealer = i.dealer; vul
 with_number i (Some v) = record { number_met = 1; number = v; dealer = i.dealer; vulnerability = i.vulnerability; declarer = i.declarer; result_met = i.result_met; result = i.result }
 
 abbrev pub with_dealer : Identity → ℕ → Identity
-with_dealer i s = record { number_met = i.number_met; number = i.number; dealer = s; vulnerability = i.vulnerability; declarer = i.declarer; result_met = i.result_met; result = i.result }
+with_dealer i s = record i { dealer = s }
 
 abbrev pub with_vulnerability : Identity → ℕ → Identity
-with_vulnerability i v = record { number_met = i.number_met; number = i.number; dealer = i.dealer; vulnerability = v; declarer = i.declarer; result_met = i.result_met; result = i.result }
+with_vulnerability i v = record i { vulnerability = v }
 
 abbrev pub with_declarer : Identity → ℕ → Identity
-with_declarer i s = record { number_met = i.number_met; number = i.number; dealer = i.dealer; vulnerability = i.vulnerability; declarer = s; result_met = i.result_met; result = i.result }
+with_declarer i s = record i { declarer = s }
 
 abbrev pub with_result : Identity → Number → Identity
 with_result i None = record { number_met = i.number_met; number = i.number; dealer = i.dealer; vulnerability = i.vulnerability; declarer = i.declarer; result_met = 0; result = 0 }
@@ -125,14 +125,11 @@ values_by c k value place v = cond (is_kept c k value) (value_put k place v) v
 -- A board after a tag of number k; place is the value's entry plus 1.
 unfoldable pub applied : Conventions → ℕ → List ℕ → ℕ → Board → Board
 applied c k value place b =
-    record {
+    record b {
       id = identity_by c k value b.id;
       deal = deal_by c k value b.deal;
       table = table_by k value b.table;
       values = values_by c k value place b.values;
-      auction = b.auction;
-      play = b.play;
-      trump = b.trump;
       contract = contract_by c k value b.contract;
     }
 
@@ -156,8 +153,7 @@ open_by c k value at split =
     (cond (eqb k optimum_result_table_name) (record { kind = 3; seat = 4; at = at; split = split }) no_open))
 
 abbrev pub with_sections : Board → TableCard → Section → Section → ℕ → Board
-with_sections b table auction play trump =
-    record { id = b.id; deal = b.deal; table = table; values = b.values; auction = auction; play = play; trump = trump; contract = b.contract }
+with_sections b table auction play trump = record b { table = table; auction = auction; play = play; trump = trump }
 
 -- The board after its open section: a section with tokens replaces an earlier one; a whole table of rows wins.
 abbrev pub auction_closed : Board → Open → ℕ → Walk → Board
@@ -190,7 +186,7 @@ abbrev pub closed_entries : Open → Out Walk → List Entry
 closed_entries o w = w.entries ++ last_entries o.kind w.state
 
 abbrev pub closed_state : State → Board → ℕ → State
-closed_state s b k = record { board = b; section = no_open; tags = s.tags; n = s.n + k; commentary = s.commentary; block = s.block }
+closed_state s b k = record s { board = b; section = no_open; n = s.n + k }
 
 abbrev pub closed_by : State → Out Walk → Out State
 closed_by s w =
@@ -205,7 +201,7 @@ closed c r s = cond (eqb s.section.kind 0) (record { state = s; entries = [] }) 
 -- ---- lines
 
 abbrev pub counted_state : State → ℕ → State
-counted_state s k = record { board = s.board; section = s.section; tags = s.tags; n = s.n + k; commentary = s.commentary; block = s.block }
+counted_state s k = record s { n = s.n + k }
 
 abbrev pub adding : State → List Entry → Out State
 adding s es = record { state = counted_state s (length es); entries = es }
@@ -255,7 +251,7 @@ abbrev pub is_all_white : List ℕ → ℕ → ℕ → Bool
 is_all_white r i j = every is_white (cut (record { start = i; len = j - i }) r)
 
 abbrev pub with_commentary : State → Bool → ℕ → State
-with_commentary s commentary block = record { board = s.board; section = s.section; tags = s.tags; n = s.n; commentary = commentary; block = block }
+with_commentary s commentary block = record s { commentary = commentary; block = block }
 
 unfoldable pub blocked : List ℕ → State → ℕ → ℕ → Out State
 blocked r s i j = adding (with_commentary s false 0) (cond (is_all_white r i j) [] (entry 4 i (j - i) s.tags ∷ []))

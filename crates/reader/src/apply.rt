@@ -10,7 +10,7 @@ ghost use Rattle.reader.specs.BoardSteps.{values_put};
 use crate::board::{Board, DealCard, Identity, Section, TableCard, Values};
 use crate::deal::{Hands, hand_words, read_deal};
 use crate::names::TagName;
-use crate::section::Open;
+use crate::section::{AUCTION, NO_SECTION, OPTIMUM, Open, PLAY};
 use crate::tag::Span;
 use crate::words::{contract_trump, same, vulnerability_of};
 use tables::dd::dd_table_from_pbn;
@@ -218,7 +218,7 @@ pub(crate) fn no_open() -> Open
     ensures { result ≡ no_open }
 {
     Open {
-        kind: 0,
+        kind: NO_SECTION,
         seat: 4,
         at: 0,
         split: Span { start: 0, len: 0 },
@@ -250,10 +250,10 @@ pub(crate) fn open_by(
     ensures { (result ≡ open_by c (number_of k) value.now at split) × (result.seat ≤ 4) × (result.kind ≤ 3) × (result.kind ≡ 2 → result.seat ≤ 3) × (result.kind ≡ 1 → result.seat ≤ 3) }
 {
     match k {
-        Some(TagName::Auction) => seat_open(1, seat_in(c, value), at, split),
-        Some(TagName::Play) => seat_open(2, seat_in(c, value), at, split),
+        Some(TagName::Auction) => seat_open(AUCTION, seat_in(c, value), at, split),
+        Some(TagName::Play) => seat_open(PLAY, seat_in(c, value), at, split),
         Some(TagName::OptimumResultTable) => Open {
-            kind: 3,
+            kind: OPTIMUM,
             seat: 4,
             at,
             split,
@@ -277,26 +277,6 @@ fn no_identity() -> Identity
     }
 }
 
-// No value is kept.
-fn no_values() -> Values
-    ensures { result ≡ no_board.values }
-{
-    Values {
-        id: 0,
-        event: 0,
-        site: 0,
-        date: 0,
-        contract: 0,
-        north: 0,
-        east: 0,
-        south: 0,
-        west: 0,
-        deal: 0,
-        score: 0,
-        par: 0,
-    }
-}
-
 // Before the first tag.
 pub(crate) fn no_board() -> Board
     ensures { result ≡ no_board }
@@ -317,7 +297,7 @@ pub(crate) fn no_board() -> Board
             kind: 0,
             cells: [0; 20],
         },
-        values: no_values(),
+        values: Values::default(),
         auction: none,
         play: none,
         trump: 4,

@@ -2,10 +2,10 @@
 ghost use Rattle.std.specs.Prelude.{◌≡◌, ◌∷◌, [], ◌+◌, ◌*◌, ◌≤◌, ◌<◌, ◌^◌, length};
 ghost use Rattle.reader.specs.Pieces.{entry};
 ghost use Rattle.reader.specs.PieceSteps.{Adds, Emits, piece};
-ghost use Rattle.reader.specs.Auction.{call_token_of, bidding, called, call_out, passes_out, called_piece, no_bidding};
+ghost use Rattle.reader.specs.Auction.{call_token_of, bidding, called, call_out, passes_out, called_piece};
 ghost use Rattle.reader.specs.TokenSteps.{CallInside};
 
-use crate::store::{Entries, Entry};
+use crate::store::{ANNOTATION, CALL, Entries, Entry};
 use crate::words::{call_code, call_len, is_all_pass, section_end};
 use tables::letters::Conventions;
 use tables::text::{from, lead_len, upto, word_len};
@@ -21,26 +21,14 @@ pub enum CallToken {
     NoCall,
 }
 
-// Bidding so far.
-#[derive(Clone, Copy)]
+// Bidding so far; before the first token it is the default.
+#[derive(Clone, Copy, Default)]
 pub struct Bidding {
     pub any: bool,
     pub made: bool,
     pub end: usize,
     pub stopped: bool,
     pub count: usize,
-}
-
-pub(crate) fn no_bidding() -> Bidding
-    ensures { result ≡ no_bidding }
-{
-    Bidding {
-        any: false,
-        made: false,
-        end: 0,
-        stopped: false,
-        count: 0,
-    }
 }
 
 #[tactic(auto, unfolding(crate::specs::Auction::call_token_of))]
@@ -85,7 +73,7 @@ fn put_call_entry(entries: &mut Entries, at: usize, len: usize, code: usize)
     ensures { Adds entries.old entries.new (entry 6 at len code ∷ []) }
 {
     entries.push(Entry {
-        kind: 6,
+        kind: CALL,
         x: at,
         y: len,
         z: code,
@@ -98,7 +86,7 @@ fn put_annotation(entries: &mut Entries, at: usize, len: usize)
     ensures { Adds entries.old entries.new (entry 7 at len 0 ∷ []) }
 {
     entries.push(Entry {
-        kind: 7,
+        kind: ANNOTATION,
         x: at,
         y: len,
         z: 0,

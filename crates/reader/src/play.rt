@@ -4,18 +4,26 @@ ghost use Rattle.reader.specs.PieceSteps.{Emits, piece};
 ghost use Rattle.reader.specs.Play.{no_slots, with_slot, is_full, weight, best_slot, winner_of, trick_entry, new_trick, next_leader, opened, taking, slot_of, with_card, is_gap, played, played_bytes, played_piece, one_more, last_trick, no_tricks};
 ghost use Rattle.reader.specs.TokenSteps.{Low, Seated, OpenTrick};
 
-use crate::store::{Entries, Entry};
+use crate::store::{Entries, Entry, TRICK};
 use crate::words::{card_named, same, section_end};
 use tables::letters::Conventions;
 use tables::text::{from, lead_len, upto, word_len};
 
-// The four slots of a trick, 255 for an empty one.
+// The four slots of a trick, 255 for an empty one, as the bytes of a trick's last word in C.
 #[derive(Clone, Copy)]
 pub struct Slots {
     pub a: usize,
     pub b: usize,
     pub c: usize,
     pub d: usize,
+}
+
+// What the cards of a play are read by: the conventions, the seat of the opening leader, and the trump.
+#[derive(Clone, Copy)]
+pub struct Terms {
+    pub c: Conventions,
+    pub lead: usize,
+    pub trump: usize,
 }
 
 // Play so far.
@@ -119,21 +127,15 @@ fn winner_now(trump: usize, leader: usize, before: usize, s: Slots) -> usize
     before
 }
 
-fn choose(test: bool, x: usize, y: usize) -> usize
-    ensures { result ≡ cond test x y }
-{
-    if test { x } else { y }
-}
-
 pub fn with_slot(s: Slots, k: usize, v: usize) -> Slots
     requires { Low s × (v ≤ 255) }
     ensures { (result ≡ with_slot s k v) × Low result }
 {
     Slots {
-        a: choose(k == 0, v, s.a),
-        b: choose(k == 1, v, s.b),
-        c: choose(k == 2, v, s.c),
-        d: choose(k == 3, v, s.d),
+        a: if k == 0 { v } else { s.a },
+        b: if k == 1 { v } else { s.b },
+        c: if k == 2 { v } else { s.c },
+        d: if k == 3 { v } else { s.d },
     }
 }
 
@@ -152,7 +154,7 @@ fn trick_entry(t: Tricks) -> Entry
 {
     let s = t.slots;
     Entry {
-        kind: 8,
+        kind: TRICK,
         x: t.leader,
         y: t.winner,
         z: s.a + 256 * s.b + 65536 * s.c + 16777216 * s.d,
@@ -245,9 +247,9 @@ fn is_dash(token: &[u8]) -> bool
 
 // What a token does in an open trick.
 #[tactic(auto, unfolding(crate::specs::Play::played))]
-fn play_token(c: Conventions, lead: usize, trump: usize, t: Tricks, token: &[u8]) -> Tricks
-    requires { (lead ≤ 3) × OpenTrick t }
-    ensures { (result ≡ played c lead trump t token.now) × Seated result }
+fn play_token(by: Terms, t: Tricks, token: &[u8]) -> Tricks
+    requires { (by.lead ≤ 3) × OpenTrick t }
+    ensures { (result ≡ played by.c by.lead by.trump t token.now) × Seated result }
 {
     let end = section_end(token);
     if end == 1 {
@@ -259,49 +261,34 @@ fn play_token(c: Conventions, lead: usize, trump: usize, t: Tricks, token: &[u8]
     if is_dash(token) {
         return take_seat(t, t.end, false, t.seat + 1);
     }
-    let Some(card) = card_named(c, token) else {
+    let Some(card) = card_named(by.c, token) else {
         return t;
     };
-    play_card(lead, trump, t, card as usize)
+    play_card(by.lead, by.trump, t, card as usize)
 }
 
 // One token.
-fn play_step(
-    c: Conventions,
-    lead: usize,
-    trump: usize,
-    t: Tricks,
-    token: &[u8],
-    entries: &mut Entries,
-) -> Tricks
-    requires { (lead ≤ 3) × Seated t × (entries.old.start ≤ 2 ^ 40) × (entries.old.count ≤ 2 ^ 60) × (t.count ≤ 2 ^ 60) }
-    ensures { Emits entries.old entries.new result (played_bytes c lead trump t token.now) × Seated result }
+fn play_step(by: Terms, t: Tricks, token: &[u8], entries: &mut Entries) -> Tricks
+    requires { (by.lead ≤ 3) × Seated t × (entries.old.start ≤ 2 ^ 40) × (entries.old.count ≤ 2 ^ 60) × (t.count ≤ 2 ^ 60) }
+    ensures { Emits entries.old entries.new result (played_bytes by.c by.lead by.trump t token.now) × Seated result }
 {
     if t.stopped {
         return t;
     }
-    play_token(c, lead, trump, open_trick(lead, t, entries), token)
+    play_token(by, open_trick(by.lead, t, entries), token)
 }
 
 // All tokens of a piece of data at the place `at` of its record.
-pub(crate) fn play_piece(
-    c: Conventions,
-    lead: usize,
-    trump: usize,
-    t: Tricks,
-    s: &[u8],
-    at: usize,
-    entries: &mut Entries,
-) -> Tricks
-    requires { (lead ≤ 3) × Seated t × (entries.old.start + at + length s.now ≤ 2 ^ 40) × (entries.old.count ≤ 2 ^ 58) × (t.count ≤ 2 ^ 59) }
-    ensures { Emits entries.old entries.new result (played_piece c lead trump t (piece at s.now)) × Seated result × (result.count ≤ t.count + length s.now) }
+pub(crate) fn play_piece(by: Terms, t: Tricks, s: &[u8], at: usize, entries: &mut Entries) -> Tricks
+    requires { (by.lead ≤ 3) × Seated t × (entries.old.start + at + length s.now ≤ 2 ^ 40) × (entries.old.count ≤ 2 ^ 58) × (t.count ≤ 2 ^ 59) }
+    ensures { Emits entries.old entries.new result (played_piece by.c by.lead by.trump t (piece at s.now)) × Seated result × (result.count ≤ t.count + length s.now) }
 {
     let mut w = t;
     let mut i = lead_len(s);
     while i < s.len() {
         let rest = from(s, i);
         let n = word_len(rest);
-        w = play_step(c, lead, trump, w, upto(rest, n), entries);
+        w = play_step(by, w, upto(rest, n), entries);
         i = i + n + lead_len(from(rest, n));
     }
     w

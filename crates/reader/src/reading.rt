@@ -19,8 +19,8 @@ use crate::board::{Board, Section, State, TableCard};
 use crate::line::{Line, TagReading, has_brace, last_brace, line_kind};
 use crate::names::tag_name;
 use crate::play::last_trick;
-use crate::section::{Open, Walk, walk_section};
-use crate::store::{Entries, Entry};
+use crate::section::{AUCTION, NO_SECTION, Open, PLAY, Walk, walk_section};
+use crate::store::{COMMENTARY, DATA, DIRECTIVE, Entries, Entry, NAME, VALUE};
 use crate::tag::{Span, Tag};
 use crate::walk::line_at;
 use tables::dd::gathered_table;
@@ -125,8 +125,8 @@ fn board_closed(b: Board, o: Open, n: usize, w: Walk) -> Board
     ensures { result ≡ board_closed b o n w }
 {
     match o.kind {
-        1 => auction_closed(b, o, n, w),
-        2 => play_closed(b, o, n, w),
+        AUCTION => auction_closed(b, o, n, w),
+        PLAY => play_closed(b, o, n, w),
         _ => table_closed(b, w),
     }
 }
@@ -139,7 +139,7 @@ fn last_entries(kind: usize, w: Walk, entries: &mut Entries) -> usize
     let bidding = w.bidding;
     let tricks = w.tricks;
     let calls = bidding.count;
-    if kind == 2 {
+    if kind == PLAY {
         let last = last_trick(tricks, entries);
         return calls + last.count;
     }
@@ -153,7 +153,7 @@ fn close_sections(c: Conventions, r: &[u8], s: State, entries: &mut Entries) -> 
 {
     let o = s.section;
     let kind = o.kind;
-    if kind == 0 {
+    if kind == NO_SECTION {
         return s;
     }
     let b = s.board;
@@ -209,8 +209,8 @@ fn tag_step(
 {
     let name = tag.name;
     let value = tag.value;
-    put_part(entries, 1, p, name, 0);
-    put_part(entries, 2, p, value, 0);
+    put_part(entries, NAME, p, name, 0);
+    put_part(entries, VALUE, p, value, 0);
     let k = tag_name(cut_span(l, name));
     let v = cut_span(l, value);
     State {
@@ -228,7 +228,7 @@ fn directive_step(s: State, p: usize, d: Span, entries: &mut Entries) -> State
     requires { (entries.old.start + p + d.start + d.len ≤ 2 ^ 40) × (entries.old.count ≤ 2 ^ 59) × (s.n ≤ 2 ^ 59) }
     ensures { Emits entries.old entries.new result (directed s p d) }
 {
-    put_part(entries, 3, p, d, s.tags);
+    put_part(entries, DIRECTIVE, p, d, s.tags);
     counted(s, 1)
 }
 
@@ -237,10 +237,10 @@ fn put_data(kind: usize, p: usize, d: Span, entries: &mut Entries) -> usize
     requires { (entries.old.start + p + d.start + d.len ≤ 2 ^ 40) × (entries.old.count ≤ 2 ^ 59) }
     ensures { Emits entries.old entries.new result (data_out kind p d) × (result ≤ 1) }
 {
-    if kind == 0 {
+    if kind == NO_SECTION {
         return 0;
     }
-    put_part(entries, 5, p, d, kind);
+    put_part(entries, DATA, p, d, kind);
     1
 }
 
@@ -315,7 +315,7 @@ fn block_step(r: &[u8], s: State, i: usize, j: usize, entries: &mut Entries) -> 
         return counted(next, 0);
     }
     entries.push(Entry {
-        kind: 4,
+        kind: COMMENTARY,
         x: i,
         y: len,
         z: s.tags,
@@ -396,7 +396,7 @@ pub(crate) fn read_board(c: Conventions, r: &[u8], entries: &mut Entries) -> Sta
                 p += l.len();
             }
             Line::Tag(t) => {
-                if o.kind != 0 {
+                if o.kind != NO_SECTION {
                     s = close_sections(c, r, s, entries);
                 }
                 s = tag_read(c, s, p, l, t, entries);

@@ -7,9 +7,9 @@ ghost use Rattle.reader.specs.TokenSteps.{Seated};
 ghost use Rattle.reader.specs.Sections.{commentary_after, split_piece, row_stored, walked, no_walk, walked_all};
 ghost use Rattle.reader.specs.SectionSteps.{visit_of, NextPiece, walk_count, Walks};
 
-use crate::auction::{Bidding, call_piece, no_bidding};
+use crate::auction::{Bidding, call_piece};
 use crate::line::{Line, has_brace, line_kind};
-use crate::play::{Tricks, no_tricks, play_piece};
+use crate::play::{Terms, Tricks, no_tricks, play_piece};
 use crate::store::Entries;
 use crate::tag::Span;
 use crate::walk::line_at;
@@ -17,7 +17,16 @@ use tables::dd::{no_cells, read_row, stored_row};
 use tables::letters::Conventions;
 use tables::text::{byte_at, from, lead_len, upto};
 
-// An open section: 0 none, 1 auction, 2 play, 3 optimum; where the lines after its tag start, and what was split off its tag line.
+// The kinds of open sections: numbers, as the last word of a data line's entry in C; 0 where none is open.
+pub(crate) const NO_SECTION: usize = 0;
+
+pub(crate) const AUCTION: usize = 1;
+
+pub(crate) const PLAY: usize = 2;
+
+pub(crate) const OPTIMUM: usize = 3;
+
+// An open section: where the lines after its tag start, and what was split off its tag line.
 #[derive(Clone, Copy)]
 pub struct Open {
     pub kind: usize,
@@ -124,7 +133,7 @@ fn no_walk() -> Walk
         fault: false,
     };
     Walk {
-        bidding: no_bidding(),
+        bidding: Bidding::default(),
         tricks: no_tricks(),
         rows,
     }
@@ -160,7 +169,7 @@ fn walk_piece(
     let bidding = w.bidding;
     let tricks = w.tricks;
     let rows = w.rows;
-    if o.kind == 1 {
+    if o.kind == AUCTION {
         let bid = call_piece(c, bidding, s, at, entries);
         return Walk {
             bidding: bid,
@@ -168,8 +177,13 @@ fn walk_piece(
             rows,
         };
     }
-    if o.kind == 2 {
-        let played = play_piece(c, o.seat, trump, tricks, s, at, entries);
+    if o.kind == PLAY {
+        let by = Terms {
+            c,
+            lead: o.seat,
+            trump,
+        };
+        let played = play_piece(by, tricks, s, at, entries);
         return Walk {
             bidding,
             tricks: played,

@@ -4,6 +4,23 @@ ghost use Rattle.std.proofs.lemmas.List.Edits.{sets};
 ghost use Rattle.reader.specs.Store.{low_word, zeros, moved};
 ghost use Rattle.reader.specs.PieceSteps.{Adds};
 
+// The kinds of entries: numbers, as the first of an entry's four words in C.
+pub(crate) const NAME: usize = 1;
+
+pub(crate) const VALUE: usize = 2;
+
+pub(crate) const DIRECTIVE: usize = 3;
+
+pub(crate) const COMMENTARY: usize = 4;
+
+pub(crate) const DATA: usize = 5;
+
+pub(crate) const CALL: usize = 6;
+
+pub(crate) const ANNOTATION: usize = 7;
+
+pub(crate) const TRICK: usize = 8;
+
 // An entry of a record, its place counted from the record's start.
 #[derive(Clone, Copy)]
 pub struct Entry {
@@ -39,7 +56,7 @@ fn moved_place(a: usize, kind: usize, x: usize) -> usize
     requires { a + x < 2 ^ 63 }
     ensures { result ≡ moved a kind x }
 {
-    if kind == 8 { x } else { a + x }
+    if kind == TRICK { x } else { a + x }
 }
 
 // Where a record's entries go: the lent words, the place where the record starts, and how many entries stand before the next one.

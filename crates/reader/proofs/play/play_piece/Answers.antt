@@ -12,7 +12,7 @@ unfolding played_piece
 loop-i-init c =
     let x = c.args in (
       c.lead_len-i.ensures.1,
-      reading_start (played_token x.c x.lead x.trump) x.entries.now x.at x.s.now x.t c.lead_len-i.result c.lead_len-i.ensures.0,
+      reading_start (played_token x.by.c x.by.lead x.by.trump) x.entries.now x.at x.s.now x.t c.lead_len-i.result c.lead_len-i.ensures.0,
       omega arith,
       c.requires.1,
       omega arith,
@@ -50,9 +50,9 @@ loop-i-preserved c =
     let y = c.upto.result.now in (
       omega (arith, h, simp length-drop at (ap length c.from-rest.ensures), c.word_len-n.ensures.1, simp length-drop at (ap length c.from.ensures), c.lead_len.ensures.1),
       reading_next k c.lead_len.result _ _ _ v.invariant.1 h c.from-rest.ensures c.word_len-n.ensures.0 c.upto.ensures c.from.ensures c.lead_len.ensures.0 r.ensures.0,
-      omega (arith, v.invariant.2, next_trick_few x.c x.lead x.trump v.w y r.ensures.0.answer),
+      omega (arith, v.invariant.2, next_trick_few x.by.c x.by.lead x.by.trump v.w y r.ensures.0.answer),
       r.ensures.1,
-      omega (arith, v.invariant.4, p, r.ensures.0.adds.count, (played_grown x.c x.lead x.trump v.w y).few),
+      omega (arith, v.invariant.4, p, r.ensures.0.adds.count, (played_grown x.by.c x.by.lead x.by.trump v.w y).few),
     )
 
 pub returns : goal.returns

@@ -8,7 +8,7 @@ use Rattle.reader.proofs.play.play_piece.Given as goal
 
 abbrev pub invariant-loop-i : goal.invariant-loop-i
 invariant-loop-i l = (l.i ≤ length l.s)
-    × AtToken (played_token l.c l.lead l.trump) l.initial.entries (played_piece l.c l.lead l.trump l.initial.w (piece l.at l.s)) l.at l.s l.entries l.w l.i
+    × AtToken (played_token l.by.c l.by.lead l.by.trump) l.initial.entries (played_piece l.by.c l.by.lead l.by.trump l.initial.w (piece l.at l.s)) l.at l.s l.entries l.w l.i
     × (l.w.count ≤ l.initial.w.count + l.i)
     × Seated l.w
     × (l.entries.count ≤ l.initial.entries.count + l.i)

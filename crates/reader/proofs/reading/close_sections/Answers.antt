@@ -9,10 +9,10 @@ use Rattle.reader.specs.SectionSteps.{walk_count}
 use Rattle.reader.proofs.WalkLaws.{section_count}
 use Rattle.reader.proofs.reading.close_sections.Goals as goal
 
-pub returns-then-kind-eq0 : goal.returns-then-kind-eq0
-returns-then-kind-eq0 c =
+pub returns-then-kind-eq-NO_SECTION : goal.returns-then-kind-eq-NO_SECTION
+returns-then-kind-eq-NO_SECTION c =
     let a = c.args in
-    (section_none a.c a.r.now a.s _ (eq-eqb _ _ c.if-kind-eq0.true), omega arith)
+    (section_none a.c a.r.now a.s _ (eq-eqb _ _ c.if-kind-eq-NO_SECTION.true), omega arith)
 
 pub last_entries-k-requires : goal.last_entries-k-requires
 last_entries-k-requires c =
@@ -32,4 +32,4 @@ pub returns : goal.returns
 returns c =
     let a = c.args in
     let p = c.requires in
-    section_closed a.c a.r.now a.s _ _ _ _ _ _ _ _ (ne_eqb _ _ c.if-kind-eq0.false) c.walk_section-w.ensures c.last_entries-k.ensures c.board_closed.ensures c.after_section.ensures (omega (arith, p.3.split_before))
+    section_closed a.c a.r.now a.s _ _ _ _ _ _ _ _ (ne_eqb _ _ c.if-kind-eq-NO_SECTION.false) c.walk_section-w.ensures c.last_entries-k.ensures c.board_closed.ensures c.after_section.ensures (omega (arith, p.3.split_before))

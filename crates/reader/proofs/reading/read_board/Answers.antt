@@ -12,7 +12,7 @@ use mathlib.Core.Path.{ap}
 use Prim.Native.Nat.{◌+◌, ◌*◌, ◌≤◌}
 use lib.ListN.{length}
 use Rattle.reader.proofs.reading.read_board.Goals as goal
-use Rattle.reader.proofs.reading.read_board.Goals.{then-o-ne0, else-o-ne0}
+use Rattle.reader.proofs.reading.read_board.Goals.{then-o-ne-NO_SECTION, else-o-ne-NO_SECTION}
 
 pub loop-p-init : goal.loop-p-init
 loop-p-init c = lines_start _ _ _ _ c.no_state-s.ensures
@@ -48,10 +48,10 @@ pub tag_read-s-requires : goal.tag_read-s-requires
 tag_read-s-requires c =
     let a = c.args in
     let v = c.loop-p in
-    let m : Emits v.entries c.if-o-ne0.entries c.if-o-ne0.s (closed a.c a.r.now v.s) × (c.if-o-ne0.s.n ≤ v.s.n + 6 * length a.r.now + 1) =
-    elim c.if-o-ne0.branch [
-      | then-o-ne0 w ↦ rw (w.entries-is, w.s-is) (w.close_sections-s.ensures.0, w.close_sections-s.ensures.1)
-      | else-o-ne0 w ↦ rw (w.entries-is, w.s-is) (section_none a.c a.r.now v.s _ (eq-eqb _ _ w.if-o-ne0.false), omega arith)
+    let m : Emits v.entries c.if-o-ne-NO_SECTION.entries c.if-o-ne-NO_SECTION.s (closed a.c a.r.now v.s) × (c.if-o-ne-NO_SECTION.s.n ≤ v.s.n + 6 * length a.r.now + 1) =
+    elim c.if-o-ne-NO_SECTION.branch [
+      | then-o-ne-NO_SECTION w ↦ rw (w.entries-is, w.s-is) (w.close_sections-s.ensures.0, w.close_sections-s.ensures.1)
+      | else-o-ne-NO_SECTION w ↦ rw (w.entries-is, w.s-is) (section_none a.c a.r.now v.s _ (eq-eqb _ _ w.if-o-ne-NO_SECTION.false), omega arith)
     ] in
     let l = line_at_lem c.args.r.now c.loop-p.p c.line_at-l.result.now c.loop-p-test.true c.line_at-l.ensures in
     (omega (arith, l.inside, c.requires.0, m.0.adds.start, v.invariant.start), omega (arith, m.0.adds.count, closed_counts a.c a.r.now v.s, ap (λ (x : State). x.n) m.0.answer, m.1, v.invariant.counted, left_few v.invariant, c.requires.0, c.requires.1), omega (arith, m.1, left_few v.invariant, c.requires.0), rw m.0.answer (closed_sound a.c a.r.now v.s v.invariant.sound), rw (m.0.answer, closed_tags a.c a.r.now v.s) (omega (arith, v.invariant.tags_few, v.invariant.inside, c.requires.0)), rw c.in-Tag.is at c.kind_in.ensures.1)
@@ -68,10 +68,10 @@ loop-p-preserved-in-Tag c =
     let v = c.loop-p in
     let l = c.line_at-l.result.now in
     let k = kind_tag c.kind_in.ensures.0 c.in-Tag.is in
-    let m : Emits v.entries c.if-o-ne0.entries c.if-o-ne0.s (closed a.c a.r.now v.s) × (c.if-o-ne0.s.n ≤ v.s.n + 6 * length a.r.now + 1) =
-    elim c.if-o-ne0.branch [
-      | then-o-ne0 w ↦ rw (w.entries-is, w.s-is) (w.close_sections-s.ensures.0, w.close_sections-s.ensures.1)
-      | else-o-ne0 w ↦ rw (w.entries-is, w.s-is) (section_none a.c a.r.now v.s _ (eq-eqb _ _ w.if-o-ne0.false), omega arith)
+    let m : Emits v.entries c.if-o-ne-NO_SECTION.entries c.if-o-ne-NO_SECTION.s (closed a.c a.r.now v.s) × (c.if-o-ne-NO_SECTION.s.n ≤ v.s.n + 6 * length a.r.now + 1) =
+    elim c.if-o-ne-NO_SECTION.branch [
+      | then-o-ne-NO_SECTION w ↦ rw (w.entries-is, w.s-is) (w.close_sections-s.ensures.0, w.close_sections-s.ensures.1)
+      | else-o-ne-NO_SECTION w ↦ rw (w.entries-is, w.s-is) (section_none a.c a.r.now v.s _ (eq-eqb _ _ w.if-o-ne-NO_SECTION.false), omega arith)
     ] in
     lines_next v.invariant _ (line_at_lem c.args.r.now c.loop-p.p c.line_at-l.result.now c.loop-p-test.true c.line_at-l.ensures) _ _
     (line_tag a.c a.r.now v.s v.p l v.invariant.sound _ k.0 k.1 (read_closed_lem a.c v.s v.p a.r.now l _ m.0 c.tag_read-s.ensures))
