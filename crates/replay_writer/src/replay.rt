@@ -107,7 +107,7 @@ fn is_read_on(
     c: Case,
     s: &[u8],
 ) -> bool {
-    read_pbn(text_of(c, s), cards, entries);
+    let _ = read_pbn(text_of(c, s), cards, entries);
     are_words(lent, left(c, cards)) & are_words(also, left(c, entries))
 }
 
