@@ -9,7 +9,7 @@ ghost use Rattle.lin.specs.PairSteps.{pair_of};
 use crate::pairs::{Command, PairAt, pairs_in};
 use reader::words::{call_code, same_word};
 use tables::letters::Conventions;
-use writer::tokens::put_call;
+use writer::places::put_call;
 
 // n or ns is 1, e or ew 2, b, both or all 3, anything else 0.
 pub(crate) fn vulnerability_in(t: &[u8]) -> u8

@@ -13,10 +13,10 @@ use crate::playing::put_tricks;
 use crate::survey::Survey;
 use reader::deal::Hands;
 use tables::letters::Conventions;
-use writer::auction::{put_before, put_last};
-use writer::deal::put_deal;
+use writer::places::{
+    put_before, put_call, put_deal, put_last, put_seat, put_vulnerability,
+};
 use writer::put::put_bytes;
-use writer::tokens::{put_call, put_seat, put_vulnerability};
 
 // From Event to Deal.
 fn put_head(

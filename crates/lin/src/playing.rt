@@ -11,8 +11,8 @@ use reader::play::{Slots, no_slots, slot_of, winner, with_slot};
 use reader::words::card_named;
 use tables::letters::Conventions;
 use tables::text::trim;
+use writer::places::put_card;
 use writer::put::{put_byte, put_bytes};
-use writer::tokens::put_card;
 
 // A card: exactly a suit and a rank; 52 for any other text.
 pub(crate) fn card_in(c: Conventions, t: &[u8]) -> u8

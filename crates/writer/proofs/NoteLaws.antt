@@ -26,7 +26,8 @@ use Rattle.reader.proofs.WordTokens.{front_until}
 use Rattle.writer.specs.Sections.{after_colon, is_number, note_in}
 use Rattle.writer.specs.Held.{entry_word, place_bytes}
 use Rattle.writer.specs.Items.{has_value, or_none, note_number, note_number_at, note_text}
-use Rattle.writer.specs.Puts.{Puts}
+use Rattle.tables.specs.declared.page.Page.{Page}
+use Rattle.tables.specs.Puts.{Puts}
 
 -- ---- what a note's value holds
 
@@ -204,13 +205,13 @@ module _ (text entries v own behind : List ℕ) (n place i k : ℕ) (h : n ≤ 2
   note_none l = sym (ap (same v) note_whole ∙ note_differs v behind n h (omega arith))
 
 -- A number put on a page of ten bytes stands there.
-pub decimal_put : (page page' : List ℕ) (n k : ℕ) → length page ≡ 10 → Puts page 0 (decimal n) page' k → take k page' ≡ decimal n
-decimal_put page page' n k l p =
+pub decimal_put : (n : ℕ) {p q : Page} {bytes : List ℕ} → Puts p (decimal n) q → p.at ≡ 0 → length p.bytes.now ≡ 10 → bytes ≡ q.bytes.now → take q.at bytes ≡ decimal n
+decimal_put n {p} {q} {bytes} a z l f =
     let m = decimal_few n in
-    let q = p.put (omega arith) in
-    let s = sets-eq (decimal n) page 0 (omega arith) in
-    let z : k ≡ length (decimal n) = q.next ∙ zero-add (length (decimal n)) in
-    rw (q.after, s, z) (take_at (decimal n) (drop (0 + length (decimal n)) page) (length (decimal n)) refl)
+    let t = rw z at (a.put (omega (arith, z))) in
+    let s = sets-eq (decimal n) p.bytes.now 0 (omega arith) in
+    let k : q.at ≡ length (decimal n) = t.next ∙ zero-add (length (decimal n)) in
+    rw (f, t.after, s, k) (take_at (decimal n) (drop (0 + length (decimal n)) p.bytes.now) (length (decimal n)) refl)
 
 -- ---- values in a row
 

@@ -1,12 +1,14 @@
 -- Laws of texts put one after the other, whose contract is Puts.
 use Prim.Native.Nat.{ℕ, ◌+◌, ◌≤◌, ◌<◌}
-use mathlib.Core.Path.{◌≡◌, refl, ◌∙◌}
-use mathlib.Core.List.{List, [], ◌++◌}
+use mathlib.Core.Path.{◌≡◌, refl, sym, ◌∙◌}
+use mathlib.Core.List.{List, [], ◌++◌, append-nil}
 use native.Mathlib.Omega.{arith}
 use lib.ListN.{length, length-append}
 use lib.Seq.{length-sets}
 use Rattle.tables.specs.PageSteps.{Put}
 use Rattle.tables.proofs.PageLaws.{put_then, ToPut, to_put, putting, put_all_lem}
+use Rattle.tables.specs.declared.page.Page.{Page}
+use Rattle.tables.specs.Puts as on
 use Rattle.writer.specs.Puts.{Puts}
 
 -- Two texts in a row are one.
@@ -61,3 +63,14 @@ puts_same e t = rw (← e) t
 
 pub puts_all : {p₀ : List ℕ} {at : ℕ} {bs p : List ℕ} {k : ℕ} → PutsLeft p₀ at bs p k [] → Puts p₀ at bs p k
 puts_all t = record { put = λ h. put_all_lem (t.left h); kept = t.kept }
+
+-- All that is left is put.
+pub puts_last : {p₀ : List ℕ} {at : ℕ} {bs p : List ℕ} {k : ℕ} (xs : List ℕ) {p' : List ℕ} {k' : ℕ} → PutsLeft p₀ at bs p k xs → Puts p k xs p' k' → Puts p₀ at bs p' k'
+puts_last xs t a = puts_all (puts_next xs [] (puts_same (sym (append-nil xs)) t) a)
+
+-- What is put on a page that holds lent bytes is put on them.
+pub puts_lent : {p q : Page} {bytes bytes' bs : List ℕ} → on.Puts p bs q → p.bytes.now ≡ bytes → bytes' ≡ q.bytes.now → Puts bytes p.at bs bytes' q.at
+puts_lent a e f = rw (← e, f) (record { put = a.put; kept = a.kept })
+
+pub puts_start : {p q : Page} {bytes bytes' bs : List ℕ} → on.Puts p bs q → p.at ≡ 0 → p.bytes.now ≡ bytes → bytes' ≡ q.bytes.now → Puts bytes 0 bs bytes' q.at
+puts_start a z e f = rw (← z) (puts_lent a e f)

@@ -1,5 +1,5 @@
 -- What the functions of writing put, said of the entries of a board as they stand in a row.
-use Rattle.std.specs.Prelude.{ℕ, zero, suc, ◌+◌, ◌-◌, ◌/◌, ◌%◌, Bool, true, false, cond, ◌&&◌, ◌||◌, not, List, [], ◌∷◌, ◌++◌, eqb, ltb, leb, length, drop, set, get_or}
+use Rattle.std.specs.Prelude.{ℕ, zero, suc, ◌+◌, ◌-◌, ◌/◌, ◌%◌, ◌≡◌, Bool, true, false, cond, ◌&&◌, ◌||◌, not, List, [], ◌∷◌, ◌++◌, eqb, ltb, leb, length, drop, set, get_or}
 use Rattle.tables.specs.declared.numbers.Number.{Number}
 use Rattle.tables.specs.declared.numbers.Number.TheVariants.{Value, Bad}
 use Rattle.tables.specs.declared.letters.Conventions.{Conventions}
@@ -13,7 +13,24 @@ use Rattle.tables.specs.Text.{ascii, trimmed, before}
 use Rattle.tables.specs.Numbers.{number_of, decimal}
 use Rattle.writer.specs.Tags.{WrittenTag}
 use Rattle.writer.specs.PresentSteps.{is_tag_written, is_any}
+use Rattle.writer.specs.declared.items.Items.{Items}
 use Rattle.writer.specs.Held.{entry_word, place_bytes, items_at}
+
+-- ---- entries in a row
+
+-- The entries that are meant; those from the entry e on.
+abbrev pub items_of : Items → List Item
+items_of is = items_at is.text.now is.entries.now is.first is.count
+
+abbrev pub items_from : Items → ℕ → List Item
+items_from is e = items_at is.text.now is.entries.now e (is.first + is.count - e)
+
+-- Of the same text as js, n entries from first on.
+pub record ItemsFrom (js : Items) (first n : ℕ) (is : Items) : Type 0 where
+  pub same_text : is.text.now ≡ js.text.now
+  pub same_entries : is.entries.now ≡ js.entries.now
+  pub first_is : is.first ≡ first
+  pub count_is : is.count ≡ n
 
 -- ---- names
 

@@ -7,8 +7,7 @@ ghost use Rattle.writer.specs.GivenCards.{marked, given_cleared, changed_at, cha
 ghost use Rattle.writer.specs.Finishings.{finish_number, finish_carries, finish_edition, first_above, IsFinished};
 
 use crate::give::give_tables;
-use crate::page::put_page;
-use crate::write::clear;
+use crate::write::{clear, put_edition};
 use planning::cards::{has_table, is_whole};
 use planning::editions::{
     Editions, EditionsRefusal, edition_refused, editions_carried, editions_number, read_both,
@@ -205,7 +204,7 @@ fn put_finished(
     ensures { FinishPut c new.now boards cards.old entries.now page.old result cards.new page.new }
 {
     mark_given(cards, boards);
-    let n = put_page(new, cards, entries, c, boards, page);
+    let n = put_edition(new, cards, entries, c, boards, page);
     clear_given(cards, boards);
     n
 }

@@ -5,7 +5,6 @@ ghost use Rattle.planning.specs.PlanSteps.{cards_in, tally};
 ghost use Rattle.writer.specs.Given.{answer_at};
 ghost use Rattle.writer.specs.GivenCards.{cells_at, source_cells, Gave};
 
-use crate::board::less;
 use planning::state::{BoardState, state_number, state_of};
 use reader::store::copy_in;
 
@@ -60,9 +59,9 @@ fn source_cells(
     match s {
         BoardState::Blank => cells_at(new_cards, k),
         BoardState::Own => cells_at(new_cards, k),
-        BoardState::Old(j) => cells_at(old_cards, less(j as usize, 1)),
-        BoardState::Near(j) => cells_at(new_cards, less(j as usize, 1)),
-        BoardState::Twin(j) => cells_at(new_cards, less(j as usize, 1)),
+        BoardState::Old(j) => cells_at(old_cards, (j as usize).saturating_sub(1)),
+        BoardState::Near(j) => cells_at(new_cards, (j as usize).saturating_sub(1)),
+        BoardState::Twin(j) => cells_at(new_cards, (j as usize).saturating_sub(1)),
         BoardState::Solve => answer_cells(answers, slip),
     }
 }

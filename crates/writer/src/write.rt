@@ -2,6 +2,8 @@
 ghost use Rattle.std.specs.Prelude.{◌≡◌};
 ghost use Rattle.tables.specs.Letters.{built_in};
 ghost use Rattle.reader.specs.Store.{zeros};
+ghost use Rattle.writer.specs.Puts.{Puts};
+ghost use Rattle.writer.specs.BoardTexts.{page_held};
 ghost use Rattle.writer.specs.Writings.{write_number, write_carries, IsWritten};
 ghost use Rattle.writer.specs.WritingSteps.{WritingEnded};
 
@@ -9,7 +11,7 @@ use crate::page::put_page;
 use reader::edition::{ReadRefusal, Reading, read_carried, read_number, read_pbn_with};
 use reader::store::zero;
 use tables::letters::{Conventions, built_in};
-use tables::page::finish;
+use tables::page::{Page, finish};
 
 // Refusals 1 to 3 of the edition, and 7 with the bytes needed; specs/Writings.antt gives the numbers.
 #[derive(Clone, Copy)]
@@ -50,6 +52,22 @@ pub fn clear(page: &mut [u8])
     finish(page, 0);
 }
 
+// Puts the page of boards that were just read on lent bytes, and says how many bytes it has.
+pub(crate) fn put_edition(
+    text: &[u8],
+    cards: &[u32],
+    entries: &[u32],
+    c: Conventions,
+    boards: usize,
+    bytes: &mut [u8],
+) -> usize
+    ensures { Puts bytes.old 0 (page_held c text.now cards.now entries.now boards) bytes.new result }
+{
+    let mut page = Page::new(bytes);
+    put_page(&mut page, text, cards, entries, c, boards);
+    page.at
+}
+
 // The answer for n bytes; all that was lent is set to 0 where they do not fit.
 fn end_writing(n: usize, cards: &mut [u32], entries: &mut [u32], page: &mut [u8]) -> Writing
     ensures { WritingEnded n cards.old entries.old page.old result cards.new entries.new page.new }
@@ -77,7 +95,7 @@ pub fn write_pbn_with(
     let reading = read_pbn_with(c, text, cards, entries);
     match reading {
         Reading::Taken(boards, _) => {
-            let n = put_page(text, cards, entries, c, boards as usize, page);
+            let n = put_edition(text, cards, entries, c, boards as usize, page);
             end_writing(n, cards, entries, page)
         }
         Reading::Refused(f) => {

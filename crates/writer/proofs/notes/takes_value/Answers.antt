@@ -1,17 +1,21 @@
-use Rattle.writer.proofs.NotePlaces.{taken_first, taken_own, taken_other}
+use Rattle.writer.proofs.NotePlaces.{taken_none, taken_other, taken_own}
+use native.Mathlib.Omega.{arith}
 use Rattle.writer.proofs.notes.takes_value.Goals as goal
 
-pub returns-then-fresh : goal.returns-then-fresh
-returns-then-fresh c =
-    let a = c.args in
-    rw c.if-fresh.true (taken_first a.text.now a.entries.now a.places.now a.value.now a.n c.note_of-m.result c.note_of-m.ensures)
+pub returns-in_default : goal.returns-in_default
+returns-in_default c =
+    let is = c.args.notes.now.items in
+    let v = c.args.value.now in
+    taken_none is.text.now is.entries.now c.args.notes.now.places v c.args.n c.args.fresh (omega arith) c.in_default.ensures
 
-pub returns-then-note_number-n : goal.returns-then-note_number-n
-returns-then-note_number-n c =
-    let a = c.args in
-    rw c.if-fresh.false (taken_own a.text.now a.entries.now a.places.now a.value.now a.n c.note_of.result c.note_of.ensures)
+pub returns-then-m-n : goal.returns-then-m-n
+returns-then-m-n c =
+    let is = c.args.notes.now.items in
+    let v = c.args.value.now in
+    taken_own is.text.now is.entries.now c.args.notes.now.places v c.args.n c.in-Some.m c.args.fresh c.is_written_as-written.result (omega arith) c.in-Some.ensures.0 c.is_written_as-written.ensures c.if-m-n.true
 
 pub returns : goal.returns
 returns c =
-    let a = c.args in
-    rw c.if-fresh.false (taken_other a.text.now a.entries.now a.places.now a.value.now a.n c.note_number.result c.requires c.note_number.ensures.0 c.if-note_number-n.false)
+    let is = c.args.notes.now.items in
+    let v = c.args.value.now in
+    taken_other is.text.now is.entries.now c.args.notes.now.places v c.args.n c.in-Some.m c.args.fresh c.is_written_as-written.result (omega arith) c.in-Some.ensures.1 c.in-Some.ensures.0 c.is_written_as-written.ensures c.if-m-n.false
