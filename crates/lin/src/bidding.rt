@@ -1,14 +1,16 @@
 // The vulnerability (parse_sv), the calls, the contract and its declarer.
 ghost use Rattle.std.specs.Prelude.{◌≡◌, ◌≤◌, ◌<◌};
-ghost use Rattle.writer.specs.Puts.{Puts};
+ghost use Rattle.tables.specs.Puts.{Puts};
 ghost use Rattle.lin.specs.Bidding.{vulnerability_in, unalerted, call_in, calls_from, is_bid, strain, next_seat, with_call, names, first_to_name};
-ghost use Rattle.lin.specs.BiddingSteps.{last_text};
+ghost use Rattle.lin.specs.BiddingSteps.{call_at, last_text};
 ghost use Rattle.lin.specs.Pairs.{pairs_of};
+ghost use Rattle.lin.specs.PairSteps.{pair_of};
 
-use crate::pairs::{NextPair, next_pair, part};
+use crate::pairs::{Command, PairAt, pairs_in};
 use reader::words::{call_code, same_word};
 use tables::letters::Conventions;
-use writer::places::put_call;
+use tables::page::Page;
+use writer::tokens::put_call;
 
 // n or ns is 1, e or ew 2, b, both or all 3, anything else 0.
 pub(crate) fn vulnerability_in(t: &[u8]) -> u8
@@ -54,6 +56,19 @@ pub(crate) fn call_in(c: Conventions, value: &[u8]) -> u8
         return 37;
     }
     call_code(c, t)
+}
+
+// The call of a pair, where it is one.
+pub(crate) fn call_at(c: Conventions, p: PairAt) -> Option<u8>
+    ensures { result ≡ call_at c (pair_of p.entry) }
+{
+    if p.command == Command::Mb {
+        let code = call_in(c, p.value);
+        if code < 47 {
+            return Some(code);
+        }
+    }
+    None
 }
 
 // The last bid, 0 where there is none; the seat that made it, counted from the dealer; the last X (36) or XX (37) behind it, or 0.
@@ -119,36 +134,29 @@ fn is_named(k: Contract, seat: u8, code: u8) -> bool
 pub(crate) fn first_to_name(c: Conventions, text: &[u8], k: Contract) -> u8
     ensures { (result ≡ first_to_name k 0 (calls_from c (pairs_of text.now))) × (result ≤ 4) }
 {
-    let mut at = 0;
     let mut seat: u8 = 0;
-    loop {
-        let NextPair::Found(p) = next_pair(text, at) else {
-            return 4;
+    for p in pairs_in(text) {
+        let Some(code) = call_at(c, p) else {
+            continue;
         };
-        at = p.end + 1;
-        if p.command == 5 {
-            let code = call_in(c, part(text, p.start, p.end));
-            if code < 47 {
-                if is_named(k, seat, code) {
-                    return seat;
-                }
-                seat = next_seat(seat);
-                continue;
-            }
+        if is_named(k, seat, code) {
+            return seat;
         }
+        seat = next_seat(seat);
     }
+    4
 }
 
 // A contract: the bid, then X or XX.
-pub(crate) fn put_contract(page: &mut [u8], at: usize, c: Conventions, k: Contract) -> usize
-    ensures { Puts page.old at (last_text c k) page.new result }
+pub(crate) fn put_contract(page: &mut Page, c: Conventions, k: Contract)
+    ensures { Puts page.old (last_text c k) page.new }
 {
     if k.bid == 0 {
-        return at;
+        return;
     }
-    let a = put_call(page, at, c, k.bid as usize);
+    put_call(page, c, k.bid as usize);
     if k.doubling == 0 {
-        return a;
+        return;
     }
-    put_call(page, a, c, k.doubling as usize)
+    put_call(page, c, k.doubling as usize);
 }

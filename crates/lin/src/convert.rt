@@ -6,7 +6,7 @@ ghost use Rattle.lin.specs.ConversionSteps.{ConvertingEnded};
 
 use crate::pieces::{Progress, put_boards};
 use tables::letters::{Conventions, built_in};
-use tables::page::finish;
+use tables::page::{Page, finish};
 use writer::write::clear;
 
 // 1 with the text's length, 16, and 7 with the bytes needed; specs/Conversions.antt gives the numbers.
@@ -44,18 +44,19 @@ pub fn lin_carried(f: LinRefusal) -> u64
     }
 }
 
-// The answer for what was put; the page is set to 0 where it is a refusal.
-fn end_converting(g: Progress, page: &mut [u8]) -> Converted
-    ensures { ConvertingEnded g page.old result page.new }
+// The answer for what was put, n bytes; the page is set to 0 where it is a refusal.
+fn end_converting(put: Option<Progress>, n: usize, page: &mut [u8]) -> Converted
+    ensures { ConvertingEnded put n page.old result page.new }
 {
-    if g.any & g.good {
-        let n = g.at;
-        if n <= page.len() {
-            finish(page, n);
-            return Converted::Page(n as u64, g.boards);
+    if let Some(g) = put {
+        if g.any {
+            if n <= page.len() {
+                finish(page, n);
+                return Converted::Page(n as u64, g.boards);
+            }
+            clear(page);
+            return Converted::Refused(LinRefusal::PageFull(n as u64));
         }
-        clear(page);
-        return Converted::Refused(LinRefusal::PageFull(n as u64));
     }
     clear(page);
     Converted::Refused(LinRefusal::NoDeal)
@@ -70,8 +71,10 @@ pub fn lin_to_pbn_with(c: Conventions, text: &[u8], page: &mut [u8]) -> Converte
         clear(page);
         return Converted::Refused(LinRefusal::Overlong(n as u64));
     }
-    let g = put_boards(c, text, page);
-    end_converting(g, page)
+    let mut out = Page::new(page);
+    let put = put_boards(&mut out, c, text);
+    let size = out.at;
+    end_converting(put, size, page)
 }
 
 // Converts a text.
