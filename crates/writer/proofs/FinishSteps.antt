@@ -1,5 +1,5 @@
 -- Laws of the steps of finishing: the answers are checked, the page is put and ended.
-use Prim.Native.Nat.{ℕ, ◌+◌, ◌*◌, ◌/◌, ◌%◌, ◌≤◌, ◌<◌}
+use Prim.Native.Nat.{ℕ, ◌*◌, ◌/◌, ◌%◌, ◌≤◌, ◌<◌}
 use mathlib.Core.Path.{◌≡◌, refl, sym, ap, ◌∙◌}
 use mathlib.Core.Bool.{true, false, cond}
 use mathlib.Core.List.{List, [], ◌∷◌}
@@ -30,9 +30,9 @@ use Rattle.writer.specs.declared.finish.Checked.{Checked}
 use Rattle.writer.specs.declared.finish.Checked.TheVariants.{Right, Wrong}
 use Rattle.writer.specs.declared.finish.Finishing.{Finishing}
 use Rattle.writer.specs.declared.finish.Finishing.TheVariants.{Finished, Refused}
-use Rattle.writer.specs.Puts.{Puts}
 use Rattle.writer.specs.BoardTexts.{page_held}
 use Rattle.writer.specs.Writings.{page_after}
+use Rattle.writer.specs.WritingSteps.{PagePut}
 use Rattle.writer.specs.Finishings.{first_above, finished_on, answered_by, is_finished}
 use Rattle.writer.specs.GivenCards.{marked, given_cleared, changed_all, checked_of, given_box, tabled_page, Gave, FinishEnded, FinishPut, BoardsFinished}
 use Rattle.writer.proofs.ChangedCards.{marked_long, cleared_long, changed_length}
@@ -96,7 +96,7 @@ ended_full {n} {boxes} {boxes'} {page} h z =
 -- ---- the page put
 
 pub put_done : {c : Conventions} {new cards cards₁ cards₂ entries page page' : List ℕ} {n r : ℕ} → cards₁ ≡ changed_all marked n cards
-    → Puts page 0 (page_held c new cards₁ entries n) page' r → cards₂ ≡ changed_all given_cleared n cards₁
+    → PagePut page (page_held c new cards₁ entries n) page' r → cards₂ ≡ changed_all given_cleared n cards₁
     → FinishPut c new n cards entries page r cards₂ page'
 put_done {n = n} e p f = record { put = rw e at p; cards_after = f ∙ ap (changed_all given_cleared n) e }
 
@@ -130,7 +130,7 @@ module _ {c : Conventions} {new : List ℕ} {m n : ℕ} {oc oe nc ne answers nc�
   boards_right {page} {page₁} {page₂} {nc₂} {k} {r} {boxes'} t p d =
       let boxes = four oc oe nc ne in
       let bs = tabled_page c new m n boxes answers in
-      let put : Puts page 0 bs page₁ k = rw g.cards_after at p.put in
+      let put : PagePut page bs page₁ k = rw g.cards_after at p.put in
       let cards : nc₂ ≡ changed_all given_cleared n (changed_all marked n (given_box m n boxes answers)) =
       p.cards_after ∙ ap (λ (l : List ℕ). changed_all given_cleared n (changed_all marked n l)) g.cards_after in
       let well : is_finished r ≡ leb k (length page₁) = ap is_finished d.answer ∙ finished_is k (length page₁) in
