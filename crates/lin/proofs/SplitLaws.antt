@@ -17,7 +17,7 @@ use Rattle.lin.specs.declared.pairs.Command.TheVariants.{Qx, Heading}
 use Rattle.lin.specs.Pairs.{Pair, place_of, pairs_of}
 use Rattle.lin.specs.PairSteps.{between, pair_of, Sealed, IsNext}
 use Rattle.lin.specs.Pieces.{split, with_deal, line_pieces}
-use Rattle.lin.specs.PieceSteps.{is_some, split_from}
+use Rattle.lin.specs.PieceSteps.{has_pairs, split_from}
 use Rattle.lin.proofs.PairLaws.{nothing_paired, same_command, other_command}
 use Rattle.lin.proofs.PieceLaws.{split_is}
 
@@ -69,11 +69,11 @@ sealed_join x u s t y =
     ap pairs_of (append_assoc x u y) ∙ s (u ++ y) ∙ ap (λ (ps : List Pair). pairs_of x ++ ps) (t y)
     ∙ sym (append_assoc (pairs_of x) (pairs_of u) (pairs_of y)) ∙ ap (λ (ps : List Pair). ps ++ pairs_of y) (sym (s u))
 
-some_last : (ps : List Pair) (p : Pair) → is_some (ps ++ p ∷ []) ≡ true
+some_last : (ps : List Pair) (p : Pair) → has_pairs (ps ++ p ∷ []) ≡ true
 some_last [] p = refl
 some_last (q ∷ ps) p = refl
 
-some_behind : (ps qs : List Pair) → is_some qs ≡ true → is_some (ps ++ qs) ≡ true
+some_behind : (ps qs : List Pair) → has_pairs qs ≡ true → has_pairs (ps ++ qs) ≡ true
 some_behind [] qs e = e
 some_behind (p ∷ ps) qs e = refl
 
@@ -84,7 +84,7 @@ pub record Places (text : List ℕ) (start run here : ℕ) : Type 0 where
   pub here_in : here ≤ length text + 1
   pub own_whole : pairs_of (drop start text) ≡ pairs_of (between text start run) ++ pairs_of (drop run text)
   pub run_whole : pairs_of (drop run text) ≡ pairs_of (between text run here) ++ pairs_of (drop here text)
-  pub own_some : start < run → is_some (pairs_of (between text start run)) ≡ true
+  pub own_some : start < run → has_pairs (pairs_of (between text start run)) ≡ true
   pub own_sealed : run ≤ length text → Sealed (between text start run)
   pub run_sealed : here ≤ length text → Sealed (between text run here)
 
@@ -235,7 +235,7 @@ module _ (start run : ℕ) (s : Pairs) (p : PairAt) (r : Pairs) (t : Places s.te
       same_place g = omega (arith, g, t.start_run)
 
       -- A qx here is the first pair of its piece.
-      goes_on : (q : Bool) → eqb (place_of p.command) 1 ≡ q → (eqb (place_of p.command) 1 && is_some own) ≡ false
+      goes_on : (q : Bool) → eqb (place_of p.command) 1 ≡ q → (eqb (place_of p.command) 1 && has_pairs own) ≡ false
       goes_on false z = rw z
       goes_on true z =
           let same : run ≡ start = same_place (f (same_command p.command Qx z)) in

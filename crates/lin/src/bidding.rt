@@ -1,6 +1,6 @@
 // The vulnerability (parse_sv), the calls, the contract and its declarer.
 ghost use Rattle.std.specs.Prelude.{◌≡◌, ◌≤◌, ◌<◌};
-ghost use Rattle.writer.specs.Puts.{Puts};
+ghost use Rattle.tables.specs.Puts.{Puts};
 ghost use Rattle.lin.specs.Bidding.{vulnerability_in, unalerted, call_in, calls_from, is_bid, strain, next_seat, with_call, names, first_to_name};
 ghost use Rattle.lin.specs.BiddingSteps.{call_at, last_text};
 ghost use Rattle.lin.specs.Pairs.{pairs_of};
@@ -9,7 +9,8 @@ ghost use Rattle.lin.specs.PairSteps.{pair_of};
 use crate::pairs::{Command, PairAt, pairs_in};
 use reader::words::{call_code, same_word};
 use tables::letters::Conventions;
-use writer::places::put_call;
+use tables::page::Page;
+use writer::tokens::put_call;
 
 // n or ns is 1, e or ew 2, b, both or all 3, anything else 0.
 pub(crate) fn vulnerability_in(t: &[u8]) -> u8
@@ -148,15 +149,15 @@ pub(crate) fn first_to_name(c: Conventions, text: &[u8], k: Contract) -> u8
 }
 
 // A contract: the bid, then X or XX.
-pub(crate) fn put_contract(page: &mut [u8], at: usize, c: Conventions, k: Contract) -> usize
-    ensures { Puts page.old at (last_text c k) page.new result }
+pub(crate) fn put_contract(page: &mut Page, c: Conventions, k: Contract)
+    ensures { Puts page.old (last_text c k) page.new }
 {
     if k.bid == 0 {
-        return at;
+        return;
     }
-    let a = put_call(page, at, c, k.bid as usize);
+    put_call(page, c, k.bid as usize);
     if k.doubling == 0 {
-        return a;
+        return;
     }
-    put_call(page, a, c, k.doubling as usize)
+    put_call(page, c, k.doubling as usize);
 }

@@ -1,7 +1,7 @@
 // Which pairs make a board (parse_lin_file, split_at_boards), and the boards put one after the other.
 ghost use Rattle.std.specs.Prelude.{◌≡◌, ◌≤◌, ◌^◌};
 ghost use Rattle.tables.specs.Text.{lines};
-ghost use Rattle.writer.specs.Puts.{Puts};
+ghost use Rattle.tables.specs.Puts.{Puts};
 ghost use Rattle.lin.specs.Pairs.{pairs_of};
 ghost use Rattle.lin.specs.Pieces.{split, with_deal, line_pieces, board_pieces};
 ghost use Rattle.lin.specs.PieceSteps.{no_progress, above_text, any_bits, Goes, GoesIf, GoesAll};
@@ -11,17 +11,14 @@ use crate::pairs::{Command, has_pair, pairs_in};
 use crate::survey::survey_of;
 use reader::deal::Hands;
 use tables::letters::Conventions;
+use tables::page::Page;
 use tables::text::{from, index_of, trim, upto};
-use writer::put::{put_byte, put_bytes};
 
-// How far the page has come: the place behind what was put, the boards, whether one of them has a card, and whether all make deals. Once
-// one does not, nothing more is put.
+// How far the page has come: the boards, which all make deals, and whether one of them has a card.
 #[derive(Clone, Copy)]
 pub struct Progress {
-    pub at: usize,
     pub boards: u64,
     pub any: bool,
-    pub good: bool,
 }
 
 // Before the first board.
@@ -29,21 +26,20 @@ fn no_progress() -> Progress
     ensures { result ≡ no_progress }
 {
     Progress {
-        at: 0,
         boards: 0,
         any: false,
-        good: true,
     }
 }
 
 // The built-in header before the first board, an empty line before any other.
-fn put_above(page: &mut [u8], at: usize, first: bool) -> usize
-    ensures { Puts page.old at (above_text first) page.new result }
+fn put_above(page: &mut Page, first: bool)
+    ensures { Puts page.old (above_text first) page.new }
 {
     if first {
-        return put_bytes(page, at, b"% PBN 2.1\n% EXPORT\n\n");
+        page.put_text(b"% PBN 2.1\n% EXPORT\n\n");
+        return;
     }
-    put_byte(page, at, 10)
+    page.put_byte(10);
 }
 
 fn has_cards(h: Hands) -> bool
@@ -52,46 +48,34 @@ fn has_cards(h: Hands) -> bool
     (h.north != 0) | ((h.east != 0) | ((h.south != 0) | (h.west != 0)))
 }
 
-// One more board, from the part of the text that is its own.
-fn put_piece(c: Conventions, text: &[u8], page: &mut [u8], g: Progress) -> Progress
+// One more board, from the part of the text that is its own; None where it makes no deal.
+fn put_piece(page: &mut Page, c: Conventions, text: &[u8], g: Progress) -> Option<Progress>
     requires { g.boards ≤ 2 ^ 63 }
     ensures { Goes c (pairs_of text.now) page.old g page.new result }
 {
-    if g.good {
-        let s = survey_of(c, text);
-        if let Some(hands) = s.deal.hands {
-            let above = put_above(page, g.at, g.boards == 0);
-            let at = put_board(c, text, s, hands, page, above);
-            return Progress {
-                at,
-                boards: g.boards + 1,
-                any: g.any | has_cards(hands),
-                good: true,
-            };
-        }
-        return Progress {
-            at: g.at,
-            boards: g.boards,
-            any: g.any,
-            good: false,
-        };
-    }
-    g
+    let s = survey_of(c, text);
+    let hands = s.deal.hands?;
+    put_above(page, g.boards == 0);
+    put_board(page, c, text, s, hands);
+    Some(Progress {
+        boards: g.boards + 1,
+        any: g.any | has_cards(hands),
+    })
 }
 
 // The same, if the part has an md.
-fn put_dealt(c: Conventions, text: &[u8], page: &mut [u8], g: Progress) -> Progress
+fn put_dealt(page: &mut Page, c: Conventions, text: &[u8], g: Progress) -> Option<Progress>
     requires { g.boards ≤ 2 ^ 63 }
     ensures { GoesIf c (pairs_of text.now) page.old g page.new result }
 {
     if has_pair(text, Command::Md) {
-        return put_piece(c, text, page, g);
+        return put_piece(page, c, text, g);
     }
-    g
+    Some(g)
 }
 
 // The boards of a text without a qx: its lines.
-fn put_lines(c: Conventions, text: &[u8], page: &mut [u8]) -> Progress
+fn put_lines(page: &mut Page, c: Conventions, text: &[u8]) -> Option<Progress>
     ensures { GoesAll c (line_pieces (lines text.now)) page.old page.new result }
 {
     let mut g = no_progress();
@@ -102,15 +86,15 @@ fn put_lines(c: Conventions, text: &[u8], page: &mut [u8]) -> Progress
         at = at + n + 1;
         let line = trim(upto(rest, n));
         if line.len() > 0 {
-            g = put_piece(c, line, page, g);
+            g = put_piece(page, c, line, g)?;
             continue;
         }
     }
-    g
+    Some(g)
 }
 
 // The boards of a text with a qx; run is the place behind the last pair that is no mn or pn.
-fn put_split(c: Conventions, text: &[u8], page: &mut [u8]) -> Progress
+fn put_split(page: &mut Page, c: Conventions, text: &[u8]) -> Option<Progress>
     ensures { GoesAll c (with_deal (split (pairs_of text.now))) page.old page.new result }
 {
     let mut g = no_progress();
@@ -121,20 +105,22 @@ fn put_split(c: Conventions, text: &[u8], page: &mut [u8]) -> Progress
             continue;
         }
         if (p.command == Command::Qx) & (start < run) {
-            g = put_dealt(c, upto(from(text, start), run - start), page, g);
+            g = put_dealt(page, c, upto(from(text, start), run - start), g)?;
             start = run;
+            run = p.end;
+            continue;
         }
         run = p.end;
     }
-    put_dealt(c, from(text, start), page, g)
+    put_dealt(page, c, from(text, start), g)
 }
 
-// All boards of a text.
-pub(crate) fn put_boards(c: Conventions, text: &[u8], page: &mut [u8]) -> Progress
+// All boards of a text; None, and nothing told of the page, where one makes no deal.
+pub(crate) fn put_boards(page: &mut Page, c: Conventions, text: &[u8]) -> Option<Progress>
     ensures { GoesAll c (board_pieces text.now) page.old page.new result }
 {
     if has_pair(text, Command::Qx) {
-        return put_split(c, text, page);
+        return put_split(page, c, text);
     }
-    put_lines(c, text, page)
+    put_lines(page, c, text)
 }

@@ -1,5 +1,5 @@
 -- Laws of the steps of finishing: the answers are checked, the page is put and ended.
-use Prim.Native.Nat.{ℕ, ◌+◌, ◌*◌, ◌/◌, ◌%◌, ◌≤◌, ◌<◌}
+use Prim.Native.Nat.{ℕ, ◌*◌, ◌/◌, ◌%◌, ◌≤◌, ◌<◌}
 use mathlib.Core.Path.{◌≡◌, refl, sym, ap, ◌∙◌}
 use mathlib.Core.Bool.{true, false, cond}
 use mathlib.Core.List.{List, [], ◌∷◌}
@@ -25,9 +25,9 @@ use Rattle.planning.specs.Plans.{Boxes}
 use Rattle.planning.proofs.BoxLaws.{four}
 use Rattle.writer.specs.declared.finish.FinishRefusal.{FinishRefusal}
 use Rattle.writer.specs.declared.finish.FinishRefusal.TheVariants.{Answers, Impossible, PageFull}
-use Rattle.writer.specs.Puts.{Puts}
 use Rattle.writer.specs.BoardTexts.{page_held}
 use Rattle.writer.specs.Writings.{page_after}
+use Rattle.writer.specs.WritingSteps.{PagePut}
 use Rattle.writer.specs.Finishings.{first_above, finished_on, checked_of}
 use Rattle.writer.specs.GivenCards.{marked, given_cleared, changed_all, given_box, tabled_page, Gave, FinishEnded, FinishPut, BoardsFinished}
 use Rattle.writer.proofs.ChangedCards.{marked_long, cleared_long, changed_length}
@@ -88,7 +88,7 @@ ended_full {n} {boxes} {boxes'} {page} h z =
 -- ---- the page put
 
 pub put_done : {c : Conventions} {new cards cards₁ cards₂ entries page page' : List ℕ} {n r : ℕ} → cards₁ ≡ changed_all marked n cards
-    → Puts page 0 (page_held c new cards₁ entries n) page' r → cards₂ ≡ changed_all given_cleared n cards₁
+    → PagePut page (page_held c new cards₁ entries n) page' r → cards₂ ≡ changed_all given_cleared n cards₁
     → FinishPut c new n cards entries page r cards₂ page'
 put_done {n = n} e p f = record { put = rw e at p; cards_after = f ∙ ap (changed_all given_cleared n) e }
 
@@ -110,7 +110,7 @@ module _ {c : Conventions} {new : List ℕ} {m n : ℕ} {oc oe nc ne answers nc�
   boards_right {page} {page₁} {page₂} {nc₂} {k} {r} {boxes'} t p d =
       let boxes = four oc oe nc ne in
       let bs = tabled_page c new m n boxes answers in
-      let put : Puts page 0 bs page₁ k = rw g.cards_after at p.put in
+      let put : PagePut page bs page₁ k = rw g.cards_after at p.put in
       let cards : nc₂ ≡ changed_all given_cleared n (changed_all marked n (given_box m n boxes answers)) =
       p.cards_after ∙ ap (λ (l : List ℕ). changed_all given_cleared n (changed_all marked n l)) g.cards_after in
       let well : is_ok r ≡ leb k (length page₁) = ap is_ok d.answer ∙ finished_is k (length page₁) in

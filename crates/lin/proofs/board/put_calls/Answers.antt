@@ -1,6 +1,6 @@
 use mathlib.Core.Path.{sym, ◌∙◌}
 use native.Mathlib.Omega.{arith}
-use Rattle.writer.proofs.PutLaws.{puts_same, puts_next, puts_then}
+use Rattle.tables.proofs.PutsLaws.{puts_same, puts_next, puts_then}
 use Rattle.lin.proofs.BoardLaws.{tokens_turn, tokens_same}
 use Rattle.lin.proofs.BiddingLaws.{calls_met, calls_none}
 use Rattle.lin.proofs.board.put_calls.Goals as goal
@@ -16,4 +16,4 @@ loop-p-preserved c =
     let l = c.loop-p in
     let n = c.in-Some.ensures.steps in
     let m = calls_met _ _ _ _ n _ (sym c.call_at.ensures ∙ c.in-Some-call_at.is) in
-    (puts_next _ _ (puts_same (tokens_turn _ l.n _ _ _ m) l.invariant.0) (puts_then c.put_before-a.ensures c.put_call-k.ensures), omega (arith, n.behind, n.place, l.invariant.1))
+    (puts_next _ _ (puts_same (tokens_turn _ l.n _ _ _ m) l.invariant.0) (puts_then c.put_before.ensures c.put_call.ensures), omega (arith, n.behind, n.place, l.invariant.1))

@@ -5,7 +5,7 @@ use Rattle.lin.proofs.pieces.put_above.Goals as goal
 pub returns-then-first : goal.returns-then-first
 unfolding above_text built_in_header
 returns-then-first c =
-    rw c.if-first.true c.put_bytes.ensures
+    rw c.if-first.true c.put_text.ensures
 
 pub returns : goal.returns
 unfolding above_text

@@ -5,7 +5,7 @@ use native.Mathlib.Omega.{arith}
 use lib.ListN.{take, length-drop}
 use Rattle.tables.specs.Text.{before, differs, trimmed}
 use Rattle.tables.proofs.TextLaws.{take_front}
-use Rattle.lin.proofs.GoneLaws.{going_first, going_same, going_next, going_end}
+use Rattle.lin.proofs.GoneLaws.{going_first, going_same, going_next, going_off, going_end, goes_more}
 use Rattle.lin.proofs.SplitLaws.{line_some, line_blank, lines_done}
 use lib.ListN.{length}
 use Rattle.lin.proofs.pieces.put_lines.Goals as goal
@@ -23,10 +23,20 @@ overflow_add-at-in-loop-at c =
     let l = c.loop-at in
     omega (arith, c.loop-at-test.true, c.index_of-n.ensures.1, ap length c.from-rest.ensures, length-drop l.at c.args.text.now)
 
-pub put_piece-g-requires : goal.put_piece-g-requires
-put_piece-g-requires c =
+pub put_piece-requires : goal.put_piece-requires
+put_piece-requires c =
     let l = c.loop-at in
     omega (arith, l.invariant.1, l.invariant.2)
+
+pub returns-in_err-g : goal.returns-in_err-g
+returns-in_err-g c =
+    let l = c.loop-at in
+    let f = c.from-rest.ensures in
+    let n = c.index_of-n.ensures in
+    let k = n.0 ∙ ap (λ (s : List ℕ). length (before 10 s)) f in
+    let e = c.trim-line.ensures ∙ ap trimmed (c.upto.ensures ∙ ap (λ (i : ℕ). take i c.from-rest.result.now) n.0 ∙ take_front (differs 10) c.from-rest.result.now ∙ ap (before 10) f) in
+    let m = line_some _ _ _ _ c.loop-at-test.true e k (λ z. omega (arith, z, c.if-line-gt0.true)) in
+    rw c.from_residual.ensures (going_off (going_same m l.invariant.0) (rw c.in_err-g.was at c.put_piece.ensures))
 
 pub loop-at-preserved-then-line-gt0 : goal.loop-at-preserved-then-line-gt0
 loop-at-preserved-then-line-gt0 c =
@@ -36,8 +46,8 @@ loop-at-preserved-then-line-gt0 c =
     let k = n.0 ∙ ap (λ (s : List ℕ). length (before 10 s)) f in
     let e = c.trim-line.ensures ∙ ap trimmed (c.upto.ensures ∙ ap (λ (i : ℕ). take i c.from-rest.result.now) n.0 ∙ take_front (differs 10) c.from-rest.result.now ∙ ap (before 10) f) in
     let m = line_some _ _ _ _ c.loop-at-test.true e k (λ z. omega (arith, z, c.if-line-gt0.true)) in
-    let p = c.put_piece-g.ensures in
-    (going_next (going_same m l.invariant.0) p, omega (arith, p.one_more, l.invariant.1), omega (arith, c.loop-at-test.true, n.1, ap length f, length-drop l.at c.args.text.now))
+    let p = c.in_ok-g.ensures in
+    (going_next (going_same m l.invariant.0) p, omega (arith, goes_more p, l.invariant.1), omega (arith, c.loop-at-test.true, n.1, ap length f, length-drop l.at c.args.text.now))
 
 pub loop-at-preserved : goal.loop-at-preserved
 loop-at-preserved c =

@@ -7,7 +7,7 @@ use lib.ListN.{length, drop}
 use Rattle.lin.proofs.pieces.put_lines.Given as goal
 
 abbrev pub invariant-loop-at : goal.invariant-loop-at
-invariant-loop-at l = Going l.c (line_pieces (lines l.text)) (line_pieces (lines (drop l.at l.text))) l.initial.page l.page l.g × (l.g.boards ≤ l.at) × (l.at ≤ length l.text + 1)
+invariant-loop-at l = Going l.c (line_pieces (lines l.text)) (line_pieces (lines (drop l.at l.text))) l.fn.page l.page l.g × (l.g.boards ≤ l.at) × (l.at ≤ length l.text + 1)
 
 abbrev pub decreases-loop-at : goal.decreases-loop-at
 decreases-loop-at l = length l.text - l.at

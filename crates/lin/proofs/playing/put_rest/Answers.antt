@@ -1,11 +1,11 @@
 use borrow.Author.Tests.{eq-eqb, ne_eqb}
 use Rattle.lin.specs.PlayingSteps.{last_line}
-use Rattle.writer.proofs.PutLaws.{puts_nothing}
+use Rattle.tables.proofs.PutsLaws.{puts_nothing}
 use Rattle.lin.proofs.playing.put_rest.Goals as goal
 
 pub returns-then-t-eq0 : goal.returns-then-t-eq0
 unfolding last_line
-returns-then-t-eq0 c = rw (eq-eqb _ _ c.if-t-eq0.true) (puts_nothing _ _)
+returns-then-t-eq0 c = rw (eq-eqb _ _ c.if-t-eq0.true) (puts_nothing _)
 
 pub returns : goal.returns
 unfolding last_line

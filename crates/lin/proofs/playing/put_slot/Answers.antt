@@ -8,4 +8,4 @@ returns-then-k-lt52 c = rw (lt-ltb _ _ c.if-k-lt52.true) c.put_card.ensures
 
 pub returns : goal.returns
 unfolding slot_word
-returns c = rw (le-ltb _ _ c.if-k-lt52.false) c.put_bytes.ensures
+returns c = rw (le-ltb _ _ c.if-k-lt52.false) c.put_text.ensures

@@ -1,7 +1,7 @@
 use mathlib.Core.Path.{sym, ap, ◌∙◌}
 use native.Mathlib.Omega.{arith}
 use Rattle.lin.specs.PlayingSteps.{trick_texts}
-use Rattle.writer.proofs.PutLaws.{puts_same, puts_next}
+use Rattle.tables.proofs.PutsLaws.{puts_same, puts_next}
 use Rattle.lin.proofs.PlayingLaws.{cards_met, cards_none, tricks_full, tricks_more}
 use Rattle.lin.proofs.playing.put_tricks.Goals as goal
 
@@ -16,7 +16,7 @@ loop-p-preserved-then-u-eq4 c =
     let l = c.loop-p in
     let a = c.args in
     let m = cards_met _ _ _ _ c.in-Some.ensures.steps _ (sym c.card_at.ensures ∙ c.in-Some-card_at.is) in
-    (puts_next _ _ (puts_same (tricks_full a.c a.lead a.trump l.t _ _ _ _ _ m c.take_card-u.ensures.0 c.if-u-eq4.true c.next_trick-t.ensures.0) l.invariant.0) c.put_line-k.ensures, c.next_trick-t.ensures.1, rw c.next_trick-t.ensures.0 (omega arith))
+    (puts_next _ _ (puts_same (tricks_full a.c a.lead a.trump l.t _ _ _ _ _ m c.take_card-u.ensures.0 c.if-u-eq4.true c.next_trick-t.ensures.0) l.invariant.0) c.put_line.ensures, c.next_trick-t.ensures.1, rw c.next_trick-t.ensures.0 (omega arith))
 
 pub loop-p-preserved : goal.loop-p-preserved
 loop-p-preserved c =
