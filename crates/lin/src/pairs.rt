@@ -34,6 +34,7 @@ pub struct Pairs<'a> {
 }
 
 // The letters a and b, in either case, are the word of the capitals x and y.
+#[tactic(auto, unfolding(crate::specs::PairSteps::two_same))]
 fn is_word(x: u8, y: u8, a: u8, b: u8) -> bool
     ensures { result ≡ two_same x y a b }
 {
@@ -41,6 +42,7 @@ fn is_word(x: u8, y: u8, a: u8, b: u8) -> bool
 }
 
 // The command of two letters.
+#[tactic(auto, unfolding(crate::specs::PairSteps::command_two))]
 fn command_of_two(a: u8, b: u8) -> Command
     ensures { result ≡ command_two a b }
 {

@@ -32,6 +32,7 @@ fn no_progress() -> Progress
 }
 
 // The built-in header before the first board, an empty line before any other.
+#[tactic(auto, unfolding(crate::specs::PieceSteps::above_text, writer::specs::Pages::built_in_header))]
 fn put_above(page: &mut Page, first: bool)
     ensures { Puts page.old (above_text first) page.new }
 {
@@ -42,6 +43,7 @@ fn put_above(page: &mut Page, first: bool)
     page.put_byte(10);
 }
 
+#[tactic(auto, unfolding(crate::specs::PieceSteps::any_bits))]
 fn has_cards(h: Hands) -> bool
     ensures { result ≡ any_bits h }
 {
@@ -116,6 +118,7 @@ fn put_split(page: &mut Page, c: Conventions, text: &[u8]) -> Option<Progress>
 }
 
 // All boards of a text; None, and nothing told of the page, where one makes no deal.
+#[tactic(auto, unfolding(crate::specs::Pieces::board_pieces))]
 pub(crate) fn put_boards(page: &mut Page, c: Conventions, text: &[u8]) -> Option<Progress>
     ensures { GoesAll c (board_pieces text.now) page.old page.new result }
 {

@@ -15,6 +15,7 @@ use tables::text::trim;
 use writer::tokens::put_card;
 
 // A card: exactly a suit and a rank; 52 for any other text.
+#[tactic(auto, unfolding(crate::specs::Playing::card_in))]
 pub(crate) fn card_in(c: Conventions, t: &[u8]) -> u8
     ensures { (result ≡ card_in c t.now) × (result ≤ 52) }
 {
@@ -45,6 +46,7 @@ pub struct LinTrick {
     pub count: usize,
 }
 
+#[tactic(auto, unfolding(crate::specs::Playing::slot_at))]
 fn slot_at(s: Slots, k: usize) -> usize
     ensures { result ≡ slot_at s k }
 {
@@ -57,6 +59,7 @@ fn slot_at(s: Slots, k: usize) -> usize
 }
 
 // A card, or `-`.
+#[tactic(auto, unfolding(crate::specs::Playing::slot_word))]
 fn put_slot(page: &mut Page, c: Conventions, k: usize)
     ensures { Puts page.old (slot_word c k) page.new }
 {
@@ -91,6 +94,7 @@ fn put_line(page: &mut Page, c: Conventions, lead: usize, t: LinTrick)
 }
 
 // The line of a last trick, where it has a card.
+#[tactic(auto, unfolding(crate::specs::PlayingSteps::last_line))]
 fn put_rest(page: &mut Page, c: Conventions, lead: usize, t: LinTrick)
     requires { (lead ≤ 3) × FineTrick t }
     ensures { Puts page.old (last_line c lead t) page.new }
