@@ -20,7 +20,7 @@ pub enum Command {
 
 // A pair of a text: its command, its value as it stands, and the place behind it, where the next one starts.
 #[derive(Clone, Copy)]
-pub struct PairAt<'a> {
+pub(crate) struct PairAt<'a> {
     pub command: Command,
     pub value: &'a [u8],
     pub end: usize,
@@ -28,7 +28,7 @@ pub struct PairAt<'a> {
 
 // The pairs of a text from a place on.
 #[derive(Clone, Copy)]
-pub struct Pairs<'a> {
+pub(crate) struct Pairs<'a> {
     pub text: &'a [u8],
     pub at: usize,
 }
