@@ -1,13 +1,10 @@
 -- Laws of alerts and calls.
-use Prim.Native.Nat.{ℕ, ◌-◌, ◌≤◌, ◌<◌}
+use Prim.Native.Nat.{ℕ}
 use mathlib.Core.Path.{◌≡◌, refl}
 use mathlib.Core.Bool.{Bool, true, false, cond, ◌&&◌}
 use mathlib.Core.List.{List, [], ◌∷◌, ◌++◌}
 use lib.Dec.{eqb, ltb}
-use lib.ListN.{length, take, get_or}
-use borrow.Author.Tests.{eq-eqb, ne_eqb}
 use Rattle.tables.specs.declared.letters.Conventions.{Conventions}
-use Rattle.tables.proofs.TextLaws.{last_of}
 use Rattle.std.proofs.Common.{Some, None}
 use Rattle.lin.specs.declared.pairs.Command.TheVariants.{Mb}
 use Rattle.lin.specs.declared.pairs.PairAt.{PairAt}
@@ -19,20 +16,14 @@ use Rattle.lin.specs.BiddingSteps.{call_at}
 
 -- ---- alerts
 
-alert_less : (l : List ℕ) (b : ℕ) → eqb b 33 ≡ true → unalerted (l ++ b ∷ []) ≡ unalerted l
+pub alert_less : (l : List ℕ) (b : ℕ) → eqb b 33 ≡ true → unalerted (l ++ b ∷ []) ≡ unalerted l
 alert_less [] b e = rw e
 alert_less (x ∷ xs) b e = rw (alert_less xs b e)
 
-alert_last : (l : List ℕ) (b : ℕ) → eqb b 33 ≡ false → unalerted (l ++ b ∷ []) ≡ l ++ b ∷ []
+pub alert_last : (l : List ℕ) (b : ℕ) → eqb b 33 ≡ false → unalerted (l ++ b ∷ []) ≡ l ++ b ∷ []
 alert_last [] b e = rw e
 alert_last (x ∷ []) b e = rw e
 alert_last (x ∷ y ∷ ys) b e = rw (alert_last (y ∷ ys) b e)
-
-pub alerts_less : (s : List ℕ) (e : ℕ) → 0 < e → e ≤ length s → get_or s (e - 1) 0 ≡ 33 → unalerted (take e s) ≡ unalerted (take (e - 1) s)
-alerts_less s e z h w = rw (last_of s e z h) (alert_less (take (e - 1) s) (get_or s (e - 1) 0) (eq-eqb _ _ w))
-
-pub alerts_stop : (s : List ℕ) (e : ℕ) → 0 < e → e ≤ length s → (get_or s (e - 1) 0 ≡ 33 → ⊥) → unalerted (take e s) ≡ take e s
-alerts_stop s e z h w = rw (last_of s e z h) (alert_last (take (e - 1) s) (get_or s (e - 1) 0) (ne_eqb _ _ w))
 
 -- ---- the calls, where the next pair is p
 

@@ -1,16 +1,14 @@
 -- Laws of the pieces of a text: its lines, and its parts between the places where boards start.
 use Prim.Native.Nat.{ℕ, ◌+◌, ◌-◌, ◌≤◌, ◌<◌}
 use mathlib.Core.Path.{◌≡◌, refl, sym, ap, ◌∙◌}
-use mathlib.Core.Bool.{Bool, true, false, cond, ◌&&◌}
+use mathlib.Core.Bool.{Bool, true, false, ◌&&◌}
 use mathlib.Core.List.{List, [], ◌∷◌, ◌++◌, append_assoc, append-nil}
 use native.Mathlib.Omega.{arith}
 use lib.Dec.{eqb}
-use lib.ListN.{length, take, drop, length-drop}
+use lib.ListN.{length, take, drop}
 use lib.Seq.{drop-drop, take-add}
-use borrow.Author.Tests.{eq-eqb, ne_eqb}
-use Rattle.tables.specs.Text.{before, trimmed, lines}
-use Rattle.tables.proofs.Laws.{stop}
-use Rattle.tables.proofs.TextLaws.{lines_step}
+use borrow.Author.Tests.{ne_eqb}
+use Rattle.tables.specs.Text.{trimmed}
 use Rattle.lin.specs.declared.pairs.PairAt.{PairAt}
 use Rattle.lin.specs.declared.pairs.Pairs.{Pairs}
 use Rattle.lin.specs.declared.pairs.Command.TheVariants.{Qx, Heading}
@@ -23,28 +21,9 @@ use Rattle.lin.proofs.PieceLaws.{split_is}
 
 -- ---- lines
 
--- The pieces from a place on: the next line's, where it is not blank, then the others.
-module _ (text : List ℕ) (at n : ℕ) (l : List ℕ) (h : at < length text) (e : l ≡ trimmed (before 10 (drop at text))) (k : n ≡ length (before 10 (drop at text))) where
-  abbrev rest_of : List (List Pair)
-  rest_of = line_pieces (lines (drop (at + n + 1) text))
-
-  line_next : line_pieces (lines (drop at text)) ≡ cond (eqb (length l) 0) rest_of (pairs_of l ∷ rest_of)
-  line_next =
-      let s = drop at text in
-      let b = before 10 s in
-      let some : 0 < length s = omega (arith, length-drop at text) in
-      let sum : at + (length b + 1) ≡ at + n + 1 = omega (arith, k) in
-      let there : drop (length b + 1) s ≡ drop (at + n + 1) text = drop-drop (length b + 1) at text ∙ ap (λ (i : ℕ). drop i text) sum in
-      ap line_pieces (lines_step s some) ∙ rw (there, ← e)
-
-  pub line_some : (length l ≡ 0 → ⊥) → line_pieces (lines (drop at text)) ≡ pairs_of l ∷ rest_of
-  line_some z = line_next ∙ rw (ne_eqb (length l) 0 z)
-
-  pub line_blank : length l ≡ 0 → line_pieces (lines (drop at text)) ≡ rest_of
-  line_blank z = line_next ∙ rw (eq-eqb (length l) 0 z)
-
-pub lines_done : (text : List ℕ) (at : ℕ) → length text ≤ at → line_pieces (lines (drop at text)) ≡ []
-lines_done text at h = ap (λ (s : List ℕ). line_pieces (lines s)) (stop text at h)
+-- A line that is not blank is a piece.
+pub line_some : {ls ms : List (List ℕ)} {l t : List ℕ} → ls ≡ l ∷ ms → t ≡ trimmed l → 0 < length t → line_pieces ls ≡ pairs_of t ∷ line_pieces ms
+line_some {ls} {ms} {l} {t} e k h = rw (e, ← k, ne_eqb (length t) 0 (λ z. omega (arith, z, h)))
 
 -- ---- parts
 

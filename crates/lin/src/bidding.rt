@@ -13,6 +13,7 @@ use tables::page::Page;
 use writer::tokens::put_call;
 
 // n or ns is 1, e or ew 2, b, both or all 3, anything else 0.
+#[tactic(auto, unfolding(crate::specs::Bidding::vulnerability_in))]
 pub(crate) fn vulnerability_in(t: &[u8]) -> u8
     ensures { (result ≡ vulnerability_in t.now) × (result ≤ 3) }
 {
@@ -32,16 +33,14 @@ pub(crate) fn vulnerability_in(t: &[u8]) -> u8
 fn less_alerts(s: &[u8]) -> &[u8]
     ensures { result.now ≡ unalerted s.now }
 {
-    let mut e = s.len();
-    while e > 0 {
-        let last = e - 1;
-        if s[last] == 33 {
-            e = last;
-        } else {
-            return &s[..e];
+    let mut kept = s;
+    while let Some((last, front)) = kept.split_last() {
+        if *last != b'!' {
+            return kept;
         }
+        kept = front;
     }
-    &s[..0]
+    kept
 }
 
 // The code of a call, 47 where the value is none.
@@ -83,7 +82,7 @@ pub struct Contract {
 fn is_bid(code: u8) -> bool
     ensures { result ≡ is_bid code }
 {
-    (0 < code) & (code < 36)
+    matches!(code, 1..=35)
 }
 
 pub(crate) fn next_seat(seat: u8) -> u8
@@ -94,6 +93,7 @@ pub(crate) fn next_seat(seat: u8) -> u8
 }
 
 // The contract after one more call, by a seat.
+#[tactic(auto, unfolding(crate::specs::Bidding::with_call))]
 pub(crate) fn with_call(seat: u8, k: Contract, code: u8) -> Contract
     ensures { result ≡ with_call seat k code }
 {
@@ -106,25 +106,22 @@ pub(crate) fn with_call(seat: u8, k: Contract, code: u8) -> Contract
     }
     if ((code == 36) | (code == 37)) & (0 < k.bid) {
         return Contract {
-            bid: k.bid,
-            bidder: k.bidder,
             doubling: code,
+            ..k
         };
     }
     k
 }
 
 // The strain of a bid; 0, as of clubs, without one.
-fn strain_of(bid: u8) -> u8
+pub(crate) fn strain_of(bid: u8) -> u8
     ensures { result ≡ strain bid }
 {
-    if bid == 0 {
-        return 0;
-    }
-    (bid - 1) % 5
+    bid.saturating_sub(1) % 5
 }
 
 // A bid of the contract's strain by its side.
+#[tactic(auto, unfolding(crate::specs::Bidding::names))]
 fn is_named(k: Contract, seat: u8, code: u8) -> bool
     ensures { result ≡ names k seat code }
 {
@@ -149,6 +146,7 @@ pub(crate) fn first_to_name(c: Conventions, text: &[u8], k: Contract) -> u8
 }
 
 // A contract: the bid, then X or XX.
+#[tactic(auto, unfolding(crate::specs::BiddingSteps::last_text))]
 pub(crate) fn put_contract(page: &mut Page, c: Conventions, k: Contract)
     ensures { Puts page.old (last_text c k) page.new }
 {

@@ -1,13 +1,12 @@
 // A board's lines on the page.
 ghost use Rattle.std.specs.Prelude.{◌≡◌, [], cond, ◌≤◌, ◌<◌};
-ghost use Rattle.reader.specs.Words.{trump_suit};
 ghost use Rattle.tables.specs.Puts.{Puts};
 ghost use Rattle.writer.specs.Items.{tokens_text};
 ghost use Rattle.lin.specs.Pairs.{pairs_of};
-ghost use Rattle.lin.specs.Bidding.{calls_from, strain, declarer_of};
+ghost use Rattle.lin.specs.Bidding.{calls_from, declarer_of};
 ghost use Rattle.lin.specs.BoardSteps.{lin_head_text, lin_result_text, call_tokens, lin_auction_text, lin_play_text, survey_text};
 
-use crate::bidding::{Contract, call_at, first_to_name, next_seat, put_contract};
+use crate::bidding::{Contract, call_at, first_to_name, next_seat, put_contract, strain_of};
 use crate::pairs::pairs_in;
 use crate::playing::put_tricks;
 use crate::survey::Survey;
@@ -72,14 +71,6 @@ fn put_auction(page: &mut Page, c: Conventions, text: &[u8], s: Survey)
     }
 }
 
-// The trump suit of a bid, 4 for notrump.
-fn trump_of(bid: u8) -> usize
-    requires { 0 < bid }
-    ensures { result ≡ trump_suit (strain bid) }
-{
-    ((bid - 1) % 5) as usize
-}
-
 // The play, where there are a bid and cards.
 fn put_play(page: &mut Page, c: Conventions, text: &[u8], s: Survey, declarer: u8)
     requires { declarer ≤ 4 }
@@ -94,7 +85,7 @@ fn put_play(page: &mut Page, c: Conventions, text: &[u8], s: Survey, declarer: u
         page.put_text(b"[Play \"");
         put_seat(page, c, lead);
         page.put_text(b"\"]\n");
-        put_tricks(page, c, text, lead, trump_of(bid));
+        put_tricks(page, c, text, lead, strain_of(bid) as usize);
     }
 }
 

@@ -1,5 +1,5 @@
 // The deal of a board: a dealer's digit, then the hands of S, W, N, E (parse_md, parse_lin_hand, calculate_fourth_hand).
-ghost use Rattle.std.specs.Prelude.{◌≡◌, ◌≤◌, ◌<◌, ◌^◌, IfSome};
+ghost use Rattle.std.specs.Prelude.{◌≡◌, ◌≤◌, ◌<◌, ◌^◌, IfSome, unwrap_or};
 ghost use Rattle.tables.specs.Text.{starts};
 ghost use Rattle.reader.specs.Deals.{InDeck};
 ghost use Rattle.lin.specs.Dealing.{dealer_of, hand_of};
@@ -32,16 +32,17 @@ pub struct LinDealing {
     pub hands: Option<Hands>,
 }
 
-// 1 to 4 are S, W, N, E; 4 for any other character.
-fn dealer_of(b: u8) -> usize
-    ensures { (result ≡ dealer_of b) × (result ≤ 4) }
+// 1 to 4 are S, W, N, E.
+#[tactic(auto, unfolding(crate::specs::Dealing::dealer_of))]
+fn dealer_of(b: u8) -> Option<usize>
+    ensures { (unwrap_or result 4 ≡ dealer_of b) × IfSome result (λ d. d ≤ 3) }
 {
     match b {
-        49 => 2,
-        50 => 3,
-        51 => 0,
-        52 => 1,
-        _ => 4,
+        b'1' => Some(2),
+        b'2' => Some(3),
+        b'3' => Some(0),
+        b'4' => Some(1),
+        _ => None,
     }
 }
 
@@ -175,12 +176,11 @@ fn read_deal(c: Conventions, s: &[u8]) -> Option<Hands>
 pub(crate) fn deal_in(c: Conventions, d: LinDealing, value: &[u8]) -> LinDealing
     ensures { result ≡ told_in c d value.now }
 {
-    let dealer = dealer_of(first_character(value));
-    if dealer < 4 {
-        return LinDealing {
-            dealer,
-            hands: read_deal(c, from(value, 1)),
-        };
+    let Some(dealer) = dealer_of(first_character(value)) else {
+        return d;
+    };
+    LinDealing {
+        dealer,
+        hands: read_deal(c, from(value, 1)),
     }
-    d
 }

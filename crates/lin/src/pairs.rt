@@ -20,7 +20,7 @@ pub enum Command {
 
 // A pair of a text: its command, its value as it stands, and the place behind it, where the next one starts.
 #[derive(Clone, Copy)]
-pub struct PairAt<'a> {
+pub(crate) struct PairAt<'a> {
     pub command: Command,
     pub value: &'a [u8],
     pub end: usize,
@@ -28,12 +28,13 @@ pub struct PairAt<'a> {
 
 // The pairs of a text from a place on.
 #[derive(Clone, Copy)]
-pub struct Pairs<'a> {
+pub(crate) struct Pairs<'a> {
     pub text: &'a [u8],
     pub at: usize,
 }
 
 // The letters a and b, in either case, are the word of the capitals x and y.
+#[tactic(auto, unfolding(crate::specs::PairSteps::two_same))]
 fn is_word(x: u8, y: u8, a: u8, b: u8) -> bool
     ensures { result ≡ two_same x y a b }
 {
@@ -41,6 +42,7 @@ fn is_word(x: u8, y: u8, a: u8, b: u8) -> bool
 }
 
 // The command of two letters.
+#[tactic(auto, unfolding(crate::specs::PairSteps::command_two))]
 fn command_of_two(a: u8, b: u8) -> Command
     ensures { result ≡ command_two a b }
 {

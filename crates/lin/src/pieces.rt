@@ -4,7 +4,7 @@ ghost use Rattle.tables.specs.Text.{lines};
 ghost use Rattle.tables.specs.Puts.{Puts};
 ghost use Rattle.lin.specs.Pairs.{pairs_of};
 ghost use Rattle.lin.specs.Pieces.{split, with_deal, line_pieces, board_pieces};
-ghost use Rattle.lin.specs.PieceSteps.{no_progress, above_text, any_bits, Goes, GoesIf, GoesAll};
+ghost use Rattle.lin.specs.PieceSteps.{NextLine, lines_room, no_progress, above_text, any_bits, Goes, GoesIf, GoesAll};
 
 use crate::board::put_board;
 use crate::pairs::{Command, has_pair, pairs_in};
@@ -32,6 +32,7 @@ fn no_progress() -> Progress
 }
 
 // The built-in header before the first board, an empty line before any other.
+#[tactic(auto, unfolding(crate::specs::PieceSteps::above_text, writer::specs::Pages::built_in_header))]
 fn put_above(page: &mut Page, first: bool)
     ensures { Puts page.old (above_text first) page.new }
 {
@@ -42,6 +43,7 @@ fn put_above(page: &mut Page, first: bool)
     page.put_byte(10);
 }
 
+#[tactic(auto, unfolding(crate::specs::PieceSteps::any_bits))]
 fn has_cards(h: Hands) -> bool
     ensures { result ≡ any_bits h }
 {
@@ -74,17 +76,36 @@ fn put_dealt(page: &mut Page, c: Conventions, text: &[u8], g: Progress) -> Optio
     Some(g)
 }
 
+// The lines of a text that are left, without their LFs.
+#[derive(Clone, Copy)]
+pub(crate) struct Lines<'a> {
+    pub rest: &'a [u8],
+}
+
+impl<'a> Iterator for Lines<'a> {
+    type Item = &'a [u8];
+
+    ghost next_gives = { NextLine };
+
+    ghost remaining = { lines_room };
+
+    fn next(&mut self) -> Option<&'a [u8]> {
+        if self.rest.len() > 0 {
+            let line = upto(self.rest, index_of(self.rest, b'\n'));
+            self.rest = from(self.rest, line.len() + 1);
+            return Some(line);
+        }
+        None
+    }
+}
+
 // The boards of a text without a qx: its lines.
 fn put_lines(page: &mut Page, c: Conventions, text: &[u8]) -> Option<Progress>
     ensures { GoesAll c (line_pieces (lines text.now)) page.old page.new result }
 {
     let mut g = no_progress();
-    let mut at = 0;
-    while at < text.len() {
-        let rest = from(text, at);
-        let n = index_of(rest, 10);
-        at = at + n + 1;
-        let line = trim(upto(rest, n));
+    for l in (Lines { rest: text }) {
+        let line = trim(l);
         if line.len() > 0 {
             g = put_piece(page, c, line, g)?;
             continue;
@@ -116,6 +137,7 @@ fn put_split(page: &mut Page, c: Conventions, text: &[u8]) -> Option<Progress>
 }
 
 // All boards of a text; None, and nothing told of the page, where one makes no deal.
+#[tactic(auto, unfolding(crate::specs::Pieces::board_pieces))]
 pub(crate) fn put_boards(page: &mut Page, c: Conventions, text: &[u8]) -> Option<Progress>
     ensures { GoesAll c (board_pieces text.now) page.old page.new result }
 {

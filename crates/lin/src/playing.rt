@@ -46,6 +46,7 @@ pub struct LinTrick {
     pub count: usize,
 }
 
+#[tactic(auto, unfolding(crate::specs::Playing::slot_at))]
 fn slot_at(s: Slots, k: usize) -> usize
     ensures { result ≡ slot_at s k }
 {
@@ -58,6 +59,7 @@ fn slot_at(s: Slots, k: usize) -> usize
 }
 
 // A card, or `-`.
+#[tactic(auto, unfolding(crate::specs::Playing::slot_word))]
 fn put_slot(page: &mut Page, c: Conventions, k: usize)
     ensures { Puts page.old (slot_word c k) page.new }
 {
@@ -92,6 +94,7 @@ fn put_line(page: &mut Page, c: Conventions, lead: usize, t: LinTrick)
 }
 
 // The line of a last trick, where it has a card.
+#[tactic(auto, unfolding(crate::specs::PlayingSteps::last_line))]
 fn put_rest(page: &mut Page, c: Conventions, lead: usize, t: LinTrick)
     requires { (lead ≤ 3) × FineTrick t }
     ensures { Puts page.old (last_line c lead t) page.new }

@@ -50,6 +50,7 @@ fn no_survey() -> Survey
 }
 
 // One more call, where the code is one.
+#[tactic(auto, unfolding(crate::specs::SurveySteps::survey_call))]
 fn survey_call(s: Survey, code: u8) -> Survey
     requires { s.seat ≤ 3 }
     ensures { (result ≡ survey_call s code) × (result.seat ≤ 3) }
@@ -66,6 +67,7 @@ fn survey_call(s: Survey, code: u8) -> Survey
 }
 
 // One more pair.
+#[tactic(auto, unfolding(crate::specs::SurveySteps::surveyed))]
 fn survey_step(c: Conventions, s: Survey, p: PairAt) -> Survey
     requires { s.seat ≤ 3 }
     ensures { (result ≡ surveyed c s (pair_of p.entry)) × (result.seat ≤ 3) }
