@@ -58,6 +58,7 @@ fn with_result(mut i: Identity, n: Number) -> Identity
 }
 
 // Board, Dealer, Vulnerable, Declarer, Result.
+#[tactic(auto, unfolding(crate::specs::Boards::identity_by))]
 fn identity_by(c: Conventions, k: u8, value: &[u8], mut i: Identity) -> Identity
     ensures { result ≡ identity_by c k value.now i }
 {
@@ -131,6 +132,7 @@ fn is_kept_contract(value: &[u8]) -> bool
     !(value.len() == 0) & !same(b"?", value)
 }
 
+#[tactic(auto, unfolding(crate::specs::Boards::contract_by))]
 fn contract_by(c: Conventions, k: u8, value: &[u8], trump: usize) -> usize
     ensures { result ≡ contract_by c k value.now trump }
 {
@@ -144,6 +146,7 @@ fn contract_by(c: Conventions, k: u8, value: &[u8], trump: usize) -> usize
 }
 
 // Whether the value of a tag other than Deal is kept.
+#[tactic(auto, unfolding(crate::specs::Boards::is_kept_value))]
 fn is_kept(k: u8, value: &[u8]) -> bool
     ensures { result ≡ is_kept_value k value.now }
 {
@@ -174,6 +177,7 @@ fn value_put(k: u8, place: usize, mut v: Values) -> Values
     v
 }
 
+#[tactic(auto, unfolding(crate::specs::BoardSteps::values_put))]
 fn values_by(k: u8, value: &[u8], place: usize, v: Values) -> Values
     ensures { result ≡ values_put k value.now place v }
 {
@@ -229,6 +233,7 @@ fn seat_open(kind: usize, seat: usize, at: usize, split: Span) -> Open
 }
 
 // The section that a tag opens.
+#[tactic(auto, unfolding(crate::specs::Boards::open_by))]
 pub(crate) fn open_by(c: Conventions, k: u8, value: &[u8], at: usize, split: Span) -> Open
     ensures { (result ≡ open_by c k value.now at split) × (result.seat ≤ 4) × (result.kind ≤ 3) × (result.kind ≡ 2 → result.seat ≤ 3) × (result.kind ≡ 1 → result.seat ≤ 3) }
 {

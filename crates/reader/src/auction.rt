@@ -31,6 +31,7 @@ pub struct Bidding {
     pub count: usize,
 }
 
+#[tactic(auto, unfolding(crate::specs::Auction::call_token_of))]
 fn call_token(c: Conventions, t: &[u8]) -> CallToken
     ensures { (result ≡ call_token_of c t.now) × CallInside result (length t.now) }
 {

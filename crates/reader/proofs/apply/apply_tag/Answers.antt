@@ -13,10 +13,6 @@ returns-in-0 c =
       | inr e ↦ rw e (sym (applied_note a.c a.value.now a.place a.b))
     ]
 
-pub returns-in-4 : goal.returns-in-4
-returns-in-4 c =
-    rw c.in-4.is c.deal_tag.ensures
-
 pub returns-in-18 : goal.returns-in-18
 returns-in-18 c =
     let a = c.args in

@@ -9,13 +9,3 @@ unfolding in_commentary
 returns-then-has_brace c =
     let e = c.block_step.ensures in
     (rw (← c.has_brace.ensures, c.if-has_brace.true, ← c.last_brace.ensures.0) e, omega (arith, block_zero _ _ _ _ _ e))
-
-pub returns : goal.returns
-unfolding in_commentary
-returns c = (
-  record {
-    answer = rw (← c.has_brace.ensures, c.if-has_brace.false);
-    adds = rw (← c.has_brace.ensures, c.if-has_brace.false) (adds_none c.args.entries.now);
-  },
-  c.requires.3,
-)

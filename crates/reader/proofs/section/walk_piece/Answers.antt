@@ -10,10 +10,6 @@ returns-then-o-eq-AUCTION c =
     let e = c.call_piece-bid.ensures in
     piece_called a.c a.o a.trump a.w (piece a.at a.s.now) (length a.s.now) _ _ _ c.if-o-eq-AUCTION.true e.0 e.1 c.requires.0
 
-pub play_piece-played-requires : goal.play_piece-played-requires
-play_piece-played-requires c =
-    (c.requires.4 c.if-o-eq-PLAY.true, c.requires.0, c.requires.1, c.requires.2, omega (arith, c.requires.3))
-
 pub returns-then-o-eq-PLAY : goal.returns-then-o-eq-PLAY
 returns-then-o-eq-PLAY c =
     let a = c.args in
