@@ -8,7 +8,7 @@ use lib.Dec.{eqb}
 use lib.ListN.{length, take, drop, get_or}
 use lib.Seq.{drop-drop}
 use Rattle.tables.specs.Text.{trim_start}
-use Rattle.tables.proofs.Laws.{by_cases, clash, stop}
+use Rattle.tables.proofs.Laws.{by_cases, stop}
 use Rattle.reader.specs.declared.tag.Span.{Span}
 use Rattle.reader.specs.declared.tag.TagLine.{TagLine}
 use Rattle.reader.specs.declared.tag.TagLine.TheVariants.{NoTag, Plain as PlainTag, WithComment as CommentTag}

@@ -1,9 +1,5 @@
-use Prim.Native.Nat.{◌<◌}
-use native.Mathlib.Omega.{arith}
-use native.Mathlib.Numerals.{add-one}
 use mathlib.Core.Path.{refl, ◌≡◌}
-use lib.ListN.{replicate, length-set, length}
-use lib.Seq.{drop-cons, drop-length}
+use lib.ListN.{replicate, length}
 use Rattle.reader.proofs.EditionLaws.{sets_all}
 use borrow.Author.Rules.{rules}
 use Rattle.reader.proofs.edition.cell_words.Goals as goal

@@ -1,5 +1,5 @@
 use native.Mathlib.Omega.{arith}
-use Rattle.reader.proofs.PlayLaws.{open_full, open_same, open_first, next_low}
+use Rattle.reader.proofs.PlayLaws.{open_full, open_same, open_first}
 use Rattle.reader.proofs.play.open_trick.Goals as goal
 
 pub returns-then-t-eq4 : goal.returns-then-t-eq4

@@ -1,8 +1,6 @@
 use Rattle.reader.proofs.ReadingLaws.{block_none, block_some}
-use Rattle.reader.specs.declared.board.State.{State}
 use Rattle.reader.specs.Boards.{is_all_white}
-use native.Mathlib.Omega.{arith}
-use mathlib.Core.Path.{◌≡◌, ap}
+use mathlib.Core.Path.{◌≡◌}
 use mathlib.Core.Bool.{true, false}
 use Rattle.reader.proofs.reading.block_step.Goals as goal
 

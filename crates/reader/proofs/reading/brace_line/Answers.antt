@@ -1,9 +1,6 @@
 use Rattle.reader.proofs.ReadingLaws.{block_zero}
-use Rattle.reader.proofs.PieceLaws.{adds_none}
-use Rattle.reader.specs.declared.board.State.{State}
 use Rattle.reader.specs.Boards.{braced}
 use native.Mathlib.Omega.{arith}
-use mathlib.Core.Path.{ap}
 use Rattle.reader.proofs.reading.brace_line.Goals as goal
 
 pub returns-then-has_brace : goal.returns-then-has_brace

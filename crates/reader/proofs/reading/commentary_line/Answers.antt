@@ -1,5 +1,4 @@
 use Rattle.reader.proofs.ReadingLaws.{block_zero}
-use Rattle.reader.proofs.PieceLaws.{adds_none}
 use Rattle.reader.specs.Boards.{in_commentary}
 use native.Mathlib.Omega.{arith}
 use Rattle.reader.proofs.reading.commentary_line.Goals as goal

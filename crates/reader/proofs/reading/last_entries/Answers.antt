@@ -1,5 +1,5 @@
-use Rattle.reader.proofs.ReadingLaws.{last_stored, last_kept_lem}
-use borrow.Author.Tests.{eq-eqb, ne_eqb}
+use Rattle.reader.proofs.ReadingLaws.{last_stored}
+use borrow.Author.Tests.{eq-eqb}
 use Rattle.reader.proofs.reading.last_entries.Goals as goal
 
 pub returns-then-kind-eq-PLAY : goal.returns-then-kind-eq-PLAY

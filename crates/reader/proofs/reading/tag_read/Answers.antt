@@ -1,8 +1,7 @@
-use Rattle.reader.proofs.TagStepLaws.{tag_inside, read_plain, read_comment, read_data}
+use Rattle.reader.proofs.TagStepLaws.{read_comment, read_data}
 use Rattle.reader.specs.declared.board.State.{State}
 use Rattle.reader.specs.Boards.{tagged}
 use mathlib.Core.Path.{ap}
-use lib.ListN.{length}
 use native.Mathlib.Omega.{arith}
 use Rattle.reader.proofs.reading.tag_read.Goals as goal
 

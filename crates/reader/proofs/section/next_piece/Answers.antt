@@ -1,6 +1,6 @@
 use native.Mathlib.Omega.{arith}
 use Rattle.reader.proofs.SectionLaws.{line_at_lem}
-use Rattle.reader.proofs.NextLaws.{seeking, piece_placed, seek_pass, seek_stop, seek_end, seek_piece}
+use Rattle.reader.proofs.NextLaws.{piece_placed, seek_pass, seek_stop, seek_piece}
 use Rattle.reader.proofs.section.next_piece.Goals as goal
 
 pub returns-in-Stop : goal.returns-in-Stop

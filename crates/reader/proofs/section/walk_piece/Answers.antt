@@ -1,5 +1,4 @@
 use lib.ListN.{length}
-use native.Mathlib.Omega.{arith}
 use Rattle.reader.specs.PieceSteps.{piece}
 use Rattle.reader.proofs.WalkLaws.{piece_called, piece_played, piece_row}
 use Rattle.reader.proofs.section.walk_piece.Goals as goal
