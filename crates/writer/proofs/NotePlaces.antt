@@ -17,11 +17,10 @@ use Rattle.tables.proofs.Laws.{by_cases, neither, either, clash}
 use Rattle.reader.specs.Words.{same}
 use Rattle.reader.specs.Plain.{Item, TagPair, first_bytes}
 use Rattle.reader.proofs.WordLaws.{same_is}
-use Rattle.writer.specs.declared.remarks.Sought.TheVariants.{Under}
 use Rattle.writer.specs.Sections.{note_in, later, note_at, note_value, notes_from, note_values}
 use Rattle.writer.specs.Held.{entry_word, place_bytes}
 use Rattle.writer.specs.PresentSteps.{is_there, is_any}
-use Rattle.writer.specs.Items.{remarks_text, sought_text, has_value, note_takes, notes_text, tags_at, note_number, note_number_at, note_places, note_text, placed_note, note_of, takes_value, takes_tag, full_note, full_notes, all_notes}
+use Rattle.writer.specs.Items.{Under, remarks_text, sought_text, has_value, note_takes, notes_text, tags_at, note_number, note_number_at, note_places, note_text, placed_note, note_of, takes_value, takes_tag, full_note, full_notes, all_notes}
 use Rattle.writer.proofs.NoteLaws.{behind_colon, note_in_lem, note_256, number_back, holds_append}
 
 -- ---- numbers

@@ -3,9 +3,11 @@ use Prim.Native.Nat.{ℕ, zero, suc, ◌+◌, ◌-◌, ◌*◌, ◌≤◌, ◌<�
 use mathlib.Core.Path.{◌≡◌, refl, sym, ap, ◌∙◌}
 use mathlib.Core.Bool.{Bool, true, false, cond, ◌&&◌}
 use mathlib.Core.List.{List, [], ◌∷◌, ◌++◌, append-nil}
+use native.Mathlib.Numerals.{add-one}
 use native.Mathlib.Omega.{arith}
 use lib.Dec.{eqb}
-use lib.ListN.{get_or, replicate}
+use lib.ListN.{length, drop, get_or, replicate}
+use lib.Seq.{drop-cons}
 use borrow.Author.Tests.{eqb-true, ne_eqb}
 use Rattle.tables.specs.declared.letters.Conventions.{Conventions}
 use Rattle.tables.specs.Letters.{rank_letter}
@@ -19,7 +21,7 @@ use Rattle.tables.specs.Puts.{Puts}
 use Rattle.tables.proofs.PutsLaws.{PutsLeft, puts_next, puts_same, puts_all}
 use Rattle.writer.specs.declared.items.Items.{Items}
 use Rattle.writer.specs.Held.{entry_word, place_bytes, item_at, card_word, card_part}
-use Rattle.writer.specs.Items.{items_from, before_call, calls_text, last_code, four_slots, slots_text, tricks_text}
+use Rattle.writer.specs.Items.{items_from, before_call, calls_text, last_code, one_more_card, four_slots, slot_text, slots_text, tricks_text}
 use Rattle.writer.proofs.RemarkLaws.{items_step, item_kind, item_bytes}
 
 -- All that is left is put.
@@ -54,6 +56,12 @@ pub digits_none : (cards : List ℕ) (k i n : ℕ) → n ≤ i → digits_text (
 digits_none cards k i n h =
     let q : n - i ≡ 0 = omega arith in
     rw q
+
+-- ---- slots of a trick
+
+pub slots_step : (c : Conventions) (n : ℕ) (ks : List ℕ) (i : ℕ) → i < length ks
+    → slots_text c n (drop i ks) ≡ slot_text c n (get_or ks i 0) ++ slots_text c (one_more_card n (get_or ks i 0)) (drop (i + 1) ks)
+slots_step c n ks i h = rw (add-one i, drop-cons ks i 0 h)
 
 -- ---- ranks of a suit
 

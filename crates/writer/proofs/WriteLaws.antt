@@ -9,12 +9,14 @@ use lib.ListN.{length, replicate}
 use borrow.Author.Tests.{le-leb, lt-leb}
 use native.Mathlib.Nat.{sub-zero}
 use Rattle.tables.specs.declared.letters.Conventions.{Conventions}
+use Rattle.tables.specs.declared.page.Page.{Page}
 use Rattle.tables.specs.declared.page.Written.{Written as PageWritten}
 use Rattle.tables.specs.declared.page.Written.TheVariants.{Bytes}
 use Rattle.tables.specs.declared.page.Written.TheVariants as paged
 use Rattle.tables.specs.declared.refusal.Refusal.TheVariants as refusal
 use Rattle.tables.specs.Page.{page_of}
 use Rattle.tables.specs.PageSteps.{PageEnded}
+use Rattle.tables.specs.Puts.{Puts}
 use Rattle.tables.proofs.PageLaws.{finished}
 use Rattle.tables.proofs.Laws.{by_cases, clash}
 use Rattle.reader.specs.declared.edition.Reading.TheVariants.{Taken}
@@ -25,11 +27,10 @@ use Rattle.reader.specs.Editions.{reading_of, cards_of, entries_of, is_taken, Is
 use Rattle.writer.specs.declared.write.WriteRefusal.TheVariants.{Edition, PageFull}
 use Rattle.writer.specs.declared.write.Writing.{Writing}
 use Rattle.writer.specs.declared.write.Writing.TheVariants.{Written, Refused}
-use Rattle.writer.specs.Puts.{Puts}
 use Rattle.writer.specs.Pages.{written_text}
 use Rattle.writer.specs.BoardTexts.{page_held}
 use Rattle.writer.specs.Writings.{page_answer, written_by, writing_of, is_written, page_after, IsWritten}
-use Rattle.writer.specs.WritingSteps.{WritingEnded}
+use Rattle.writer.specs.WritingSteps.{PagePut, WritingEnded}
 use Rattle.writer.proofs.HeldBoards.{taken_holds}
 use Rattle.writer.proofs.HeldPages.{PageHeld}
 use Rattle.writer.proofs.Sizes.{BytesFew}
@@ -48,6 +49,10 @@ taken_boards c text lc le b e i =
     (λ v. clash (sym (ap is_taken (rw (t, u, v) at i))))
     (λ v. let w = rw (t, u, v) at i in cc)))
 
+-- What was put from the start of lent bytes is put on them.
+pub page_put : {p q : Page} {bytes bytes' bs : List ℕ} → Puts p bs q → p.at ≡ 0 → p.bytes.now ≡ bytes → bytes' ≡ q.bytes.now → PagePut bytes bs bytes' q.at
+page_put a z e f = rw (← e, f) (record { put = λ h. rw z at (a.put (omega (arith, z))); kept = a.kept })
+
 -- What a page of bs comes to, by the answer.
 page_out : (bs : List ℕ) (m : ℕ) → page_of bs m ≡ page_after (is_written (page_answer (length bs) m)) bs m
 unfolding page_of
@@ -59,7 +64,7 @@ out_is n m = by_cases (leb n m) (λ q. rw q) (λ q. rw q)
 -- The edition was taken, its text put and the page ended.
 pub written_taken : {c : Conventions} {text cards entries page cards₁ entries₁ page₁ cards₂ entries₂ page₂ : List ℕ} {b e n : ℕ} {r : Writing}
     → IsRead c text cards entries (Taken b e) cards₁ entries₁
-    → Puts page 0 (page_held c text cards₁ entries₁ b) page₁ n
+    → PagePut page (page_held c text cards₁ entries₁ b) page₁ n
     → WritingEnded n cards₁ entries₁ page₁ r cards₂ entries₂ page₂
     → length cards₁ ≡ length cards → length entries₁ ≡ length entries
     → IsWritten c text cards entries page r cards₂ entries₂ page₂
@@ -68,7 +73,7 @@ written_taken {c} {text} {cards} {entries} {page} {cards₁} {entries₁} {page�
     let t = taken_holds i in
     let nb = taken_boards c text (length cards) (length entries) b e i.answer in
     let w = rw nb at p in
-    let text_put : Puts page 0 (written_text c text) page₁ n = rw (PageHeld c text cards₁ entries₁ t) at w in
+    let text_put : PagePut page (written_text c text) page₁ n = rw (PageHeld c text cards₁ entries₁ t) at w in
     let few = BytesFew c text t.short in
     let put = text_put.put (omega arith) in
     let en : n ≡ length (written_text c text) = omega (arith, put.next) in

@@ -9,13 +9,12 @@ use Rattle.reader.specs.Deals.{hands_of_words, deal_text}
 use Rattle.reader.specs.Plain.{Item}
 use Rattle.writer.specs.declared.held.Board.{Board}
 use Rattle.writer.specs.declared.present.Present.{Present}
-use Rattle.writer.specs.declared.remarks.Sought.TheVariants.{Leading, Unwritten}
 use Rattle.writer.specs.Sections.{note_values}
 use Rattle.writer.specs.PresentSteps.{is_any}
 use Rattle.writer.specs.Pages.{built_in_header}
 use Rattle.writer.specs.Tags.{or_empty, seat_text, result_text, first_seat}
 use Rattle.writer.specs.Held.{card_word, card_part, items_at, board_items, section_items, value_held}
-use Rattle.writer.specs.Items.{items_of, has_remarks, sought_text, after_text, tag_line_text, tagged_text, extras_text, result_in, auction_text, play_text, notes_text, tags_at, scoring_at, deal_place}
+use Rattle.writer.specs.Items.{Leading, Unwritten, items_of, has_remarks, sought_text, after_text, tag_line_text, tagged_text, extras_text, result_in, auction_text, play_text, notes_text, tags_at, scoring_at, deal_place}
 
 -- The entries from first on, scan of them.
 abbrev pub scanned_items : List ℕ → List ℕ → List ℕ → ℕ → ℕ → List Item

@@ -7,8 +7,7 @@ use Rattle.reader.specs.declared.board.Identity.{Identity}
 use Rattle.reader.specs.Words.{same, call_token, card_token}
 use Rattle.reader.specs.Names.{tag_number, note_name}
 use Rattle.reader.specs.Plain.{Item, TagPair, first_bytes, without_returns}
-use Rattle.writer.specs.declared.remarks.Sought.{Sought}
-use Rattle.writer.specs.declared.remarks.Sought.TheVariants.{Leading, Under, Unwritten}
+use Rattle.writer.specs.declared.present.Present.{Present}
 use Rattle.tables.specs.Text.{ascii, trimmed, before}
 use Rattle.tables.specs.Numbers.{number_of, decimal}
 use Rattle.writer.specs.Tags.{WrittenTag}
@@ -24,6 +23,10 @@ items_of is = items_at is.text.now is.entries.now is.first is.count
 
 abbrev pub items_from : Items → ℕ → List Item
 items_from is e = items_at is.text.now is.entries.now e (is.first + is.count - e)
+
+-- The tag at the entry e, the next entry having its value.
+abbrev pub tag_at : Items → ℕ → TagPair
+tag_at is e = record { name = place_bytes is.text.now is.entries.now e; value = first_bytes (items_from is (e + 1)) }
 
 -- Of the same text as js, n entries from first on.
 pub record ItemsFrom (js : Items) (first n : ℕ) (is : Items) : Type 0 where
@@ -41,7 +44,12 @@ name_index n (i ∷ is) = cond (eqb i.kind 1 && same n i.bytes) 0 (suc (name_ind
 
 -- ---- directives and blocks
 
--- The names whose remarks are sought: none, those before every tag; the name n; those that are not written.
+-- The remarks that are sought: those before every tag; those under the name n; those whose tag is not written.
+pub data Sought : Type 0 where
+  Leading : Sought
+  Under : Sought
+  Unwritten : Present → Sought
+
 abbrev pub sought_by : Sought → List ℕ → List ℕ → Bool
 sought_by Leading n m = false
 sought_by Under n m = same n m

@@ -90,10 +90,8 @@ fn mark_given(cards: &mut [u32], boards: usize)
     requires { 64 * boards ≤ length cards.old }
     ensures { cards.new ≡ changed_all marked boards cards.old }
 {
-    let mut k = 0;
-    while k < boards {
+    for k in 0..boards {
         mark_card(cards, k);
-        k += 1;
     }
 }
 
@@ -113,10 +111,8 @@ fn clear_given(cards: &mut [u32], boards: usize)
     requires { 64 * boards ≤ length cards.old }
     ensures { cards.new ≡ changed_all given_cleared boards cards.old }
 {
-    let mut k = 0;
-    while k < boards {
+    for k in 0..boards {
         clear_card(cards, k);
-        k += 1;
     }
 }
 
@@ -124,14 +120,10 @@ fn clear_given(cards: &mut [u32], boards: usize)
 fn first_above(answers: &[u8]) -> usize
     ensures { result ≡ first_above answers.now }
 {
-    let mut i = 0;
-    while i < answers.len() {
-        if answers[i] > 13 {
-            return i;
-        }
-        i += 1;
+    match answers.iter().position(|b| *b > 13) {
+        Some(i) => i,
+        None => answers.len(),
     }
-    i
 }
 
 // Whether the answers are 20 bytes for each board to solve, none above 13.

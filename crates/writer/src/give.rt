@@ -22,12 +22,6 @@ fn cells_at(cards: &[u32], k: usize) -> [u32; 20]
     cells
 }
 
-fn tricks(b: u8) -> u32
-    ensures { result ≡ b }
-{
-    b as u32
-}
-
 // The 20 answers for a slip; zeros where there are none.
 fn answer_cells(answers: &[u8], slip: usize) -> [u32; 20]
     ensures { result ≡ answer_at answers.now slip }
@@ -37,10 +31,8 @@ fn answer_cells(answers: &[u8], slip: usize) -> [u32; 20]
         return cells;
     }
     let at = 20 * slip;
-    let mut i = 0;
-    while i < 20 {
-        cells[i] = tricks(answers[at + i]);
-        i += 1;
+    for i in 0..20 {
+        cells[i] = answers[at + i] as u32;
     }
     cells
 }
@@ -97,13 +89,11 @@ pub(crate) fn give_tables(
     ensures { Gave (cards_in olds old_cards.now) (cards_in news new_cards.old) new_cards.old news answers.now result new_cards.new }
 {
     let mut slip = 0;
-    let mut k = 0;
-    while k < news {
+    for k in 0..news {
         let s = state_of(old_cards, olds, new_cards, news, k);
         let cells = source_cells(old_cards, new_cards, k, s, answers, slip);
         put_cells(new_cards, k, cells);
         slip = slip_after(slip, s);
-        k += 1;
     }
     slip
 }

@@ -28,9 +28,8 @@ pub struct Items<'a> {
 
 impl<'a> Items<'a> {
     ghost use Rattle.std.specs.Prelude.{◌≡◌, ◌<◌, ◌-◌};
-    ghost use Rattle.reader.specs.Plain.{first_bytes};
-    ghost use Rattle.writer.specs.Held.{entry_word, place_bytes, items_at};
-    ghost use Rattle.writer.specs.Items.{ItemsFrom};
+    ghost use Rattle.writer.specs.Held.{entry_word, place_bytes};
+    ghost use Rattle.writer.specs.Items.{tag_at, ItemsFrom};
 
     // The word j of the entry e.
     fn word_at(&self, e: usize, j: usize) -> usize
@@ -66,17 +65,21 @@ impl<'a> Items<'a> {
         upto(from(self.text, start), len)
     }
 
-    // The value that a tag at the entry before e has: the bytes of the entry e, none behind the last entry or where a trick stands.
-    pub(crate) fn value_at(&self, e: usize) -> &'a [u8]
-        ensures { result.now ≡ first_bytes (items_at self.now.text.now self.now.entries.now e (self.now.first + self.now.count - e)) }
+    // The value of the tag at the entry e: the bytes of the next entry, none behind the last one or where a trick stands.
+    pub(crate) fn value_behind(&self, e: usize) -> &'a [u8]
+        ensures { result.now ≡ (tag_at self.now e).value }
     {
         if self.end() <= e {
             return upto(self.text, 0);
         }
-        if self.kind_at(e) == TRICK {
+        let next = e + 1;
+        if self.end() <= next {
             return upto(self.text, 0);
         }
-        self.bytes_at(e)
+        if self.kind_at(next) == TRICK {
+            return upto(self.text, 0);
+        }
+        self.bytes_at(next)
     }
 
     // The place behind the last of them.

@@ -11,10 +11,8 @@ pub mod items; // entries in a row, and the bytes that they name
 pub mod names; // the search for a tag name
 pub mod notes; // the notes of an auction
 pub mod page; // a board, and the page of an edition
-pub mod places; // texts put from a place on
 pub mod play; // the data lines of a play
 pub mod present; // which tags of a board are written
-pub mod put; // text put on a page and counted past its end
 pub mod remarks; // directives and commentary
 pub mod tags; // tags with what follows them
 pub mod tokens; // calls, cards, seats and other words

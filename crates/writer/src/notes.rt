@@ -4,14 +4,12 @@ ghost use Rattle.tables.specs.Text.{ascii};
 ghost use Rattle.tables.specs.Numbers.{decimal};
 ghost use Rattle.tables.specs.Puts.{Puts};
 ghost use Rattle.reader.specs.Words.{same};
-ghost use Rattle.reader.specs.Plain.{first_bytes};
 ghost use Rattle.writer.specs.Sections.{note_values};
 ghost use Rattle.writer.specs.PresentSteps.{is_any};
-ghost use Rattle.writer.specs.Held.{place_bytes, items_at};
-ghost use Rattle.writer.specs.Items.{items_of, remarks_text, tag_line_text, notes_text, tags_at, note_number, note_number_at, note_places, note_text, has_value, placed_note, takes_value, takes_tag, full_note, all_notes};
+ghost use Rattle.writer.specs.Items.{items_of, tag_at, remarks_text, tag_line_text, notes_text, tags_at, note_number, note_number_at, note_places, note_text, has_value, placed_note, takes_value, takes_tag, full_note, all_notes};
 
 use crate::items::{BLOCK, DIRECTIVE, Items, TAG};
-use crate::remarks::{Sought, put_remark, put_remarks};
+use crate::remarks::{put_remarks, put_under};
 use crate::tags::{put_close, put_open};
 use reader::names::{NOTE, tag_number};
 use reader::words::same;
@@ -144,11 +142,10 @@ fn takes_value(notes: &Notes, n: u8, fresh: bool, value: &[u8]) -> bool
 
 // Whether the note n takes the directives of the tag at the entry e.
 fn takes_tag(notes: &Notes, n: u8, fresh: bool, items: &Items, e: usize) -> bool
-    requires { e < 8589934592 }
-    ensures { result ≡ takes_tag notes.now.items.text.now notes.now.items.entries.now notes.now.places n fresh (record { name = place_bytes items.now.text.now items.now.entries.now e; value = first_bytes (items_at items.now.text.now items.now.entries.now (e + 1) (items.now.first + items.now.count - (e + 1))) }) }
+    ensures { result ≡ takes_tag notes.now.items.text.now notes.now.items.entries.now notes.now.places n fresh (tag_at items.now e) }
 {
     if same(b"Note", items.bytes_at(e)) {
-        return takes_value(notes, n, fresh, items.value_at(e + 1));
+        return takes_value(notes, n, fresh, items.value_behind(e));
     }
     false
 }
@@ -157,17 +154,9 @@ fn takes_tag(notes: &Notes, n: u8, fresh: bool, items: &Items, e: usize) -> bool
 fn put_taken(page: &mut Page, notes: &Notes, n: u8, fresh: bool, remarks: &Items)
     ensures { Puts page.old (remarks_text (takes_tag notes.now.items.text.now notes.now.items.entries.now notes.now.places n fresh) false 3 (items_of remarks.now)) page.new }
 {
-    let mut under = false;
-    for e in remarks.first..remarks.end() {
-        let met = remarks.kind_at(e);
-        if met == TAG {
-            under = takes_tag(notes, n, fresh, remarks, e);
-            continue;
-        }
-        if (met == DIRECTIVE) & under {
-            put_remark(page, DIRECTIVE, remarks.bytes_at(e));
-        }
-    }
+    put_remarks(page, remarks, false, DIRECTIVE, |e| {
+        takes_tag(notes, n, fresh, remarks, e)
+    });
 }
 
 // A note, the directives that it takes and, after the first, the blocks.
@@ -177,7 +166,7 @@ fn put_full_note(page: &mut Page, notes: &Notes, n: u8, fresh: bool, remarks: &I
     put_note(page, &notes.items, n, notes.places[n as usize]);
     put_taken(page, notes, n, fresh, remarks);
     if fresh {
-        put_remarks(page, remarks, Sought::Under, b"Note", BLOCK);
+        put_under(page, remarks, BLOCK, b"Note");
     }
 }
 

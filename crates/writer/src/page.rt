@@ -2,9 +2,8 @@
 ghost use Rattle.std.specs.Prelude.{◌≡◌, ◌∷◌, [], ◌++◌, ◌-◌, ◌≤◌, ◌<◌};
 ghost use Rattle.tables.specs.Puts.{Puts};
 ghost use Rattle.writer.specs.Pages.{built_in_header};
-ghost use Rattle.writer.specs.Items.{items_of, sought_text, deal_place};
+ghost use Rattle.writer.specs.Items.{Leading, items_of, sought_text, deal_place};
 ghost use Rattle.writer.specs.BoardTexts.{of_board, present_in, front_text, unwritten_text, back_text, header_held, next_held, parts_held, page_held};
-ghost use Rattle.writer.specs.declared.remarks.Sought.TheVariants.{Leading};
 
 use crate::board::{put_analysis, put_bidding, put_cards, put_contract, put_head};
 use crate::held::Board;
@@ -12,7 +11,7 @@ use crate::items::{BLOCK, DIRECTIVE, Items};
 use crate::names::find_name;
 use crate::notes::has_notes;
 use crate::present::Present;
-use crate::remarks::{Sought, put_remarks};
+use crate::remarks::{put_leading, put_lost};
 use crate::tags::put_extras;
 use tables::letters::Conventions;
 use tables::page::Page;
@@ -60,7 +59,7 @@ fn put_front(page: &mut Page, board: &Board, c: Conventions)
 {
     let items = board.items();
     let early = before_deal(&items);
-    put_remarks(page, &board.remarks, Sought::Leading, b"", BLOCK);
+    put_leading(page, &board.remarks, BLOCK);
     put_head(page, board, c);
     put_extras(page, &board.remarks, &items, items.first, early);
     put_contract(page, board, c);
@@ -74,9 +73,9 @@ fn put_unwritten(page: &mut Page, board: &Board)
     if board.remarks.count == 0 {
         return;
     }
-    let lost = Sought::Unwritten(present_at(board));
-    put_remarks(page, &board.remarks, lost, b"", BLOCK);
-    put_remarks(page, &board.remarks, lost, b"", DIRECTIVE);
+    let present = present_at(board);
+    put_lost(page, &board.remarks, BLOCK, present);
+    put_lost(page, &board.remarks, DIRECTIVE, present);
 }
 
 // The tags from the late supplemental ones on, and what is put at the end.
@@ -101,7 +100,7 @@ fn put_back(page: &mut Page, board: &Board, c: Conventions)
 fn put_lead(page: &mut Page, board: &Board)
     ensures { Puts page.old (sought_text Leading [] 3 (items_of board.now.remarks)) page.new }
 {
-    put_remarks(page, &board.remarks, Sought::Leading, b"", DIRECTIVE);
+    put_leading(page, &board.remarks, DIRECTIVE);
 }
 
 // The other lines of a board.

@@ -39,15 +39,12 @@ fn one_more(n: usize, k: usize) -> usize
 fn put_trick(page: &mut Page, c: Conventions, z: usize)
     ensures { Puts page.old (slots_text c 0 (four_slots z)) page.new }
 {
-    put_slot(page, c, 0, z % 256);
-    let one = one_more(0, z % 256);
-    put_slot(page, c, one, z / 256 % 256);
-    let two = one_more(one, z / 256 % 256);
-    put_slot(page, c, two, z / 65536 % 256);
-    let three = one_more(two, z / 65536 % 256);
-    put_slot(page, c, three, z / 16777216 % 256);
-    let four = one_more(three, z / 16777216 % 256);
-    put_last(page, four);
+    let mut cards: usize = 0;
+    for k in [z % 256, z / 256 % 256, z / 65536 % 256, z / 16777216 % 256] {
+        put_slot(page, c, cards, k);
+        cards = one_more(cards, k);
+    }
+    put_last(page, cards);
 }
 
 // A line for each trick with cards.

@@ -1,8 +1,8 @@
 // Directives and commentary blocks, put back after the tag that they followed.
-ghost use Rattle.std.specs.Prelude.{◌≡◌, ◌&&◌, ◌+◌, ◌≤◌, ◌<◌, eqb, length, get_or};
-ghost use Rattle.reader.specs.Plain.{without_returns};
+ghost use Rattle.std.specs.Prelude.{◌≡◌, ◌&&◌, ◌+◌, ◌≤◌, ◌<◌, ℕ, Bool, [], eqb, length, get_or};
+ghost use Rattle.reader.specs.Plain.{TagPair, without_returns};
 ghost use Rattle.tables.specs.Puts.{Puts};
-ghost use Rattle.writer.specs.Items.{items_of, sought_by, is_first, remark_text, sought_text, after_text};
+ghost use Rattle.writer.specs.Items.{Leading, Under, Unwritten, items_of, tag_at, remark_text, remarks_text, sought_text, after_text};
 
 use crate::items::{BLOCK, DIRECTIVE, Items, TAG};
 use crate::present::{Present, is_written};
@@ -10,39 +10,6 @@ use reader::names::tag_number;
 use reader::words::same;
 use tables::page::Page;
 use tables::text::byte_at;
-
-// The remarks sought: those before every tag, those under a name, those whose tag is not written.
-#[derive(Clone, Copy)]
-pub enum Sought {
-    Leading,
-    Under,
-    Unwritten(Present),
-}
-
-// Whether the remarks behind a tag are sought.
-fn is_sought(s: Sought, name: &[u8], tag: &[u8]) -> bool
-    ensures { result ≡ sought_by s name.now tag.now }
-{
-    match s {
-        Sought::Leading => false,
-        Sought::Under => same(name, tag),
-        Sought::Unwritten(p) => {
-            let written = is_written(p, tag_number(tag));
-            !written
-        }
-    }
-}
-
-// Whether those before every tag are.
-fn is_first(s: Sought) -> bool
-    ensures { result ≡ is_first s }
-{
-    match s {
-        Sought::Leading => true,
-        Sought::Under => false,
-        Sought::Unwritten(_) => false,
-    }
-}
 
 // Whether the byte at i is a CR before an LF.
 fn is_dropped(s: &[u8], i: usize) -> bool
@@ -78,16 +45,23 @@ pub(crate) fn put_remark(page: &mut Page, kind: usize, s: &[u8])
     page.put_byte(10);
 }
 
-// The remarks of a kind that are sought.
-pub(crate) fn put_remarks(page: &mut Page, items: &Items, sought: Sought, name: &[u8], kind: usize)
-    requires { kind ≤ 4 }
-    ensures { Puts page.old (sought_text sought name.now kind (items_of items.now)) page.new }
+// The remarks of a kind behind the tags that are taken, and before the first tag where first says so.
+pub(crate) fn put_remarks<F: Fn(usize) -> bool>(
+    page: &mut Page,
+    items: &Items,
+    first: bool,
+    kind: usize,
+    takes: F,
+)
+    requires small { kind ≤ 4 }
+    requires callable { F.IsAlwaysCallable takes }
+    ensures { (p : TagPair → Bool) → ((e : ℕ) (r : Bool) → e < items.now.first + items.now.count → F.post takes e r → r ≡ p (tag_at items.now e)) → Puts page.old (remarks_text p first kind (items_of items.now)) page.new }
 {
-    let mut under = is_first(sought);
+    let mut under = first;
     for e in items.first..items.end() {
         let met = items.kind_at(e);
         if met == TAG {
-            under = is_sought(sought, name, items.bytes_at(e));
+            under = takes(e);
             continue;
         }
         if (met == kind) & under {
@@ -96,10 +70,36 @@ pub(crate) fn put_remarks(page: &mut Page, items: &Items, sought: Sought, name: 
     }
 }
 
+// The remarks of a kind before every tag.
+pub(crate) fn put_leading(page: &mut Page, items: &Items, kind: usize)
+    requires { kind ≤ 4 }
+    ensures { Puts page.old (sought_text Leading [] kind (items_of items.now)) page.new }
+{
+    put_remarks(page, items, true, kind, |_| false);
+}
+
+// Those under a name.
+pub(crate) fn put_under(page: &mut Page, items: &Items, kind: usize, name: &[u8])
+    requires { kind ≤ 4 }
+    ensures { Puts page.old (sought_text Under name.now kind (items_of items.now)) page.new }
+{
+    put_remarks(page, items, false, kind, |e| same(name, items.bytes_at(e)));
+}
+
+// Those whose tag is not written.
+pub(crate) fn put_lost(page: &mut Page, items: &Items, kind: usize, present: Present)
+    requires { kind ≤ 4 }
+    ensures { Puts page.old (sought_text (Unwritten present) [] kind (items_of items.now)) page.new }
+{
+    put_remarks(page, items, false, kind, |e| {
+        !is_written(present, tag_number(items.bytes_at(e)))
+    });
+}
+
 // What follows a written tag whose name no other has: its directives, then its blocks.
 pub(crate) fn put_after(page: &mut Page, remarks: &Items, name: &[u8])
     ensures { Puts page.old (after_text name.now (items_of remarks.now)) page.new }
 {
-    put_remarks(page, remarks, Sought::Under, name, DIRECTIVE);
-    put_remarks(page, remarks, Sought::Under, name, BLOCK);
+    put_under(page, remarks, DIRECTIVE, name);
+    put_under(page, remarks, BLOCK, name);
 }

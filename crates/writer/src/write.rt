@@ -2,10 +2,9 @@
 ghost use Rattle.std.specs.Prelude.{◌≡◌};
 ghost use Rattle.tables.specs.Letters.{built_in};
 ghost use Rattle.reader.specs.Store.{zeros};
-ghost use Rattle.writer.specs.Puts.{Puts};
 ghost use Rattle.writer.specs.BoardTexts.{page_held};
 ghost use Rattle.writer.specs.Writings.{write_number, write_carries, IsWritten};
-ghost use Rattle.writer.specs.WritingSteps.{WritingEnded};
+ghost use Rattle.writer.specs.WritingSteps.{PagePut, WritingEnded};
 
 use crate::page::put_page;
 use reader::edition::{ReadRefusal, Reading, read_carried, read_number, read_pbn_with};
@@ -61,7 +60,7 @@ pub(crate) fn put_edition(
     boards: usize,
     bytes: &mut [u8],
 ) -> usize
-    ensures { Puts bytes.old 0 (page_held c text.now cards.now entries.now boards) bytes.new result }
+    ensures { PagePut bytes.old (page_held c text.now cards.now entries.now boards) bytes.new result }
 {
     let mut page = Page::new(bytes);
     put_page(&mut page, text, cards, entries, c, boards);

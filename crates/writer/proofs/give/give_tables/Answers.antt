@@ -23,12 +23,6 @@ slip_after-slip-requires c =
     let a = c.args in
     omega (arith, giving_few a.olds a.old_cards.now a.news a.new_cards.now a.answers.now c.requires.0 c.requires.1 c.loop-k.invariant, c.requires.1, c.type_inv)
 
-pub overflow_add-k : goal.overflow_add-k
-overflow_add-k c = omega (arith, c.loop-k-test.true, c.requires.1, c.type_inv)
-
-pub loop-k-smaller : goal.loop-k-smaller
-loop-k-smaller c = omega (arith, c.loop-k-test.true)
-
 pub loop-k-preserved : goal.loop-k-preserved
 loop-k-preserved c =
     let a = c.args in

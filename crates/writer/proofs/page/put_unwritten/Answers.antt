@@ -7,4 +7,4 @@ returns-then-board-eq0 c =
 
 pub returns : goal.returns
 returns c =
-    rw (← c.present_at.ensures) (puts_then c.put_remarks.ensures c.put_remarks-2.ensures)
+    rw (← c.present_at-present.ensures) (puts_then c.put_lost.ensures c.put_lost-2.ensures)

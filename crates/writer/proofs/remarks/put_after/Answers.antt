@@ -5,4 +5,4 @@ use Rattle.writer.proofs.remarks.put_after.Goals as goal
 pub returns : goal.returns
 unfolding after_text
 returns c =
-    puts_then c.put_remarks.ensures c.put_remarks-2.ensures
+    puts_then c.put_under.ensures c.put_under-2.ensures

@@ -1,7 +1,0 @@
-use Rattle.writer.proofs.PutLaws.{puts_lent}
-use borrow.Author.Rules.{rules}
-use Rattle.writer.proofs.places.put_before.Goals as goal
-
-pub returns : goal.returns
-returns c =
-    puts_lent c.put_before.ensures (search rules) (search rules)
