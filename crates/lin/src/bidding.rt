@@ -86,10 +86,9 @@ fn is_bid(code: u8) -> bool
 }
 
 pub(crate) fn next_seat(seat: u8) -> u8
-    requires { seat ≤ 4 }
     ensures { (result ≡ next_seat seat) × (result ≤ 3) }
 {
-    (seat + 1) % 4
+    (seat % 4 + 1) % 4
 }
 
 // The contract after one more call, by a seat.

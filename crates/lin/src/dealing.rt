@@ -10,7 +10,8 @@ use reader::words::card_number;
 use tables::letters::{Conventions, rank_of, suit_of};
 use tables::text::{first_character, from, index_of, is_inside, trim, upto};
 
-// A hand that is being read: the cards so far, with those of the hands before it, how many are its own, and its suit.
+// A hand that is being read: the cards so far, with those of the hands before it, how many are its own, and its suit. That it is sound
+// stands in the contracts, and not in a ghost field, since the specs make parts too and would have to prove it at each.
 #[derive(Clone, Copy)]
 pub struct LinPart {
     pub cards: u64,
