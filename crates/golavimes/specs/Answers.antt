@@ -1,6 +1,6 @@
 -- What the C functions hand back. An answer array is: refusal number (0 none), edition (0 none), carried number, then the values, which
 -- are 0 after a refusal. Each function also returns the refusal number.
-use Rattle.std.specs.Prelude.{ℕ, ◌-◌, ◌≡◌, List, [], ◌∷◌, length, get_or}
+use Rattle.std.specs.Prelude.{ℕ, ◌-◌, ◌≡◌, List, [], ◌∷◌, length, get_or, Option, Some, None}
 use Rattle.tables.specs.declared.dd.Decoded.{Decoded}
 use Rattle.tables.specs.declared.dd.Decoded.TheVariants.{Table}
 use Rattle.tables.specs.declared.dd.Decoded.TheVariants as decoded
@@ -18,7 +18,6 @@ use Rattle.reader.specs.Store.{lent}
 use Rattle.reader.specs.Editions.{read_number, read_carries, reading_of, is_taken, cards_of, entries_of}
 use Rattle.planning.specs.declared.state.BoardState.{BoardState}
 use Rattle.planning.specs.declared.behind.Behind.{Behind}
-use Rattle.planning.specs.declared.behind.Behind.TheVariants.{InOld, InNew, Nothing}
 use Rattle.planning.specs.declared.editions.Editions.{Editions}
 use Rattle.planning.specs.declared.editions.Editions.TheVariants.{Both}
 use Rattle.planning.specs.declared.editions.Editions.TheVariants as editions
@@ -28,7 +27,7 @@ use Rattle.planning.specs.declared.plan.Planning.{Planning}
 use Rattle.planning.specs.declared.plan.Planning.TheVariants.{Planned}
 use Rattle.planning.specs.declared.plan.Planning.TheVariants as planning
 use Rattle.planning.specs.States.{state_number, from_of}
-use Rattle.planning.specs.Slips.{slips_of}
+use Rattle.planning.specs.Slips.{slips_of, edition_number}
 use Rattle.planning.specs.Plans.{plan_number, plan_edition, plan_carries, Boxes, editions_of, are_both, planning_of, is_planned, plans_of, BoxesAfter, state_by, behind_by, boards_after, searches_after, words_by}
 use Rattle.writer.specs.declared.write.Writing.{Writing}
 use Rattle.writer.specs.declared.write.Writing.TheVariants as writing
@@ -93,12 +92,11 @@ abbrev pub state_numbers : Editions → BoardState → List ℕ
 state_numbers r s = head_then (editions_head r) (state_number s ∷ from_of s ∷ [])
 
 -- A record's answer: the edition of the part (0 empty, 1 old, 2 new), its start and its length.
-abbrev pub part_numbers : Behind → List ℕ
-part_numbers (InOld a e) = 1 ∷ a ∷ (e - a) ∷ []
-part_numbers (InNew a e) = 2 ∷ a ∷ (e - a) ∷ []
-part_numbers Nothing = 0 ∷ 0 ∷ 0 ∷ []
+abbrev pub part_numbers : Option Behind → List ℕ
+part_numbers (Some b) = edition_number b.edition ∷ b.start ∷ (b.end - b.start) ∷ []
+part_numbers None = 0 ∷ 0 ∷ 0 ∷ []
 
-abbrev pub record_numbers : Editions → Behind → List ℕ
+abbrev pub record_numbers : Editions → Option Behind → List ℕ
 record_numbers r b = head_then (editions_head r) (part_numbers b)
 
 -- The boards of the new edition.

@@ -16,7 +16,7 @@ use Rattle.reader.proofs.Counts.{TextBoardsFew}
 use Rattle.planning.specs.declared.state.BoardState.{BoardState}
 use Rattle.planning.specs.declared.state.BoardState.TheVariants.{Blank}
 use Rattle.planning.specs.declared.behind.Behind.{Behind}
-use Rattle.planning.specs.declared.behind.Behind.TheVariants.{Nothing}
+use Rattle.std.specs.Prelude.{Option, None}
 use Rattle.planning.specs.declared.editions.EditionsRefusal.{EditionsRefusal}
 use Rattle.planning.specs.declared.plan.PlanRefusal.TheVariants.{Edition, SlipsShort}
 use Rattle.planning.specs.declared.editions.Editions.{Editions}
@@ -91,10 +91,10 @@ module _ {c : Conventions} {old new : List ℕ} {boxes boxes' : Boxes} {r : Edit
   pub state_none : {p : ℕ} {f : EditionsRefusal} → r ≡ editions.Refused f → StateTold c old new boxes boxes' p r Blank
   state_none e = record { editions_read = b; state = rw e }
 
-  pub behind_told : {m n p : ℕ} {s : Behind} → r ≡ Both m n → s ≡ behind_at (cards_in m boxes'.old_cards) (cards_in n boxes'.new_cards) (board_plans (cards_in m boxes'.old_cards) (cards_in n boxes'.new_cards)) p → BehindTold c old new boxes boxes' p (Both m n) s
+  pub behind_told : {m n p : ℕ} {s : Option Behind} → r ≡ Both m n → s ≡ behind_at (cards_in m boxes'.old_cards) (cards_in n boxes'.new_cards) (board_plans (cards_in m boxes'.old_cards) (cards_in n boxes'.new_cards)) p → BehindTold c old new boxes boxes' p (Both m n) s
   behind_told e f = record { editions_read = as_told e; behind = f ∙ rw ((there e).0.cards, (there e).1.cards) }
 
-  pub behind_none : {p : ℕ} {f : EditionsRefusal} → r ≡ editions.Refused f → BehindTold c old new boxes boxes' p r Nothing
+  pub behind_none : {p : ℕ} {f : EditionsRefusal} → r ≡ editions.Refused f → BehindTold c old new boxes boxes' p r None
   behind_none e = record { editions_read = b; behind = rw e }
 
   pub boards_told : {m n : ℕ} {zs numbers numbers' : List ℕ} → r ≡ Both m n → zs ≡ zeros numbers
@@ -163,7 +163,7 @@ module _ {c : Conventions} {old new : List ℕ} {boxes boxes' : Boxes} {r : Edit
       }
 
 -- The record behind a board, as a part of a text.
-pub part_told : {c : Conventions} {old new : List ℕ} {boxes boxes' : Boxes} {p : ℕ} {r : Editions} {s : Behind} {part : List ℕ}
+pub part_told : {c : Conventions} {old new : List ℕ} {boxes boxes' : Boxes} {p : ℕ} {r : Editions} {s : Option Behind} {part : List ℕ}
     → BehindTold c old new boxes boxes' p r s → part ≡ part_of old new s → PartTold c old new boxes boxes' p part
 part_told {c} {old} {new} {boxes} {boxes'} {p} {r} {s} b e =
     let a = b.editions_read.answer in

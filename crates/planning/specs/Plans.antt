@@ -1,5 +1,5 @@
 -- The answers of planning, and its contracts.
-use Rattle.std.specs.Prelude.{ℕ, ◌/◌, ◌≡◌, Bool, true, false, cond, List, ltb, length, replicate}
+use Rattle.std.specs.Prelude.{ℕ, ◌/◌, ◌≡◌, Bool, true, false, cond, List, ltb, length, replicate, Option, None}
 use Rattle.tables.specs.declared.letters.Conventions.{Conventions}
 use Rattle.reader.specs.declared.edition.Reading.{Reading}
 use Rattle.reader.specs.declared.edition.Reading.TheVariants.{Taken}
@@ -9,7 +9,6 @@ use Rattle.reader.specs.Editions.{read_number, read_carries, reading_of, cards_o
 use Rattle.planning.specs.declared.state.BoardState.{BoardState}
 use Rattle.planning.specs.declared.state.BoardState.TheVariants.{Blank}
 use Rattle.planning.specs.declared.behind.Behind.{Behind}
-use Rattle.planning.specs.declared.behind.Behind.TheVariants.{Nothing}
 use Rattle.planning.specs.declared.editions.EditionsRefusal.{EditionsRefusal}
 use Rattle.planning.specs.declared.editions.EditionsRefusal.TheVariants.{Old, New}
 use Rattle.planning.specs.declared.editions.Editions.{Editions}
@@ -134,9 +133,9 @@ state_by (Both m n) js p = state_at js p
 state_by (editions.Refused f) js p = Blank
 
 -- The record behind a board: nothing after a refusal.
-abbrev pub behind_by : Editions → Conventions → List ℕ → List ℕ → ℕ → Behind
+abbrev pub behind_by : Editions → Conventions → List ℕ → List ℕ → ℕ → Option Behind
 behind_by (Both m n) c old new p = behind_at (cards_of c old) (cards_of c new) (plans_of c old new) p
-behind_by (editions.Refused f) c old new p = Nothing
+behind_by (editions.Refused f) c old new p = None
 
 -- ls lent numbers afterwards: fives, as many whole ones as fit, and zeros behind them; zeros after a refusal.
 abbrev pub fives_after : Editions → List (List ℕ) → ℕ → List ℕ
@@ -161,7 +160,7 @@ pub record StateTold (c : Conventions) (old new : List ℕ) (boxes boxes' : Boxe
   pub state : s ≡ state_by r (plans_of c old new) p
 
 -- The contract of place_behind: the places of the record behind a board.
-pub record BehindTold (c : Conventions) (old new : List ℕ) (boxes boxes' : Boxes) (p : ℕ) (r : Editions) (b : Behind) : Type 0 where
+pub record BehindTold (c : Conventions) (old new : List ℕ) (boxes boxes' : Boxes) (p : ℕ) (r : Editions) (b : Option Behind) : Type 0 where
   pub editions_read : BothRead c old new boxes boxes' r
   pub behind : b ≡ behind_by r c old new p
 

@@ -1,49 +1,18 @@
 // Every board's state and record behind it, from one reading.
-ghost use Rattle.std.specs.Prelude.{◌≡◌, ◌<◌, length, get_or};
+ghost use Rattle.std.specs.Prelude.{◌≡◌, ◌<◌, length};
 ghost use Rattle.tables.specs.Letters.{built_in};
 ghost use Rattle.reader.specs.Store.{put_all};
 ghost use Rattle.planning.specs.PlanSteps.{plan_here};
 ghost use Rattle.planning.specs.States.{board_plans};
-ghost use Rattle.planning.specs.Slips.{behind_numbers, board_numbers, numbers_from};
+ghost use Rattle.planning.specs.Slips.{board_numbers, numbers_from};
 ghost use Rattle.planning.specs.Plans.{BoardsTold};
 
-use crate::behind::{Behind, behind_state};
+use crate::behind::behind_state;
 use crate::cards::{Card, cards_in};
 use crate::editions::{Editions, read_both};
 use crate::numbers::{put_five, zero_numbers};
-use crate::state::{from_of, state_number, state_of};
+use crate::state::state_of;
 use tables::letters::{Conventions, built_in};
-
-// 0 none, 1 old, 2 new.
-fn edition_of(b: Behind) -> u64
-    ensures { result ≡ get_or (behind_numbers b) 0 0 }
-{
-    match b {
-        Behind::InOld(_, _) => 1,
-        Behind::InNew(_, _) => 2,
-        Behind::Nothing => 0,
-    }
-}
-
-fn start_of(b: Behind) -> u64
-    ensures { result ≡ get_or (behind_numbers b) 1 0 }
-{
-    match b {
-        Behind::InOld(a, _) => a,
-        Behind::InNew(a, _) => a,
-        Behind::Nothing => 0,
-    }
-}
-
-fn end_of(b: Behind) -> u64
-    ensures { result ≡ get_or (behind_numbers b) 2 0 }
-{
-    match b {
-        Behind::InOld(_, e) => e,
-        Behind::InNew(_, e) => e,
-        Behind::Nothing => 0,
-    }
-}
 
 // The five numbers of the board at index k.
 fn board_numbers(olds: &[Card], news: &[Card], k: usize) -> [u64; 5]
@@ -53,11 +22,11 @@ fn board_numbers(olds: &[Card], news: &[Card], k: usize) -> [u64; 5]
     let s = state_of(olds, news, k);
     let b = behind_state(olds, news, (k + 1) as u64, s);
     [
-        state_number(s),
-        from_of(s),
-        edition_of(b),
-        start_of(b),
-        end_of(b),
+        s.number(),
+        s.source(),
+        b.edition.number(),
+        b.start,
+        b.end,
     ]
 }
 

@@ -12,7 +12,7 @@ use crate::editions::{
     Editions, EditionsRefusal, edition_refused, editions_carried, editions_number, read_both,
 };
 use crate::numbers::{put_five, zero_numbers};
-use crate::state::{BoardState, state_number, state_of};
+use crate::state::{BoardState, state_of};
 use reader::deal::hands_of_words;
 use reader::store::zero;
 use tables::letters::{Conventions, built_in};
@@ -99,7 +99,7 @@ pub(crate) fn slip_of(p: u64, card: &Card) -> [u64; 5]
 fn put_slip(slips: &mut [u64], n: usize, p: u64, card: &Card, s: BoardState)
     ensures { slips.new ≡ cond (is_solve s) (put 5 slips.old n (slip_of p card.now)) slips.old }
 {
-    if state_number(s) == 5 {
+    if s.is_solve() {
         put_five(slips, n, slip_of(p, card));
     }
 }

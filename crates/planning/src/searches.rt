@@ -11,7 +11,7 @@ use crate::cards::{Card, cards_in, deal_at};
 use crate::editions::{Editions, read_both};
 use crate::numbers::{put_five, zero_numbers};
 use crate::search::search_with;
-use crate::state::{from_of, state_number, state_of};
+use crate::state::state_of;
 use tables::letters::{Conventions, built_in};
 
 // Whether both editions were taken, and the words compared for all boards, 0 after a refusal.
@@ -28,8 +28,8 @@ fn search_numbers(olds: &[Card], news: &[Card], k: usize) -> [u64; 5]
     ensures { result ≡ search_numbers olds.now news.now (plan_here olds.now news.now k) }
 {
     let s = state_of(olds, news, k);
-    let state = state_number(s);
-    let from = from_of(s);
+    let state = s.number();
+    let from = s.source();
     if state < 2 {
         return [state, from, 0, 0, 0];
     }

@@ -9,7 +9,7 @@ ghost use Rattle.planning.specs.Plans.{IsPlanned};
 use crate::cards::{Card, cards_in};
 use crate::editions::{Editions, read_both};
 use crate::plan::{PlanRefusal, Planning, count_boards, settle, slip_of};
-use crate::state::{state_number, state_of};
+use crate::state::state_of;
 use tables::letters::{Conventions, built_in};
 
 // A board's position from 1 and its hands.
@@ -57,8 +57,7 @@ fn next_slip(olds: &[Card], news: &[Card], k: usize) -> NextSlip
     ensures { (result ≡ next_of olds.now news.now k) × (result.next ≤ length news.now) }
 {
     for i in k..news.len() {
-        let s = state_of(olds, news, i);
-        if state_number(s) == 5 {
+        if state_of(olds, news, i).is_solve() {
             let slip = slip_here((i + 1) as u64, &news[i]);
             return NextSlip { next: i + 1, slip };
         }

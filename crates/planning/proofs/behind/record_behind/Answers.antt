@@ -1,13 +1,10 @@
-use Rattle.planning.specs.Slips.{part_of}
 use mathlib.Core.Path.{sym, ap, ◌∙◌}
+use Rattle.planning.specs.Slips.{part_of}
 use Rattle.planning.proofs.AnswerLaws.{part_told}
 use Rattle.planning.proofs.behind.record_behind.Goals as goal
 
-pub returns-in-InOld : goal.returns-in-InOld
-returns-in-InOld c = part_told c.place_behind-found.ensures (c.part.ensures ∙ sym (ap (part_of c.args.old.now c.args.new.now) c.in-InOld.is))
+pub returns-in-Some : goal.returns-in-Some
+returns-in-Some c = part_told c.place_behind-found.ensures (rw c.text.ensures at c.part.ensures ∙ sym (ap (part_of c.args.old.now c.args.new.now) c.in-Some.is))
 
-pub returns-in-InNew : goal.returns-in-InNew
-returns-in-InNew c = part_told c.place_behind-found.ensures (c.part-in-InNew.ensures ∙ sym (ap (part_of c.args.old.now c.args.new.now) c.in-InNew.is))
-
-pub returns-in-Nothing : goal.returns-in-Nothing
-returns-in-Nothing c = part_told c.place_behind-found.ensures (c.upto.ensures ∙ sym (ap (part_of c.args.old.now c.args.new.now) c.in-Nothing.is))
+pub returns-in-None : goal.returns-in-None
+returns-in-None c = part_told c.place_behind-found.ensures (sym (ap (part_of c.args.old.now c.args.new.now) c.in-None.is))
