@@ -6,13 +6,13 @@ use mathlib.Core.List.{List}
 use native.Mathlib.Omega.{arith}
 use lib.Dec.{leb}
 use lib.ListN.{length, get_or}
+use Rattle.std.specs.Prelude.{Result, Ok, Err, is_ok}
 use Rattle.tables.specs.declared.letters.Conventions.{Conventions}
 use Rattle.tables.proofs.Laws.{by_cases, clash}
-use Rattle.reader.specs.declared.edition.Reading.{Reading}
-use Rattle.reader.specs.declared.edition.Reading.TheVariants.{Taken}
-use Rattle.reader.specs.declared.edition.Reading.TheVariants as reading
+use Rattle.reader.specs.declared.edition.Counts.{Counts}
+use Rattle.reader.specs.declared.edition.ReadRefusal.{ReadRefusal}
 use Rattle.reader.specs.Store.{flat, padded}
-use Rattle.reader.specs.Editions.{is_taken, reading_of, cards_of, entries_of}
+use Rattle.reader.specs.Editions.{reading_of, cards_of, entries_of}
 use Rattle.planning.specs.declared.editions.EditionsRefusal.TheVariants.{Old, New}
 use Rattle.planning.specs.declared.editions.Editions.{Editions}
 use Rattle.planning.specs.declared.editions.Editions.TheVariants.{Both}
@@ -45,20 +45,19 @@ pub record Held (c : Conventions) (text cards entries : List ℕ) : Type 0 where
   pub entries_are : entries ≡ padded lent_entries (flat (entries_of c text))
 
 -- An edition taken, with its answer.
-pub record TakenAs (r : Reading) : Type 0 where
-  pub boards : ℕ
-  pub count : ℕ
-  pub is : r ≡ Taken boards count
+pub record TakenAs (r : Result Counts ReadRefusal) : Type 0 where
+  pub counts : Counts
+  pub is : r ≡ Ok counts
 
-pub taken_as : (r : Reading) → is_taken r ≡ true → TakenAs r
-taken_as (Taken m n) e = record { boards = m; count = n; is = refl }
-taken_as (reading.Refused f) e = clash e
+pub taken_as : (r : Result Counts ReadRefusal) → is_ok r ≡ true → TakenAs r
+taken_as (Ok n) e = record { counts = n; is = refl }
+taken_as (Err f) e = clash e
 
-held : (c : Conventions) (text cards entries : List ℕ) (lc le : ℕ) → is_taken (reading_of c text lc le) ≡ true
+held : (c : Conventions) (text cards entries : List ℕ) (lc le : ℕ) → is_ok (reading_of c text lc le) ≡ true
     → cards ≡ padded lc (flat (cards_of c text)) → entries ≡ padded le (flat (entries_of c text)) → Held c text cards entries
 held c text cards entries lc le t ec ee =
     let a = taken_as (reading_of c text lc le) t in
-    let f = taken_fits c text lc le a.boards a.count a.is in
+    let f = taken_fits c text lc le a.counts a.is in
     record {
       short = taken_short c text lc le t;
       lent_cards = lc;
@@ -69,18 +68,18 @@ held c text cards entries lc le t ec ee =
       entries_are = ee;
     }
 
-pub reading_zero : (r : Reading) → get_or (reading_numbers r) 0 0 ≡ 0 → is_taken r ≡ true
-reading_zero (Taken m n) e = refl
-reading_zero (reading.Refused f) e = absurd (read_number_lem f e)
+pub reading_zero : (r : Result Counts ReadRefusal) → get_or (reading_numbers r) 0 0 ≡ 0 → is_ok r ≡ true
+reading_zero (Ok n) e = refl
+reading_zero (Err f) e = absurd (read_number_lem f e)
 
 -- A writing that begins with 0: the edition was taken, and the page was long enough.
-pub writing_zero : (bs : List ℕ) (m : ℕ) (r : Reading) → get_or (writing_numbers (written_by bs m r)) 0 0 ≡ 0
-    → (is_taken r ≡ true) × (written_by bs m r ≡ Written (length bs))
-writing_zero bs m (Taken boards entries) e =
+pub writing_zero : (bs : List ℕ) (m : ℕ) (r : Result Counts ReadRefusal) → get_or (writing_numbers (written_by bs m r)) 0 0 ≡ 0
+    → (is_ok r ≡ true) × (written_by bs m r ≡ Written (length bs))
+writing_zero bs m (Ok n) e =
     by_cases (leb (length bs) m)
     (λ t. (refl, rw t))
     (λ t. let z = rw t at e in absurd (omega arith))
-writing_zero bs m (reading.Refused f) e = absurd (read_number_lem f e)
+writing_zero bs m (Err f) e = absurd (read_number_lem f e)
 
 -- ---- two editions
 

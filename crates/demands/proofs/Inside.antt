@@ -4,24 +4,18 @@ use mathlib.Core.Path.{◌≡◌, refl, sym, ◌∙◌, ap}
 use mathlib.Core.Bool.{true}
 use mathlib.Core.List.{List, [], ◌∷◌, ◌++◌}
 use native.Mathlib.Omega.{arith}
-use lib.Dec.{ltb}
 use lib.ListN.{length, get_or, length-append}
-use borrow.Author.Tests.{ltb-false}
 use Rattle.tables.specs.declared.letters.Conventions.{Conventions}
-use Rattle.tables.proofs.Laws.{by_cases, clash}
 use Rattle.reader.specs.declared.deal.Hands.{Hands}
-use Rattle.reader.specs.declared.edition.Reading.{Reading}
-use Rattle.reader.specs.declared.edition.Reading.TheVariants.{Taken}
-use Rattle.reader.specs.declared.edition.Reading.TheVariants as reading
 use Rattle.reader.specs.Deals.{hands_of_words}
 use Rattle.reader.specs.Records.{AlikeBut}
-use Rattle.reader.specs.Editions.{is_taken, card_of, cards_of}
+use Rattle.reader.specs.Editions.{card_of, cards_of}
 use Rattle.reader.specs.Fellows.{Stands, Fellow}
 use Rattle.reader.proofs.CardShape.{word_back}
 use Rattle.reader.proofs.Fellows.{EveryBoard, RecordEnds, InsideOnly, AlikeOther, InsideOrFellow}
 use Rattle.planning.specs.Cards.{hands_of}
 use Rattle.planning.specs.Slips.{card_from}
-use Rattle.planning.specs.Plans.{Boxes, old_reading, new_reading, both_after, editions_of, are_both}
+use Rattle.planning.specs.Plans.{Boxes, old_reading, new_reading, editions_of, are_both}
 use Rattle.planning.specs.Demands.{Among, here, WithDeal, Tabled, None, InFront, InStretch, InBack, AllSolved, ListedInside}
 use Rattle.planning.proofs.BothLaws.{both_are_taken, taken_short}
 use Rattle.planning.proofs.FoundLaws.{numbered, among_right}

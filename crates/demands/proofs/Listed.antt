@@ -8,16 +8,16 @@ use lib.Dec.{ltb}
 use lib.ListN.{length, get_or, take, drop, replicate, length-append, length-replicate}
 use lib.Seq.{drop_at, drop-drop, get_or-take, get_or-drop}
 use borrow.Author.Tests.{ltb-true, ltb-false, le-ltb}
+use Rattle.std.specs.Prelude.{Result, Ok, Err, is_ok}
 use Rattle.tables.specs.declared.letters.Conventions.{Conventions}
 use Rattle.tables.proofs.Laws.{by_cases, clash}
 use Rattle.reader.specs.declared.deal.Hands.{Hands}
-use Rattle.reader.specs.declared.edition.Reading.{Reading}
-use Rattle.reader.specs.declared.edition.Reading.TheVariants.{Taken}
-use Rattle.reader.specs.declared.edition.Reading.TheVariants as reading
+use Rattle.reader.specs.declared.edition.Counts.{Counts}
+use Rattle.reader.specs.declared.edition.ReadRefusal.{ReadRefusal}
 use Rattle.reader.specs.Store.{flat, padded}
 use Rattle.reader.specs.Deals.{ones, card_count, whole_hands}
 use Rattle.reader.proofs.DealLaws.{WholeHands}
-use Rattle.reader.specs.Editions.{is_taken, cards_of}
+use Rattle.reader.specs.Editions.{cards_of}
 use Rattle.planning.specs.declared.state.BoardState.TheVariants.{Solve}
 use Rattle.planning.specs.declared.editions.Editions.{Editions}
 use Rattle.planning.specs.declared.editions.Editions.TheVariants.{Both}
@@ -274,10 +274,10 @@ totals_told c old new boxes slips boxes' slips' t p =
 
 -- ---- when planning is not refused
 
-both_are : (x y : Reading) (lent : ℕ) (u : Totals) → is_taken x ≡ true → is_taken y ≡ true → u.solve ≤ lent → planned_by (both_after x y) lent u ≡ Planned u
-both_are (Taken m n) (Taken k l) lent u a b h = rw (le-ltb lent u.solve h)
-both_are (Taken m n) (reading.Refused f) lent u a b h = clash b
-both_are (reading.Refused f) y lent u a b h = clash a
+both_are : (x y : Result Counts ReadRefusal) (lent : ℕ) (u : Totals) → is_ok x ≡ true → is_ok y ≡ true → u.solve ≤ lent → planned_by (both_after x y) lent u ≡ Planned u
+both_are (Ok m) (Ok n) lent u a b h = rw (le-ltb lent u.solve h)
+both_are (Ok m) (Err f) lent u a b h = clash b
+both_are (Err f) y lent u a b h = clash a
 
 pub planned_if_taken : PlannedIfTaken
 unfolding planning_of editions_of

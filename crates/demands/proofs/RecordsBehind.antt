@@ -6,14 +6,13 @@ use mathlib.Core.List.{List, [], ◌∷◌, ◌++◌}
 use native.Mathlib.Omega.{arith}
 use lib.ListN.{length, get_or, take, drop}
 use lib.Seq.{take_at, drop_at}
-use Rattle.std.specs.Prelude.{Some}
+use Rattle.std.specs.Prelude.{Some, Result, Ok, Err, is_ok}
 use Rattle.tables.specs.declared.letters.Conventions.{Conventions}
 use Rattle.tables.proofs.Laws.{clash}
-use Rattle.reader.specs.declared.edition.Reading.{Reading}
-use Rattle.reader.specs.declared.edition.Reading.TheVariants.{Taken}
-use Rattle.reader.specs.declared.edition.Reading.TheVariants as reading
+use Rattle.reader.specs.declared.edition.Counts.{Counts}
+use Rattle.reader.specs.declared.edition.ReadRefusal.{ReadRefusal}
 use Rattle.reader.specs.Records.{records_of}
-use Rattle.reader.specs.Editions.{is_taken, card_of, cards_of}
+use Rattle.reader.specs.Editions.{card_of, cards_of}
 use Rattle.reader.specs.Fellows.{Stands}
 use Rattle.reader.proofs.Fellows.{EveryBoard, RecordFilled, RecordEnds}
 use Rattle.planning.specs.declared.state.BoardState.{BoardState}
@@ -102,11 +101,11 @@ places_behind c old new (suc i) so sn o l =
 
 -- ---- as handed back
 
-both_behind : (x y : Reading) (c : Conventions) (old new : List ℕ) (p : ℕ) → is_taken x ≡ true → is_taken y ≡ true
+both_behind : (x y : Result Counts ReadRefusal) (c : Conventions) (old new : List ℕ) (p : ℕ) → is_ok x ≡ true → is_ok y ≡ true
     → behind_by (both_after x y) c old new p ≡ behind_at (cards_of c old) (cards_of c new) (plans_of c old new) p
-both_behind (Taken m n) (Taken k l) c old new p a b = refl
-both_behind (Taken m n) (reading.Refused f) c old new p a b = clash b
-both_behind (reading.Refused f) y c old new p a b = clash a
+both_behind (Ok m) (Ok n) c old new p a b = refl
+both_behind (Ok m) (Err f) c old new p a b = clash b
+both_behind (Err f) y c old new p a b = clash a
 
 pub records_behind : RecordsBehind
 unfolding editions_of

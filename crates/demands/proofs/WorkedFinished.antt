@@ -8,14 +8,14 @@ use lib.Dec.{ltb}
 use lib.ListN.{length, get_or, length-replicate}
 use lib.Seq.{take_all}
 use borrow.Author.Tests.{ltb-true}
+use Rattle.std.specs.Prelude.{Ok}
 use Rattle.tables.specs.declared.letters.Conventions.{Conventions}
 use Rattle.tables.specs.Letters.{built_in}
 use Rattle.tables.proofs.Laws.{by_cases}
 use Rattle.tables.proofs.LetterLaws.{built_in_accepted}
-use Rattle.reader.specs.declared.edition.Reading.TheVariants.{Taken}
 use Rattle.reader.specs.Deals.{ones, card_count, whole_hands, hand_words, hands_of_words}
 use Rattle.reader.specs.Store.{lent}
-use Rattle.reader.specs.Editions.{reading_of, cards_of, entries_of}
+use Rattle.reader.specs.Editions.{reading_of, cards_of, entries_of, counts_of}
 use Rattle.planning.specs.declared.plan.Totals.{Totals}
 use Rattle.planning.specs.declared.plan.Planning.TheVariants.{Planned}
 use Rattle.planning.specs.Cards.{card_deal, is_whole, has_table}
@@ -48,7 +48,7 @@ not_below : (a b : ℕ) → (a < b → ⊥) → ltb a b ≡ false
 not_below a b h = by_cases (ltb a b) (λ e. absurd (h (ltb-true a b e))) (λ e. e)
 
 taken_reading : (c : Conventions) (text cards entries : List ℕ) → IsTaken c text cards entries
-    → reading_of c text (length cards) (length entries) ≡ Taken (boards_in c text) (entries_in c text)
+    → reading_of c text (length cards) (length entries) ≡ Ok (counts_of c text)
 unfolding reading_of
 taken_reading c text cards entries t =
     rw (

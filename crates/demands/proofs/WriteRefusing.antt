@@ -1,22 +1,20 @@
 -- Demand 1 of golavimes_write.
-use Prim.Native.Nat.{ℕ, ◌<◌, ◌≤◌}
-use mathlib.Core.Path.{◌≡◌, refl, sym, ap, ◌∙◌}
-use mathlib.Core.Bool.{Bool, true, false, cond}
+use Prim.Native.Nat.{ℕ, ◌<◌}
+use mathlib.Core.Path.{◌≡◌, refl, ap, ◌∙◌}
+use mathlib.Core.Bool.{false}
 use mathlib.Core.List.{List, [], ◌∷◌, ◌++◌}
-use lib.Dec.{ltb, leb}
 use lib.ListN.{length, get_or}
 use borrow.Author.Tests.{ltb-true, ltb-false, lt-leb, le-leb}
+use Rattle.std.specs.Prelude.{Ok, Err}
 use Rattle.tables.specs.declared.letters.Conventions.{Conventions}
-use Rattle.reader.specs.declared.edition.Reading.{Reading}
-use Rattle.reader.specs.declared.edition.Reading.TheVariants.{Taken}
-use Rattle.reader.specs.declared.edition.Reading.TheVariants as reading
+use Rattle.reader.specs.declared.edition.Counts.{Counts}
 use Rattle.reader.specs.declared.edition.ReadRefusal.{ReadRefusal}
 use Rattle.reader.specs.Editions.{read_number, read_carries, reading_of}
 use Rattle.writer.specs.declared.write.Writing.{Writing}
 use Rattle.writer.specs.declared.write.Writing.TheVariants.{Written, Refused}
 use Rattle.writer.specs.declared.write.WriteRefusal.TheVariants.{Edition, PageFull}
 use Rattle.writer.specs.Pages.{written_text}
-use Rattle.writer.specs.Writings.{written_by, writing_of, is_written}
+use Rattle.writer.specs.Writings.{writing_of, is_written}
 use Rattle.golavimes.specs.Answers.{writing_numbers}
 use Rattle.demands.specs.Demand1.{refusal, of_edition, NoValues, WriteRefuses}
 use Rattle.demands.proofs.Refusing.{Says, Met, nothing, met_below, edition_met, first_that_holds}
@@ -36,14 +34,14 @@ writing_one (Refused f) = refl
 
 module _ (c : Conventions) (text cards entries page answer : List ℕ)
     (told : answer ≡ writing_numbers (writing_of c text (length cards) (length entries) (length page))) where
-  refused_says : (f : ReadRefusal) → reading_of c text (length cards) (length entries) ≡ reading.Refused f → Says answer (read_number f) 0 (read_carries f)
+  refused_says : (f : ReadRefusal) → reading_of c text (length cards) (length entries) ≡ Err f → Says answer (read_number f) 0 (read_carries f)
   unfolding writing_of
   refused_says f q = says_writing (Refused (Edition f)) answer (read_number f) (read_carries f) (rw q at told) refl refl refl
 
-  taken_met : (m n : ℕ) → reading_of c text (length cards) (length entries) ≡ Taken m n
+  taken_met : (n : Counts) → reading_of c text (length cards) (length entries) ≡ Ok n
       → Met answer (refusal 7 0 (length (written_text c text)) (length page < length (written_text c text)) ∷ [])
   unfolding writing_of
-  taken_met m n q =
+  taken_met n q =
       met_below 7 0 (length (written_text c text)) (length page) (length (written_text c text))
       (λ t. says_writing (Refused (PageFull (length (written_text c text)))) answer 7 (length (written_text c text))
       (rw (q, lt-leb (length (written_text c text)) (length page) (ltb-true (length page) (length (written_text c text)) t)) at told) refl refl refl)

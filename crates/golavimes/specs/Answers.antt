@@ -1,6 +1,6 @@
 -- What the C functions hand back. An answer array is: refusal number (0 none), edition (0 none), carried number, then the values, which
 -- are 0 after a refusal. Each function also returns the refusal number.
-use Rattle.std.specs.Prelude.{ℕ, ◌-◌, ◌≡◌, List, [], ◌∷◌, length, get_or, Option, Some, None}
+use Rattle.std.specs.Prelude.{ℕ, ◌-◌, ◌≡◌, List, [], ◌∷◌, length, get_or, Option, Some, None, Result, Ok, Err, is_ok}
 use Rattle.tables.specs.declared.dd.Decoded.{Decoded}
 use Rattle.tables.specs.declared.dd.Decoded.TheVariants.{Table}
 use Rattle.tables.specs.declared.dd.Decoded.TheVariants as decoded
@@ -11,11 +11,10 @@ use Rattle.tables.specs.Refusals.{refusal_number, refusal_carries}
 use Rattle.tables.specs.Page.{answer_of, page_of}
 use Rattle.tables.specs.Tables.{TableReading, table_read}
 use Rattle.tables.specs.declared.letters.Conventions.{Conventions}
-use Rattle.reader.specs.declared.edition.Reading.{Reading}
-use Rattle.reader.specs.declared.edition.Reading.TheVariants.{Taken}
-use Rattle.reader.specs.declared.edition.Reading.TheVariants as edition
+use Rattle.reader.specs.declared.edition.Counts.{Counts}
+use Rattle.reader.specs.declared.edition.ReadRefusal.{ReadRefusal}
 use Rattle.reader.specs.Store.{lent}
-use Rattle.reader.specs.Editions.{read_number, read_carries, reading_of, is_taken, cards_of, entries_of}
+use Rattle.reader.specs.Editions.{read_number, read_carries, reading_of, cards_of, entries_of}
 use Rattle.planning.specs.declared.state.BoardState.{BoardState}
 use Rattle.planning.specs.declared.behind.Behind.{Behind}
 use Rattle.planning.specs.declared.editions.Editions.{Editions}
@@ -52,9 +51,9 @@ decoded_numbers Table = 0 ∷ 0 ∷ 0 ∷ []
 decoded_numbers (decoded.Refused f) = refusal_number f ∷ 0 ∷ refusal_carries f ∷ []
 
 -- An edition's answer: its boards and entries.
-abbrev pub reading_numbers : Reading → List ℕ
-reading_numbers (Taken boards entries) = 0 ∷ 0 ∷ 0 ∷ boards ∷ entries ∷ []
-reading_numbers (edition.Refused f) = read_number f ∷ 0 ∷ read_carries f ∷ 0 ∷ 0 ∷ []
+abbrev pub reading_numbers : Result Counts ReadRefusal → List ℕ
+reading_numbers (Ok n) = 0 ∷ 0 ∷ 0 ∷ n.boards ∷ n.entries ∷ []
+reading_numbers (Err f) = read_number f ∷ 0 ∷ read_carries f ∷ 0 ∷ 0 ∷ []
 
 -- A written edition's answer: the bytes written.
 abbrev pub writing_numbers : Writing → List ℕ
@@ -126,8 +125,8 @@ pub record ReadOut (reading : TableReading) (table' answer' : List ℕ) (r : ℕ
 -- A text is read into lent cards and entries, whatever they and the answer held.
 pub record EditionOut (c : Conventions) (text cards entries cards' entries' answer' : List ℕ) (r : ℕ) : Type 0 where
   pub told : answer' ≡ reading_numbers (reading_of c text (length cards) (length entries))
-  pub cards_after : cards' ≡ lent (is_taken (reading_of c text (length cards) (length entries))) (length cards) (cards_of c text)
-  pub entries_after : entries' ≡ lent (is_taken (reading_of c text (length cards) (length entries))) (length entries) (entries_of c text)
+  pub cards_after : cards' ≡ lent (is_ok (reading_of c text (length cards) (length entries))) (length cards) (cards_of c text)
+  pub entries_after : entries' ≡ lent (is_ok (reading_of c text (length cards) (length entries))) (length entries) (entries_of c text)
   pub returned : r ≡ get_or answer' 0 0
 
 -- A text is read and written on a lent page, whatever was lent and whatever it held.

@@ -11,7 +11,7 @@ use planning::behind::Behind;
 use planning::editions::Editions;
 use planning::plan::{PlanRefusal, Planning};
 use planning::state::BoardState;
-use reader::edition::Reading;
+use reader::edition::{Counts, ReadRefusal};
 use tables::dd::{Decoded, TableRead};
 use tables::page::Written;
 use writer::finish::Finishing;
@@ -109,12 +109,12 @@ pub fn golavimes_optimum_result_table_from_rows(
     )
 }
 
-fn reading_numbers(r: Reading) -> [u64; 5]
+fn reading_numbers(r: Result<Counts, ReadRefusal>) -> [u64; 5]
     ensures { result ≡ reading_numbers r }
 {
     match r {
-        Reading::Taken(boards, entries) => [0, 0, 0, boards, entries],
-        Reading::Refused(f) => [
+        Ok(counts) => [0, 0, 0, counts.boards as u64, counts.entries as u64],
+        Err(f) => [
             reader::edition::read_number(f),
             0,
             reader::edition::read_carried(f),

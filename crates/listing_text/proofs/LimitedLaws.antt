@@ -5,12 +5,11 @@ use mathlib.Core.Bool.{false}
 use mathlib.Core.List.{List}
 use lib.ListN.{length}
 use borrow.Author.Tests.{lt-ltb, le-ltb}
+use Rattle.std.specs.Prelude.{Result, Ok, Err}
 use Rattle.tables.specs.declared.letters.Conventions.{Conventions}
 use Rattle.reader.specs.declared.edition.ReadRefusal.{ReadRefusal}
 use Rattle.reader.specs.declared.edition.ReadRefusal.TheVariants.{Overlong}
-use Rattle.reader.specs.declared.edition.Reading.{Reading}
-use Rattle.reader.specs.declared.edition.Reading.TheVariants.{Taken}
-use Rattle.reader.specs.declared.edition.Reading.TheVariants as reading
+use Rattle.reader.specs.declared.edition.Counts.{Counts}
 use Rattle.reader.specs.Editions.{IsRead}
 use Rattle.planning.specs.declared.editions.EditionsRefusal.TheVariants.{Old}
 use Rattle.planning.specs.declared.editions.Editions.{Editions}
@@ -31,18 +30,18 @@ module _ {c : Conventions} {limit : ℕ} {old new : List ℕ} where
   }
 
   -- The old edition is read, and all words are set to 0.
-  pub new_long : {oc oe oc₁ oe₁ nc ne : List ℕ} {boxes' : Boxes} {r s : Reading} → length old ≤ limit → limit < length new
+  pub new_long : {oc oe oc₁ oe₁ nc ne : List ℕ} {boxes' : Boxes} {r s : Result Counts ReadRefusal} → length old ≤ limit → limit < length new
       → IsRead c old oc oe r oc₁ oe₁ → length oc₁ ≡ length oc → length oe₁ ≡ length oe → BoxesKept false (four oc₁ oe₁ nc ne) boxes' → r ≡ s
-      → BothLimited c limit old new (four oc oe nc ne) boxes' (both_after s (reading.Refused (Overlong (length new))))
+      → BothLimited c limit old new (four oc oe nc ne) boxes' (both_after s (Err (Overlong (length new))))
   unfolding limited_both limited_of
   new_long {s = s} h l i lc le k e = record {
     answer = rw (← e, le-ltb limit (length old) h, lt-ltb limit (length new) l, i.answer);
     boxes_left = rw (not_both s (Overlong (length new))) record { old_cards = k.old_cards ∙ rw lc; old_entries = k.old_entries ∙ rw le; new_cards = k.new_cards; new_entries = k.new_entries };
   }
     where
-      not_both : (s : Reading) (f : ReadRefusal) → are_both (both_after s (reading.Refused f)) ≡ false
-      not_both (Taken b e) f = refl
-      not_both (reading.Refused g) f = refl
+      not_both : (s : Result Counts ReadRefusal) (f : ReadRefusal) → are_both (both_after s (Err f)) ≡ false
+      not_both (Ok n) f = refl
+      not_both (Err g) f = refl
 
   pub both_within : {boxes boxes' : Boxes} {r : Editions} → length old ≤ limit → length new ≤ limit → BothRead c old new boxes boxes' r
       → BothLimited c limit old new boxes boxes' r

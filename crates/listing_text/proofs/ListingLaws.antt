@@ -7,6 +7,7 @@ use native.Mathlib.Omega.{arith}
 use lib.Dec.{ltb, leb}
 use lib.ListN.{length, take, replicate, length-replicate}
 use lib.Seq.{length-sets}
+use Rattle.std.specs.Prelude.{is_ok}
 use Rattle.tables.specs.declared.letters.Conventions.{Conventions}
 use Rattle.tables.specs.declared.page.Written.{Written}
 use Rattle.tables.specs.Page.{Wrote}
@@ -14,7 +15,7 @@ use Rattle.tables.specs.PageSteps.{Put}
 use Rattle.tables.proofs.Laws.{by_cases, clash}
 use Rattle.tables.proofs.PageLaws.{ToPut, to_put, putting, put_all_lem, finished}
 use Rattle.reader.specs.Store.{zeros, put_all, lent}
-use Rattle.reader.specs.Editions.{is_taken, reading_of}
+use Rattle.reader.specs.Editions.{reading_of}
 use Rattle.reader.proofs.StoreLaws.{Blocks, put_zeros}
 use Rattle.reader.proofs.Counts.{TextBoardsFew}
 use Rattle.planning.specs.declared.state.BoardState.{BoardState}
@@ -43,7 +44,7 @@ use Rattle.planning.proofs.AnswerLaws.{SameRoom, boxes_kept, listed_fits, solve_
 
 -- ---- two editions that were taken are within the limit
 
-pub limited_taken : (c : Conventions) (limit : ℕ) (text : List ℕ) (lc le : ℕ) → is_taken (limited_of c limit text lc le) ≡ true → limited_of c limit text lc le ≡ reading_of c text lc le
+pub limited_taken : (c : Conventions) (limit : ℕ) (text : List ℕ) (lc le : ℕ) → is_ok (limited_of c limit text lc le) ≡ true → limited_of c limit text lc le ≡ reading_of c text lc le
 unfolding limited_of
 limited_taken c limit text lc le h =
     by_cases (ltb limit (length text))
@@ -68,8 +69,8 @@ taken_both c limit old new boxes h =
     let en = limited_taken c limit new nc ne t.1 in
     record {
       plain = rw (eo, en);
-      old_short = taken_short c old lc le (sym (ap is_taken eo) ∙ t.0);
-      new_short = taken_short c new nc ne (sym (ap is_taken en) ∙ t.1);
+      old_short = taken_short c old lc le (sym (ap is_ok eo) ∙ t.0);
+      new_short = taken_short c new nc ne (sym (ap is_ok en) ∙ t.1);
     }
 
 module _ {c : Conventions} {limit : ℕ} {old new : List ℕ} {boxes boxes' : Boxes} {r : Editions} (b : BothLimited c limit old new boxes boxes' r) where

@@ -8,6 +8,7 @@ use native.Mathlib.Omega.{arith}
 use lib.Dec.{eqb}
 use lib.ListN.{length, length-append}
 use borrow.Author.Tests.{le-leb, le-ltb, lt-ltb}
+use Rattle.std.specs.Prelude.{Result, Ok, Err, is_ok}
 use Rattle.tables.specs.declared.letters.Conventions.{Conventions}
 use Rattle.tables.specs.Text.{ascii}
 use Rattle.tables.specs.Numbers.{decimal}
@@ -16,10 +17,8 @@ use Rattle.tables.proofs.Laws.{clash}
 use Rattle.tables.proofs.PageLaws.{decimal_few}
 use Rattle.reader.specs.declared.edition.ReadRefusal.{ReadRefusal}
 use Rattle.reader.specs.declared.edition.ReadRefusal.TheVariants.{Overlong}
-use Rattle.reader.specs.declared.edition.Reading.{Reading}
-use Rattle.reader.specs.declared.edition.Reading.TheVariants.{Taken}
-use Rattle.reader.specs.declared.edition.Reading.TheVariants as reading
-use Rattle.reader.specs.Editions.{is_taken, reading_of, cards_of}
+use Rattle.reader.specs.declared.edition.Counts.{Counts}
+use Rattle.reader.specs.Editions.{reading_of, cards_of}
 use Rattle.planning.specs.declared.state.BoardState.{BoardState}
 use Rattle.planning.specs.declared.state.BoardState.TheVariants.{Blank, Own, Old, Near, Twin, Solve}
 use Rattle.planning.specs.declared.editions.EditionsRefusal.TheVariants.{Old as OldRefused, New as NewRefused}
@@ -132,15 +131,15 @@ TextFew (planning.Refused f) js n h = omega (arith, refused_few f)
 
 -- ---- what a taken edition is
 
-taken_few : (c : Conventions) (text : List ℕ) (lc le : ℕ) → is_taken (reading_of c text lc le) ≡ true → 64 * length (cards_of c text) ≤ lc
+taken_few : (c : Conventions) (text : List ℕ) (lc le : ℕ) → is_ok (reading_of c text lc le) ≡ true → 64 * length (cards_of c text) ≤ lc
 taken_few c text lc le h = go (reading_of c text lc le) refl h
   where
-    go : (r : Reading) → reading_of c text lc le ≡ r → is_taken r ≡ true → 64 * length (cards_of c text) ≤ lc
-    go (Taken b e) q x = (taken_fits c text lc le b e q).cards_fit
-    go (reading.Refused f) q x = clash x
+    go : (r : Result Counts ReadRefusal) → reading_of c text lc le ≡ r → is_ok r ≡ true → 64 * length (cards_of c text) ≤ lc
+    go (Ok n) q x = (taken_fits c text lc le n q).cards_fit
+    go (Err f) q x = clash x
 
-limited_few : (c : Conventions) (limit : ℕ) (text : List ℕ) (lc le : ℕ) → is_taken (limited_of c limit text lc le) ≡ true → 64 * length (cards_of c text) ≤ lc
-limited_few c limit text lc le h = taken_few c text lc le (sym (ap is_taken (limited_taken c limit text lc le h)) ∙ h)
+limited_few : (c : Conventions) (limit : ℕ) (text : List ℕ) (lc le : ℕ) → is_ok (limited_of c limit text lc le) ≡ true → 64 * length (cards_of c text) ≤ lc
+limited_few c limit text lc le h = taken_few c text lc le (sym (ap is_ok (limited_taken c limit text lc le h)) ∙ h)
 
 planned_both : (e : Editions) (l : ℕ) (t : Totals) → is_planned (planned_by e l t) ≡ true → are_both e ≡ true
 planned_both (Both m n) l t h = refl
@@ -178,13 +177,13 @@ slips_enough c limit old new boxes room =
     js : List BoardPlan
     js = plans_of c old new
 
-    go : (r s : Reading) → (is_taken s ≡ true → 64 * length (cards_of c new) ≤ 8192) → slips_short (planned_by (both_after r s) (640 / 5) (totals_of js)) ≡ false
-    go (Taken b e) (Taken d g) h =
+    go : (r s : Result Counts ReadRefusal) → (is_ok s ≡ true → 64 * length (cards_of c new) ≤ 8192) → slips_short (planned_by (both_after r s) (640 / 5) (totals_of js)) ≡ false
+    go (Ok m) (Ok n) h =
         let k = h refl in
         let low : (totals_of js).solve ≤ 640 / 5 = omega (arith, k, solve_sum js, count_few 5 js, boards_are_cards c old new) in
         rw (le-ltb (640 / 5) (totals_of js).solve low)
-    go (Taken b e) (reading.Refused f) h = refl
-    go (reading.Refused f) s h = refl
+    go (Ok m) (Err f) h = refl
+    go (Err f) s h = refl
 
 -- ---- the limit
 
@@ -200,11 +199,11 @@ module _ (c : Conventions) (limit : ℕ) (old new : List ℕ) (boxes : Boxes) (l
   OldOverlong h = rw (lt-ltb limit (length old) h)
 
   -- THEOREM. Any other refusal of the old edition is told too, whatever the new one is.
-  pub OldFirst : {f : ReadRefusal} → length old ≤ limit → old_reading c old boxes ≡ reading.Refused f → listing_plan c limit old new boxes ls ≡ planning.Refused (Edition (OldRefused f))
+  pub OldFirst : {f : ReadRefusal} → length old ≤ limit → old_reading c old boxes ≡ Err f → listing_plan c limit old new boxes ls ≡ planning.Refused (Edition (OldRefused f))
   unfolding listing_plan limited_both limited_of
   OldFirst h e = rw (le-ltb limit (length old) h, e)
 
   -- THEOREM. Where the old edition is taken, a new one longer than the limit is refused with its length.
-  pub NewOverlong : {b e : ℕ} → length old ≤ limit → old_reading c old boxes ≡ Taken b e → limit < length new → listing_plan c limit old new boxes ls ≡ planning.Refused (Edition (NewRefused (Overlong (length new))))
+  pub NewOverlong : {n : Counts} → length old ≤ limit → old_reading c old boxes ≡ Ok n → limit < length new → listing_plan c limit old new boxes ls ≡ planning.Refused (Edition (NewRefused (Overlong (length new))))
   unfolding listing_plan limited_both limited_of
   NewOverlong h e g = rw (le-ltb limit (length old) h, e, lt-ltb limit (length new) g)

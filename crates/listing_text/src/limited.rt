@@ -3,7 +3,7 @@ ghost use Rattle.listing_text.specs.ListingSteps.{BothLimited};
 
 use planning::editions::{Editions, EditionsRefusal, read_both};
 use planning::plan::zero_boxes;
-use reader::edition::{ReadRefusal, Reading, read_pbn_with};
+use reader::edition::{ReadRefusal, read_pbn_with};
 use tables::letters::Conventions;
 
 // Reads both editions, if neither is longer than the limit. A refusal of either leaves all lent words zero.
@@ -30,7 +30,7 @@ pub(crate) fn read_both_limited(
     if limit < new.len() {
         let first = read_pbn_with(c, old, old_cards, old_entries);
         zero_boxes(old_cards, old_entries, new_cards, new_entries);
-        let Reading::Refused(f) = first else {
+        let Err(f) = first else {
             return Editions::Refused(EditionsRefusal::New(ReadRefusal::Overlong(new.len() as u64)));
         };
         return Editions::Refused(EditionsRefusal::Old(f));

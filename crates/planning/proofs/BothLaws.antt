@@ -7,14 +7,13 @@ use native.Mathlib.Omega.{arith}
 use lib.Dec.{ltb}
 use lib.ListN.{length, length-append, length-replicate}
 use borrow.Author.Tests.{ltb-false}
+use Rattle.std.specs.Prelude.{Result, Ok, Err, is_ok}
 use Rattle.tables.specs.declared.letters.Conventions.{Conventions}
 use Rattle.reader.specs.declared.edition.ReadRefusal.{ReadRefusal}
-use Rattle.reader.specs.declared.edition.Reading.{Reading}
-use Rattle.reader.specs.declared.edition.Reading.TheVariants.{Taken}
-use Rattle.reader.specs.declared.edition.Reading.TheVariants as reading
+use Rattle.reader.specs.declared.edition.Counts.{Counts}
 use Rattle.tables.proofs.Laws.{by_cases, clash}
 use Rattle.reader.specs.Store.{flat, padded, zeros}
-use Rattle.reader.specs.Editions.{reading_of, cards_of, IsRead, is_taken}
+use Rattle.reader.specs.Editions.{reading_of, cards_of, IsRead}
 use Rattle.reader.specs.EditionSteps.{FullCards}
 use Rattle.planning.specs.declared.editions.EditionsRefusal.TheVariants.{Old, New}
 use Rattle.planning.specs.declared.editions.Editions.{Editions}
@@ -26,8 +25,8 @@ use Rattle.planning.proofs.BoxLaws.{four, cards_back, taken_fits}
 
 -- ---- both editions: one law for each answer
 
-module _ {c : Conventions} {old new oc oe nc ne oc' oe' : List ℕ} {r : Reading} (i : IsRead c old oc oe r oc' oe') where
-  pub old_refused : {f : ReadRefusal} {nc' ne' : List ℕ} → r ≡ reading.Refused f → nc' ≡ zeros nc → ne' ≡ zeros ne
+module _ {c : Conventions} {old new oc oe nc ne oc' oe' : List ℕ} {r : Result Counts ReadRefusal} (i : IsRead c old oc oe r oc' oe') where
+  pub old_refused : {f : ReadRefusal} {nc' ne' : List ℕ} → r ≡ Err f → nc' ≡ zeros nc → ne' ≡ zeros ne
       → BothRead c old new (four oc oe nc ne) (four oc' oe' nc' ne') (editions.Refused (Old f))
   unfolding editions_of
   old_refused e ec ee = record {
@@ -40,7 +39,7 @@ module _ {c : Conventions} {old new oc oe nc ne oc' oe' : List ℕ} {r : Reading
     };
   }
 
-  pub new_refused : {m x : ℕ} {f : ReadRefusal} {s : Reading} {nc' ne' oc'' oe'' : List ℕ} → r ≡ Taken m x → IsRead c new nc ne s nc' ne' → s ≡ reading.Refused f
+  pub new_refused : {m : Counts} {f : ReadRefusal} {s : Result Counts ReadRefusal} {nc' ne' oc'' oe'' : List ℕ} → r ≡ Ok m → IsRead c new nc ne s nc' ne' → s ≡ Err f
       → length oc' ≡ length oc → length oe' ≡ length oe → oc'' ≡ zeros oc' → oe'' ≡ zeros oe'
       → BothRead c old new (four oc oe nc ne) (four oc'' oe'' nc' ne') (editions.Refused (New f))
   unfolding editions_of
@@ -54,8 +53,8 @@ module _ {c : Conventions} {old new oc oe nc ne oc' oe' : List ℕ} {r : Reading
     };
   }
 
-  pub both_taken : {m x n y : ℕ} {s : Reading} {nc' ne' : List ℕ} → r ≡ Taken m x → IsRead c new nc ne s nc' ne' → s ≡ Taken n y
-      → BothRead c old new (four oc oe nc ne) (four oc' oe' nc' ne') (Both m n)
+  pub both_taken : {m n : Counts} {s : Result Counts ReadRefusal} {nc' ne' : List ℕ} → r ≡ Ok m → IsRead c new nc ne s nc' ne' → s ≡ Ok n
+      → BothRead c old new (four oc oe nc ne) (four oc' oe' nc' ne') (Both m.boards n.boards)
   unfolding editions_of
   both_taken e j e₂ = record {
     answer = rw (← i.answer, e, ← j.answer, e₂);
@@ -69,12 +68,12 @@ module _ {c : Conventions} {old new oc oe nc ne oc' oe' : List ℕ} {r : Reading
 
 -- ---- both were taken
 
-pub both_are_taken : (r s : Reading) → are_both (both_after r s) ≡ true → (is_taken r ≡ true) × (is_taken s ≡ true)
-both_are_taken (Taken b e) (Taken d g) h = (refl, refl)
-both_are_taken (Taken b e) (reading.Refused f) h = clash h
-both_are_taken (reading.Refused f) s h = clash h
+pub both_are_taken : (r s : Result Counts ReadRefusal) → are_both (both_after r s) ≡ true → (is_ok r ≡ true) × (is_ok s ≡ true)
+both_are_taken (Ok m) (Ok n) h = (refl, refl)
+both_are_taken (Ok m) (Err f) h = clash h
+both_are_taken (Err f) s h = clash h
 
-pub taken_short : (c : Conventions) (text : List ℕ) (lc le : ℕ) → is_taken (reading_of c text lc le) ≡ true → length text ≤ 16777215
+pub taken_short : (c : Conventions) (text : List ℕ) (lc le : ℕ) → is_ok (reading_of c text lc le) ≡ true → length text ≤ 16777215
 unfolding reading_of
 taken_short c text lc le h =
     by_cases (ltb 16777215 (length text))
@@ -92,17 +91,18 @@ news_in (Both m n) = n
 news_in (editions.Refused f) = 0
 
 -- An edition taken with n boards.
-record TakenAs (r : Reading) (n : ℕ) : Type 0 where
-  entries : ℕ
-  is : r ≡ Taken n entries
+record TakenAs (r : Result Counts ReadRefusal) (n : ℕ) : Type 0 where
+  counts : Counts
+  is : r ≡ Ok counts
+  boards : n ≡ counts.boards
 
-taken_both : (r s : Reading) (m n : ℕ) → Both m n ≡ both_after r s → TakenAs r m × TakenAs s n
-taken_both (Taken b e) (Taken d g) m n h = (
-  record { entries = e; is = ap (λ (k : ℕ). Taken k e) (sym (ap olds_in h)) },
-  record { entries = g; is = ap (λ (k : ℕ). Taken k g) (sym (ap news_in h)) },
+taken_both : (r s : Result Counts ReadRefusal) (m n : ℕ) → Both m n ≡ both_after r s → TakenAs r m × TakenAs s n
+taken_both (Ok k) (Ok l) m n h = (
+  record { counts = k; is = refl; boards = ap olds_in h },
+  record { counts = l; is = refl; boards = ap news_in h },
 )
-taken_both (Taken b e) (reading.Refused f) m n h = clash (sym (ap are_both h))
-taken_both (reading.Refused f) s m n h = clash (sym (ap are_both h))
+taken_both (Ok k) (Err f) m n h = clash (sym (ap are_both h))
+taken_both (Err f) s m n h = clash (sym (ap are_both h))
 
 -- The words hold the n cards of the text.
 pub record CardsThere (c : Conventions) (text box : List ℕ) (n : ℕ) : Type 0 where
@@ -110,15 +110,16 @@ pub record CardsThere (c : Conventions) (text box : List ℕ) (n : ℕ) : Type 0
   pub room : 64 * n ≤ length box
   pub cards : cards_in n box ≡ cards_of c text
 
-cards_there : (c : Conventions) (text : List ℕ) (lc le n e : ℕ) (box : List ℕ) → FullCards (cards_of c text) → reading_of c text lc le ≡ Taken n e → box ≡ padded lc (flat (cards_of c text))
+cards_there : (c : Conventions) (text : List ℕ) (lc le n : ℕ) (box : List ℕ) → FullCards (cards_of c text) → TakenAs (reading_of c text lc le) n → box ≡ padded lc (flat (cards_of c text))
     → CardsThere c text box n
-cards_there c text lc le n e box w t h =
-    let f = taken_fits c text lc le n e t in
+cards_there c text lc le n box w t h =
+    let f = taken_fits c text lc le t.counts t.is in
+    let e : n ≡ length (cards_of c text) = t.boards ∙ ap (λ (k : Counts). k.boards) f.counts_are in
     let l : length box ≡ length (flat (cards_of c text)) + (lc - length (flat (cards_of c text))) = rw (h, length-append, length-replicate) in
     record {
-      count = f.boards_are;
-      room = omega (arith, l, f.boards_are, f.cards_fit);
-      cards = rw (f.boards_are, h) (cards_back (cards_of c text) lc w f.cards_fit);
+      count = e;
+      room = omega (arith, l, e, f.cards_fit);
+      cards = rw (e, h) (cards_back (cards_of c text) lc w f.cards_fit);
     }
 
 -- FullCards (cards_of c text), which holds of every text, is taken as given.
@@ -127,6 +128,6 @@ pub both_cards : {c : Conventions} {old new : List ℕ} {boxes boxes' : Boxes} {
 unfolding editions_of
 both_cards {c} {old} {new} {boxes} {boxes'} {m} {n} b wo wn =
     let t = taken_both (old_reading c old boxes) (new_reading c new boxes) m n b.answer in (
-      cards_there c old (length boxes.old_cards) (length boxes.old_entries) m t.0.entries boxes'.old_cards wo t.0.is b.boxes_left.old_cards,
-      cards_there c new (length boxes.new_cards) (length boxes.new_entries) n t.1.entries boxes'.new_cards wn t.1.is b.boxes_left.new_cards,
+      cards_there c old (length boxes.old_cards) (length boxes.old_entries) m boxes'.old_cards wo t.0 b.boxes_left.old_cards,
+      cards_there c new (length boxes.new_cards) (length boxes.new_entries) n boxes'.new_cards wn t.1 b.boxes_left.new_cards,
     )

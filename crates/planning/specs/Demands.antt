@@ -1,12 +1,12 @@
 -- What planning promises beyond its contracts, as statements; the file that proves each is named beside it, in crates/demands (SamePlan,
 -- FoundSame and WordsFew: in planning), where no edit of planning pays for it. A card is one that the definitions read from its edition's
 -- text.
-use Rattle.std.specs.Prelude.{ℕ, zero, suc, ◌+◌, ◌-◌, ◌*◌, ◌/◌, ◌≤◌, ◌<◌, ◌≡◌, ◌↔◌, Bool, true, false, List, [], ◌∷◌, ◌++◌, length, get_or, take, drop, replicate}
+use Rattle.std.specs.Prelude.{ℕ, zero, suc, ◌+◌, ◌-◌, ◌*◌, ◌/◌, ◌≤◌, ◌<◌, ◌≡◌, ◌↔◌, Bool, true, false, List, [], ◌∷◌, ◌++◌, length, get_or, take, drop, replicate, is_ok}
 use Rattle.tables.specs.declared.letters.Conventions.{Conventions}
 use Rattle.reader.specs.declared.deal.Hands.{Hands}
 use Rattle.reader.specs.Deals.{whole_hands}
 use Rattle.reader.specs.Records.{records_of, AlikeBut}
-use Rattle.reader.specs.Editions.{is_taken, cards_of}
+use Rattle.reader.specs.Editions.{cards_of}
 use Rattle.planning.specs.declared.state.BoardState.{BoardState}
 use Rattle.planning.specs.declared.state.BoardState.TheVariants.{Blank, Own, Old, Near, Twin, Solve}
 use Rattle.planning.specs.declared.editions.Editions.TheVariants.{Both}
@@ -116,8 +116,8 @@ abbrev pub PlannedIfTaken : Type 0
 PlannedIfTaken =
     (c : Conventions) (old new : List ℕ) (boxes : Boxes) (slips : List ℕ) (boxes' : Boxes) (slips' : List ℕ) (r : Planning)
     → IsPlanned c old new boxes slips boxes' slips' r
-    → is_taken (old_reading c old boxes) ≡ true
-    → is_taken (new_reading c new boxes) ≡ true
+    → is_ok (old_reading c old boxes) ≡ true
+    → is_ok (new_reading c new boxes) ≡ true
     → (totals_of (plans_of c old new)).solve ≤ length slips / 5
     → r ≡ Planned (totals_of (plans_of c old new))
 
@@ -298,8 +298,8 @@ abbrev pub RecordsBehind : Type 0
 RecordsBehind =
     (c : Conventions) (old new : List ℕ) (boxes boxes' : Boxes) (p : ℕ) (part : List ℕ)
     → PartTold c old new boxes boxes' p part
-    → is_taken (old_reading c old boxes) ≡ true
-    → is_taken (new_reading c new boxes) ≡ true
+    → is_ok (old_reading c old boxes) ≡ true
+    → is_ok (new_reading c new boxes) ≡ true
     → 1 ≤ p → p ≤ length (cards_of c new)
     → IsBehind old new p (state_at (plans_of c old new) p) part
 

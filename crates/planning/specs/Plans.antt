@@ -1,9 +1,8 @@
 -- The answers of planning, and its contracts.
-use Rattle.std.specs.Prelude.{ℕ, ◌/◌, ◌≡◌, Bool, true, false, cond, List, ltb, length, replicate, Option, None}
+use Rattle.std.specs.Prelude.{ℕ, ◌/◌, ◌≡◌, Bool, true, false, cond, List, ltb, length, replicate, Option, None, Result, Ok, Err}
 use Rattle.tables.specs.declared.letters.Conventions.{Conventions}
-use Rattle.reader.specs.declared.edition.Reading.{Reading}
-use Rattle.reader.specs.declared.edition.Reading.TheVariants.{Taken}
-use Rattle.reader.specs.declared.edition.Reading.TheVariants as reading
+use Rattle.reader.specs.declared.edition.Counts.{Counts}
+use Rattle.reader.specs.declared.edition.ReadRefusal.{ReadRefusal}
 use Rattle.reader.specs.Store.{put_all, lent}
 use Rattle.reader.specs.Editions.{read_number, read_carries, reading_of, cards_of, entries_of}
 use Rattle.planning.specs.declared.state.BoardState.{BoardState}
@@ -62,21 +61,21 @@ pub record Boxes : Type 0 where
   pub new_entries : List ℕ
 
 -- The reading of each edition into its boxes.
-abbrev pub old_reading : Conventions → List ℕ → Boxes → Reading
+abbrev pub old_reading : Conventions → List ℕ → Boxes → Result Counts ReadRefusal
 old_reading c old boxes = reading_of c old (length boxes.old_cards) (length boxes.old_entries)
 
-abbrev pub new_reading : Conventions → List ℕ → Boxes → Reading
+abbrev pub new_reading : Conventions → List ℕ → Boxes → Result Counts ReadRefusal
 new_reading c new boxes = reading_of c new (length boxes.new_cards) (length boxes.new_entries)
 
 -- ---- both editions
 
-abbrev pub new_after : ℕ → Reading → Editions
-new_after m (Taken boards entries) = Both m boards
-new_after m (reading.Refused f) = editions.Refused (New f)
+abbrev pub new_after : ℕ → Result Counts ReadRefusal → Editions
+new_after m (Ok n) = Both m n.boards
+new_after m (Err f) = editions.Refused (New f)
 
-abbrev pub both_after : Reading → Reading → Editions
-both_after (Taken boards entries) new = new_after boards new
-both_after (reading.Refused f) new = editions.Refused (Old f)
+abbrev pub both_after : Result Counts ReadRefusal → Result Counts ReadRefusal → Editions
+both_after (Ok n) new = new_after n.boards new
+both_after (Err f) new = editions.Refused (Old f)
 
 -- The answer for the texts, with these boxes lent.
 unfoldable pub editions_of : Conventions → List ℕ → List ℕ → Boxes → Editions

@@ -2,7 +2,7 @@
 ghost use Rattle.std.specs.Prelude.{◌≡◌};
 ghost use Rattle.planning.specs.Plans.{editions_number, editions_carries, edition_refused, BothRead};
 
-use reader::edition::{ReadRefusal, Reading, read_carried, read_number, read_pbn_with};
+use reader::edition::{ReadRefusal, read_carried, read_number, read_pbn_with};
 use reader::store::zero;
 use tables::letters::Conventions;
 
@@ -64,18 +64,18 @@ pub fn read_both(
         result }
 {
     match read_pbn_with(c, old, old_cards, old_entries) {
-        Reading::Refused(f) => {
+        Err(f) => {
             zero(new_cards);
             zero(new_entries);
             Editions::Refused(EditionsRefusal::Old(f))
         }
-        Reading::Taken(m, _) => match read_pbn_with(c, new, new_cards, new_entries) {
-            Reading::Refused(f) => {
+        Ok(m) => match read_pbn_with(c, new, new_cards, new_entries) {
+            Err(f) => {
                 zero(old_cards);
                 zero(old_entries);
                 Editions::Refused(EditionsRefusal::New(f))
             }
-            Reading::Taken(n, _) => Editions::Both(m, n),
+            Ok(n) => Editions::Both(m.boards as u64, n.boards as u64),
         },
     }
 }

@@ -8,6 +8,7 @@ use borrow.Author.Tests.{ltb-false, lt-ltb, le-ltb}
 use lib.Dec.{ltb}
 use lib.ListN.{length, take, drop, replicate, length-append, length-map, length-take, length-drop, length-replicate}
 use lib.Seq.{sets, sets-eq, drop-length}
+use Rattle.std.specs.Prelude.{Result, Ok, Err, is_ok}
 use Rattle.tables.specs.declared.letters.Conventions.{Conventions}
 use Rattle.tables.proofs.Laws.{clash, stop}
 use Rattle.tables.proofs.PageLaws.{sets_append}
@@ -15,16 +16,15 @@ use Rattle.reader.specs.declared.store.Entry.{Entry}
 use Rattle.reader.specs.declared.board.Board.{Board}
 use Rattle.reader.specs.declared.board.State.{State}
 use Rattle.reader.specs.declared.record.RecordEnd.{RecordEnd}
+use Rattle.reader.specs.declared.edition.ReadRefusal.{ReadRefusal}
 use Rattle.reader.specs.declared.edition.ReadRefusal.TheVariants.{Overlong, BoxFull, ListFull}
-use Rattle.reader.specs.declared.edition.Reading.{Reading}
-use Rattle.reader.specs.declared.edition.Reading.TheVariants.{Taken, Refused}
 use Rattle.reader.specs.declared.edition.Counts.{Counts}
 use Rattle.reader.specs.Store.{zeros, put, put_all, lent, entry_words}
 use Rattle.reader.specs.PieceSteps.{Emits}
 use Rattle.reader.specs.Records.{records_of}
 use Rattle.reader.specs.RecordSteps.{EndsAt}
 use Rattle.reader.specs.Boards.{record_out}
-use Rattle.reader.specs.Editions.{is_taken, head_words, back_words, card_words, card_of, cards_from, entries_from, cards_of, entries_of, counts_answer, reading_of, IsRead}
+use Rattle.reader.specs.Editions.{head_words, back_words, card_words, card_of, cards_from, entries_from, cards_of, entries_of, counts_of, counts_answer, reading_of, IsRead}
 use Rattle.reader.specs.EditionSteps.{RecordIn, FullCards, none, one, AllIn, ReadingEnded}
 use Rattle.reader.proofs.Seams.{no_records}
 use Rattle.reader.proofs.StoreLaws.{put_all_append, Blocks, blocks_append, blocks_map, put_zeros}
@@ -135,10 +135,11 @@ left_less {c} {r = r} {rest = rest} {a = a} {entries = entries} {boards = boards
 
 pub left_none : {c : Conventions} {text cards₀ entries₀ : List ℕ} {a : ℕ} {cards entries : List ℕ} {boards n : ℕ} → Left c text cards₀ entries₀ [] a cards entries boards n
     → AllIn c text cards₀ entries₀ (record { boards = boards; entries = n }) cards entries
-left_none l =
+left_none {c} {text} {boards = boards} {n = n} l =
+    let eb : boards ≡ length (cards_of c text) = omega (arith, l.boards_in) in
+    let en : n ≡ length (entries_of c text) = omega (arith, l.entries_in) in
     record {
-      boards = omega (arith, l.boards_in);
-      count = omega (arith, l.entries_in);
+      counts = rw (eb, en);
       cards_put = l.words_of_card;
       entries_put = l.words_of_entry;
       whole = l.all_whole none;
@@ -216,14 +217,15 @@ unfolding entries_of
 all_blocks c text = entry_blocks_lem c 0 (records_of text)
 
 -- Where the answer is no refusal, everything fits.
-taken_fits : (lc le b n : ℕ) → is_taken (counts_answer lc le b n) ≡ true → (64 * b ≤ lc) × (4 * n ≤ le)
-taken_fits lc le b n e = go (ltb (lc / 64) b) refl (ltb (le / 4) n) refl e
+taken_fits : (lc le : ℕ) (n : Counts) → is_ok (counts_answer lc le n) ≡ true → (64 * n.boards ≤ lc) × (4 * n.entries ≤ le)
+taken_fits lc le n e = go (ltb (lc / 64) n.boards) refl (ltb (le / 4) n.entries) refl e
   where
-    go : (f : Bool) → ltb (lc / 64) b ≡ f → (g : Bool) → ltb (le / 4) n ≡ g → is_taken (cond f (Refused (BoxFull b)) (cond g (Refused (ListFull n)) (Taken b n))) ≡ true
-        → (64 * b ≤ lc) × (4 * n ≤ le)
+    go : (f : Bool) → ltb (lc / 64) n.boards ≡ f → (g : Bool) → ltb (le / 4) n.entries ≡ g
+        → is_ok {T = Counts} (cond f (Err (BoxFull n.boards)) (cond g (Err (ListFull n.entries)) (Ok n))) ≡ true
+        → (64 * n.boards ≤ lc) × (4 * n.entries ≤ le)
     go true ef g eg h = clash h
     go false ef true eg h = clash h
-    go false ef false eg h = omega (arith, ltb-false (lc / 64) b ef, ltb-false (le / 4) n eg)
+    go false ef false eg h = omega (arith, ltb-false (lc / 64) n.boards ef, ltb-false (le / 4) n.entries eg)
 
 -- The words at the end: put into zeros, and kept or set to 0.
 pub ended : (w L : ℕ) {xs : List (List ℕ)} {d d' : List ℕ} (f : Bool) → Blocks w xs → (f ≡ true → w * length xs ≤ L) → length d ≡ L
@@ -231,9 +233,9 @@ pub ended : (w L : ℕ) {xs : List (List ℕ)} {d d' : List ℕ} (f : Bool) → 
 ended w L true b h el e e' = e' ∙ e ∙ put_zeros w L b (h refl)
 ended w L false b h el e e' = e' ∙ rw el
 
-pub read_all : {c : Conventions} {t cs es zc ze : List ℕ} {r : Counts} {a : Reading} (cards entries cards' entries' : List ℕ) → length t ≤ 16777215
+pub read_all : {c : Conventions} {t cs es zc ze : List ℕ} {r : Counts} {a : Result Counts ReadRefusal} (cards entries cards' entries' : List ℕ) → length t ≤ 16777215
     → zc ≡ zeros cs → ze ≡ zeros es → length cards ≡ length zc → length entries ≡ length ze
-    → AllIn c t zc ze r cards entries → ReadingEnded cards entries r.boards r.entries a cards' entries'
+    → AllIn c t zc ze r cards entries → ReadingEnded cards entries r a cards' entries'
     → IsRead c t cs es a cards' entries'
 unfolding reading_of
 read_all {c} {t} {cs} {es} {zc} {ze} {r} {a} cards entries cards' entries' short zc_is ze_is kc ke s f =
@@ -241,15 +243,15 @@ read_all {c} {t} {cs} {es} {zc} {ze} {r} {a} cards entries cards' entries' short
     let le = length es in
     let ec : length cards ≡ lc = kc ∙ rw zc_is (length-replicate lc 0) in
     let ee : length entries ≡ le = ke ∙ rw ze_is (length-replicate le 0) in
-    let ans : a ≡ counts_answer lc le (length (cards_of c t)) (length (entries_of c t)) = rw (ec, ee, s.boards, s.count) at f.answer in
-    let fits : is_taken a ≡ true → (64 * length (cards_of c t) ≤ lc) × (4 * length (entries_of c t) ≤ le) = λ h. taken_fits lc le (length (cards_of c t)) (length (entries_of c t)) (rw ans at h) in
+    let ans : a ≡ counts_answer lc le (counts_of c t) = rw (ec, ee, s.counts) at f.answer in
+    let fits : is_ok a ≡ true → (64 * length (cards_of c t) ≤ lc) × (4 * length (entries_of c t) ≤ le) = λ h. taken_fits lc le (counts_of c t) (rw ans at h) in
     record {
       answer = ans ∙ rw (le-ltb _ _ short);
-      cards_after = ended 64 lc (is_taken a) (card_blocks s.whole) (λ h. (fits h).0) ec (rw zc_is at s.cards_put) f.cards_after;
-      entries_after = ended 4 le (is_taken a) (all_blocks c t) (λ h. (fits h).1) ee (rw ze_is at s.entries_put) f.entries_after;
+      cards_after = ended 64 lc (is_ok a) (card_blocks s.whole) (λ h. (fits h).0) ec (rw zc_is at s.cards_put) f.cards_after;
+      entries_after = ended 4 le (is_ok a) (all_blocks c t) (λ h. (fits h).1) ee (rw ze_is at s.entries_put) f.entries_after;
     }
 
 pub read_none : {c : Conventions} {t cs es : List ℕ} {cards' entries' : List ℕ} → 16777215 < length t → cards' ≡ zeros cs → entries' ≡ zeros es
-    → IsRead c t cs es (Refused (Overlong (length t))) cards' entries'
+    → IsRead c t cs es (Err (Overlong (length t))) cards' entries'
 unfolding reading_of
 read_none h ec ee = record { answer = rw (lt-ltb _ _ h); cards_after = ec; entries_after = ee }

@@ -14,22 +14,15 @@ use tables::letters::{Conventions, built_in};
 use tables::text::{from, upto};
 
 // Refusals 1 to 3, each with its carried number; specs/Editions.antt gives the numbers.
-#[derive(Clone, Copy)]
+#[derive(Clone, Copy, Debug, PartialEq, Eq)]
 pub enum ReadRefusal {
     Overlong(u64),
     BoxFull(u64),
     ListFull(u64),
 }
 
-// Taken with the counts of boards and entries, or refused, which leaves all lent words zero.
-#[derive(Clone, Copy)]
-pub enum Reading {
-    Taken(u64, u64),
-    Refused(ReadRefusal),
-}
-
 // The boards and entries of an edition.
-#[derive(Clone, Copy)]
+#[derive(Clone, Copy, Debug, PartialEq, Eq)]
 pub struct Counts {
     pub boards: usize,
     pub entries: usize,
@@ -225,39 +218,48 @@ fn read_records(c: Conventions, text: &[u8], cards: &mut [u32], entries: &mut [u
     Counts { boards, entries: n }
 }
 
-// The answer; the words are set to 0 where it is a refusal.
-fn finish_reading(cards: &mut [u32], entries: &mut [u32], boards: usize, n: usize) -> Reading
-    ensures { ReadingEnded cards.old entries.old boards n result cards.new entries.new }
+// The counts, where all fits; the words are set to 0 where it does not.
+fn finish_reading(
+    cards: &mut [u32],
+    entries: &mut [u32],
+    counts: Counts,
+) -> Result<Counts, ReadRefusal>
+    ensures { ReadingEnded cards.old entries.old counts result cards.new entries.new }
 {
-    if cards.len() / 64 < boards {
+    if cards.len() / 64 < counts.boards {
         zero(cards);
         zero(entries);
-        return Reading::Refused(ReadRefusal::BoxFull(boards as u64));
+        return Err(ReadRefusal::BoxFull(counts.boards as u64));
     }
-    if entries.len() / 4 < n {
+    if entries.len() / 4 < counts.entries {
         zero(cards);
         zero(entries);
-        return Reading::Refused(ReadRefusal::ListFull(n as u64));
+        return Err(ReadRefusal::ListFull(counts.entries as u64));
     }
-    Reading::Taken(boards as u64, n as u64)
+    Ok(counts)
 }
 
-// Reads a text into the lent words, by the given conventions.
-pub fn read_pbn_with(c: Conventions, text: &[u8], cards: &mut [u32], entries: &mut [u32]) -> Reading
+// Reads a text into the lent words, by the given conventions. A refusal leaves all of them zero.
+pub fn read_pbn_with(
+    c: Conventions,
+    text: &[u8],
+    cards: &mut [u32],
+    entries: &mut [u32],
+) -> Result<Counts, ReadRefusal>
     ensures { IsRead c text.now cards.old entries.old result cards.new entries.new }
 {
     zero(cards);
     zero(entries);
     let length = text.len();
     if 16777215 < length {
-        return Reading::Refused(ReadRefusal::Overlong(length as u64));
+        return Err(ReadRefusal::Overlong(length as u64));
     }
-    let t = read_records(c, text, cards, entries);
-    finish_reading(cards, entries, t.boards, t.entries)
+    let counts = read_records(c, text, cards, entries);
+    finish_reading(cards, entries, counts)
 }
 
 // Reads a text into the lent words.
-pub fn read_pbn(text: &[u8], cards: &mut [u32], entries: &mut [u32]) -> Reading
+pub fn read_pbn(text: &[u8], cards: &mut [u32], entries: &mut [u32]) -> Result<Counts, ReadRefusal>
     ensures { IsRead built_in text.now cards.old entries.old result cards.new entries.new }
 {
     read_pbn_with(built_in(), text, cards, entries)

@@ -3,7 +3,7 @@ ghost use Rattle.std.specs.Prelude.{◌≡◌, ◌≤◌, length};
 
 use crate::cases::{Case, Told, case_of};
 use crate::codes::is_coded;
-use reader::edition::{Reading, read_pbn};
+use reader::edition::{ReadRefusal, read_pbn};
 use tables::text::{from, upto};
 
 // How the replay ended: all cases gave the recorded answer, or the first that did not, or the first that is not whole.
@@ -31,15 +31,15 @@ pub struct Replayed {
     pub end: End,
 }
 
-fn told_reading(r: Reading) -> Told {
+fn told_reading(r: Result<reader::edition::Counts, ReadRefusal>) -> Told {
     match r {
-        Reading::Taken(boards, entries) => Told {
+        Ok(n) => Told {
             refusal: 0,
             carried: 0,
-            boards,
-            entries,
+            boards: n.boards as u64,
+            entries: n.entries as u64,
         },
-        Reading::Refused(f) => Told {
+        Err(f) => Told {
             refusal: reader::edition::read_number(f),
             carried: reader::edition::read_carried(f),
             boards: 0,

@@ -8,14 +8,14 @@ use lib.Dec.{ltb}
 use lib.ListN.{length, get_or, take, drop, replicate, length-append, length-map, get_or-append}
 use lib.Seq.{drop_at, get_or-take, get_or-drop, get_or-append-add, drop-append-add, length-take-le}
 use borrow.Author.Tests.{lt-ltb}
+use Rattle.std.specs.Prelude.{Result, Ok, Err, is_ok}
 use Rattle.tables.specs.declared.letters.Conventions.{Conventions}
 use Rattle.tables.proofs.Laws.{clash}
 use Rattle.reader.specs.declared.board.TableCard.{TableCard}
-use Rattle.reader.specs.declared.edition.Reading.{Reading}
-use Rattle.reader.specs.declared.edition.Reading.TheVariants.{Taken}
-use Rattle.reader.specs.declared.edition.Reading.TheVariants as reading
+use Rattle.reader.specs.declared.edition.Counts.{Counts}
+use Rattle.reader.specs.declared.edition.ReadRefusal.{ReadRefusal}
 use Rattle.reader.specs.Store.{flat, padded, zeros}
-use Rattle.reader.specs.Editions.{is_taken, reading_of, cards_of, entries_of}
+use Rattle.reader.specs.Editions.{reading_of, cards_of, entries_of}
 use Rattle.reader.specs.EditionSteps.{FullCards}
 use Rattle.reader.specs.EditionSteps as whole
 use Rattle.reader.proofs.StoreLaws.{length_flat}
@@ -200,13 +200,13 @@ module _ {xs : List (List ℕ)} {ts : List TableCard} {gs : List (List ℕ)} (a 
 
 -- ---- an edition that was read
 
-read_holds : {c : Conventions} {text : List ℕ} (cards entries : List ℕ) {cards' entries' : List ℕ} (q : Reading)
-    → q ≡ reading_of c text (length cards) (length entries) → is_taken q ≡ true
+read_holds : {c : Conventions} {text : List ℕ} (cards entries : List ℕ) {cards' entries' : List ℕ} (q : Result Counts ReadRefusal)
+    → q ≡ reading_of c text (length cards) (length entries) → is_ok q ≡ true
     → cards' ≡ padded (length cards) (flat (cards_of c text)) → entries' ≡ padded (length entries) (flat (entries_of c text))
     → Holds c text cards' entries'
-read_holds cards entries (Taken b e) a t ec ee =
+read_holds cards entries (Ok n) a t ec ee =
     taken_holds {cards = cards} {entries = entries} (record { answer = a; cards_after = ec; entries_after = ee })
-read_holds cards entries (reading.Refused f) a t ec ee = clash t
+read_holds cards entries (Err f) a t ec ee = clash t
 
 module _ {c : Conventions} {old new : List ℕ} {boxes boxes₁ : Boxes} {q : Editions} {m n : ℕ}
     (b : BothRead c old new boxes boxes₁ q) (e : q ≡ Both m n) where

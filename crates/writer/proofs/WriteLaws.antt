@@ -8,6 +8,7 @@ use lib.Dec.{ltb, leb}
 use lib.ListN.{length, replicate}
 use borrow.Author.Tests.{le-leb, lt-leb}
 use native.Mathlib.Nat.{sub-zero}
+use Rattle.std.specs.Prelude.{Ok, Err, is_ok, Result}
 use Rattle.tables.specs.declared.letters.Conventions.{Conventions}
 use Rattle.tables.specs.declared.page.Written.{Written as PageWritten}
 use Rattle.tables.specs.declared.page.Written.TheVariants.{Bytes}
@@ -17,11 +18,10 @@ use Rattle.tables.specs.Page.{page_of}
 use Rattle.tables.specs.PageSteps.{PageEnded}
 use Rattle.tables.proofs.PageLaws.{finished}
 use Rattle.tables.proofs.Laws.{by_cases, clash}
-use Rattle.reader.specs.declared.edition.Reading.TheVariants.{Taken}
-use Rattle.reader.specs.declared.edition.Reading.TheVariants as reading
+use Rattle.reader.specs.declared.edition.Counts.{Counts}
 use Rattle.reader.specs.declared.edition.ReadRefusal.{ReadRefusal}
 use Rattle.reader.specs.Store.{zeros}
-use Rattle.reader.specs.Editions.{reading_of, cards_of, entries_of, is_taken, IsRead}
+use Rattle.reader.specs.Editions.{reading_of, cards_of, entries_of, IsRead}
 use Rattle.writer.specs.declared.write.WriteRefusal.TheVariants.{Edition, PageFull}
 use Rattle.writer.specs.declared.write.Writing.{Writing}
 use Rattle.writer.specs.declared.write.Writing.TheVariants.{Written, Refused}
@@ -34,19 +34,23 @@ use Rattle.writer.proofs.HeldBoards.{taken_holds}
 use Rattle.writer.proofs.HeldPages.{PageHeld}
 use Rattle.writer.proofs.Sizes.{BytesFew}
 
+abbrev boards_in : Result Counts ReadRefusal → ℕ
+boards_in (Ok n) = n.boards
+boards_in (Err f) = 0
+
 -- A text that is taken: as many boards as cards.
-taken_boards : (c : Conventions) (text : List ℕ) (lc le b e : ℕ) → Taken b e ≡ reading_of c text lc le → b ≡ length (cards_of c text)
+taken_boards : (c : Conventions) (text : List ℕ) (lc le : ℕ) (n : Counts) → Ok n ≡ reading_of c text lc le → n.boards ≡ length (cards_of c text)
 unfolding reading_of
-taken_boards c text lc le b e i =
+taken_boards c text lc le n i =
     by_cases (ltb 16777215 (length text))
-    (λ t. clash (sym (ap is_taken (rw t at i))))
+    (λ t. clash (sym (ap is_ok (rw t at i))))
     (λ t.
     by_cases (ltb (lc / 64) (length (cards_of c text)))
-    (λ u. clash (sym (ap is_taken (rw (t, u) at i))))
+    (λ u. clash (sym (ap is_ok (rw (t, u) at i))))
     (λ u.
     by_cases (ltb (le / 4) (length (entries_of c text)))
-    (λ v. clash (sym (ap is_taken (rw (t, u, v) at i))))
-    (λ v. let w = rw (t, u, v) at i in cc)))
+    (λ v. clash (sym (ap is_ok (rw (t, u, v) at i))))
+    (λ v. ap boards_in (rw (t, u, v) at i))))
 
 -- What a page of bs comes to, by the answer.
 page_out : (bs : List ℕ) (m : ℕ) → page_of bs m ≡ page_after (is_written (page_answer (length bs) m)) bs m
@@ -57,16 +61,16 @@ out_is : (n m : ℕ) → is_written (page_answer n m) ≡ leb n m
 out_is n m = by_cases (leb n m) (λ q. rw q) (λ q. rw q)
 
 -- The edition was taken, its text put and the page ended.
-pub written_taken : {c : Conventions} {text cards entries page cards₁ entries₁ page₁ cards₂ entries₂ page₂ : List ℕ} {b e n : ℕ} {r : Writing}
-    → IsRead c text cards entries (Taken b e) cards₁ entries₁
-    → Puts page 0 (page_held c text cards₁ entries₁ b) page₁ n
+pub written_taken : {c : Conventions} {text cards entries page cards₁ entries₁ page₁ cards₂ entries₂ page₂ : List ℕ} {k : Counts} {n : ℕ} {r : Writing}
+    → IsRead c text cards entries (Ok k) cards₁ entries₁
+    → Puts page 0 (page_held c text cards₁ entries₁ k.boards) page₁ n
     → WritingEnded n cards₁ entries₁ page₁ r cards₂ entries₂ page₂
     → length cards₁ ≡ length cards → length entries₁ ≡ length entries
     → IsWritten c text cards entries page r cards₂ entries₂ page₂
 unfolding writing_of
-written_taken {c} {text} {cards} {entries} {page} {cards₁} {entries₁} {page₁} {cards₂} {entries₂} {page₂} {b} {e} {n} {r} i p d kc ke =
+written_taken {c} {text} {cards} {entries} {page} {cards₁} {entries₁} {page₁} {cards₂} {entries₂} {page₂} {k} {n} {r} i p d kc ke =
     let t = taken_holds i in
-    let nb = taken_boards c text (length cards) (length entries) b e i.answer in
+    let nb = taken_boards c text (length cards) (length entries) k i.answer in
     let w = rw nb at p in
     let text_put : Puts page 0 (written_text c text) page₁ n = rw (PageHeld c text cards₁ entries₁ t) at w in
     let few = BytesFew c text t.short in
@@ -85,7 +89,7 @@ written_taken {c} {text} {cards} {entries} {page} {cards₁} {entries₁} {page�
 
 -- The edition was refused.
 pub written_refused : {c : Conventions} {text cards entries page cards₁ entries₁ page₁ : List ℕ} {f : ReadRefusal}
-    → IsRead c text cards entries (reading.Refused f) cards₁ entries₁
+    → IsRead c text cards entries (Err f) cards₁ entries₁
     → page₁ ≡ zeros page
     → IsWritten c text cards entries page (Refused (Edition f)) cards₁ entries₁ page₁
 unfolding writing_of

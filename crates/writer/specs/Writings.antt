@@ -1,9 +1,8 @@
 -- The answers of writing an edition, and its contract.
-use Rattle.std.specs.Prelude.{ℕ, ◌≡◌, Bool, true, false, cond, List, leb, length, replicate}
+use Rattle.std.specs.Prelude.{ℕ, ◌≡◌, Bool, true, false, cond, List, leb, length, replicate, Result, Ok, Err}
 use Rattle.tables.specs.declared.letters.Conventions.{Conventions}
-use Rattle.reader.specs.declared.edition.Reading.{Reading}
-use Rattle.reader.specs.declared.edition.Reading.TheVariants.{Taken}
-use Rattle.reader.specs.declared.edition.Reading.TheVariants as reading
+use Rattle.reader.specs.declared.edition.Counts.{Counts}
+use Rattle.reader.specs.declared.edition.ReadRefusal.{ReadRefusal}
 use Rattle.reader.specs.Store.{padded, lent}
 use Rattle.reader.specs.Editions.{read_number, read_carries, reading_of, cards_of, entries_of}
 use Rattle.writer.specs.declared.write.WriteRefusal.{WriteRefusal}
@@ -28,9 +27,9 @@ write_carries (PageFull n) = n
 abbrev pub page_answer : ℕ → ℕ → Writing
 page_answer n m = cond (leb n m) (Written n) (Refused (PageFull n))
 
-abbrev pub written_by : List ℕ → ℕ → Reading → Writing
-written_by bs m (Taken boards entries) = page_answer (length bs) m
-written_by bs m (reading.Refused f) = Refused (Edition f)
+abbrev pub written_by : List ℕ → ℕ → Result Counts ReadRefusal → Writing
+written_by bs m (Ok n) = page_answer (length bs) m
+written_by bs m (Err f) = Refused (Edition f)
 
 -- For a text, with words for cards and entries and a page lent.
 unfoldable pub writing_of : Conventions → List ℕ → ℕ → ℕ → ℕ → Writing

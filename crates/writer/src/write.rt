@@ -6,7 +6,7 @@ ghost use Rattle.writer.specs.Writings.{write_number, write_carries, IsWritten};
 ghost use Rattle.writer.specs.WritingSteps.{WritingEnded};
 
 use crate::page::put_page;
-use reader::edition::{ReadRefusal, Reading, read_carried, read_number, read_pbn_with};
+use reader::edition::{ReadRefusal, read_carried, read_number, read_pbn_with};
 use reader::store::zero;
 use tables::letters::{Conventions, built_in};
 use tables::page::finish;
@@ -74,13 +74,12 @@ pub fn write_pbn_with(
 ) -> Writing
     ensures { IsWritten c text.now cards.old entries.old page.old result cards.new entries.new page.new }
 {
-    let reading = read_pbn_with(c, text, cards, entries);
-    match reading {
-        Reading::Taken(boards, _) => {
-            let n = put_page(text, cards, entries, c, boards as usize, page);
+    match read_pbn_with(c, text, cards, entries) {
+        Ok(counts) => {
+            let n = put_page(text, cards, entries, c, counts.boards, page);
             end_writing(n, cards, entries, page)
         }
-        Reading::Refused(f) => {
+        Err(f) => {
             clear(page);
             Writing::Refused(WriteRefusal::Edition(f))
         }

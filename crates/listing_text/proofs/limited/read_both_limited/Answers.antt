@@ -8,7 +8,7 @@ pub returns-in_default : goal.returns-in_default
 returns-in_default c = let r = c.read_pbn_with-first in new_long c.if-limit-old.false c.if-limit-new.true r.ensures r.auto.cards r.auto.entries c.zero_boxes-then-limit-new.ensures c.in_default.is
 
 pub returns-then-limit-new : goal.returns-then-limit-new
-returns-then-limit-new c = let r = c.read_pbn_with-first in new_long c.if-limit-old.false c.if-limit-new.true r.ensures r.auto.cards r.auto.entries c.zero_boxes-then-limit-new.ensures c.in-Refused.is
+returns-then-limit-new c = let r = c.read_pbn_with-first in new_long c.if-limit-old.false c.if-limit-new.true r.ensures r.auto.cards r.auto.entries c.zero_boxes-then-limit-new.ensures c.in-Err.is
 
 pub returns : goal.returns
 returns c = both_within c.if-limit-old.false c.if-limit-new.false c.read_both.ensures

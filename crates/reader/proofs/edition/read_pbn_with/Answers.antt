@@ -8,6 +8,6 @@ pub returns : goal.returns
 returns c =
     let z = c.zero in
     let z₂ = c.zero-2 in
-    let a = c.read_records-t in
+    let a = c.read_records-counts in
     let f = c.finish_reading in
     read_all a.new.cards a.new.entries f.new.cards f.new.entries c.if-length-gt16777215.false z.ensures z₂.ensures a.auto.cards a.auto.entries a.ensures f.ensures
