@@ -4,7 +4,7 @@ use mathlib.Core.Path.{◌≡◌, refl, sym, ap, ◌∙◌}
 use mathlib.Core.Bool.{Bool, true, false, cond}
 use mathlib.Core.List.{List, [], ◌∷◌, ◌++◌, map, append_assoc}
 use native.Mathlib.Omega.{arith}
-use lib.ListN.{length, get_or, set, take, drop, drop_of_length-le, length-append, length-map}
+use lib.ListN.{length, get_or, set, take, drop, replicate, drop_of_length-le, length-append, length-map}
 use lib.Seq.{drop-drop}
 use Rattle.reader.specs.Store.{flat, padded}
 use Rattle.planning.specs.declared.state.BoardState.{BoardState}
@@ -160,6 +160,14 @@ pub numbers_length : (slips : List Slip) → length (slip_numbers slips) ≡ 5 *
 unfolding slip_numbers
 numbers_length [] = refl
 numbers_length (s ∷ ss) = omega (arith, numbers_length ss)
+
+-- Structs of zeros.
+pub none_numbers : (n : ℕ) → slip_numbers (replicate n no_slip) ≡ replicate (5 * n) 0
+unfolding slip_numbers
+none_numbers zero = refl
+none_numbers (suc n) =
+    let e : 5 * suc n ≡ suc (suc (suc (suc (suc (5 * n))))) = omega arith in
+    rw (e, none_numbers n)
 
 -- As many structs as there are slips, or more: the slips' numbers, and zeros behind them.
 pub slips_filled : (js : List BoardPlan) (n : ℕ) → length (slips_of js) ≤ n → slip_numbers (filled_from (λ i. slip_from i (drop i js)) 0 n) ≡ padded (5 * n) (flat (slips_of js))

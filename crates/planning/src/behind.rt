@@ -3,10 +3,10 @@ ghost use Rattle.std.specs.Prelude.{◌≡◌, ◌-◌, ◌<◌, get_or, take, d
 ghost use Rattle.tables.specs.Letters.{built_in};
 ghost use Rattle.planning.specs.States.{board_plans};
 ghost use Rattle.planning.specs.Slips.{edition_number, text_of, card_at, record_of, behind_state, behind_at};
-ghost use Rattle.planning.specs.Plans.{BehindTold, PartTold};
+ghost use Rattle.planning.specs.Plans.{words_of, SameLent, BehindTold, PartTold};
 
-use crate::cards::{Card, cards_in};
-use crate::editions::{Editions, read_both};
+use crate::cards::Card;
+use crate::editions::{EditionsRefusal, LentBoxes, read_both};
 use crate::state::{BoardState, state_of};
 use tables::letters::{Conventions, built_in};
 use tables::text::{from, upto};
@@ -48,13 +48,6 @@ pub struct Behind {
     pub end: u64,
 }
 
-// Whether both editions were taken, and the record behind a board.
-#[derive(Clone, Copy)]
-pub struct BehindAnswer {
-    pub editions: Editions,
-    pub behind: Option<Behind>,
-}
-
 // The word w of the card at the position p, from 1; 0 where there is none.
 fn word_at(cards: &[Card], p: u64, w: usize) -> u64
     requires { w < 64 }
@@ -94,7 +87,7 @@ pub(crate) fn behind_state(olds: &[Card], news: &[Card], p: u64, s: BoardState) 
     }
 }
 
-// The record behind the board at the position p; nothing outside 1 to the boards.
+// The record behind the board at the position p; none outside 1 to the boards.
 fn behind_at(olds: &[Card], news: &[Card], p: u64) -> Option<Behind>
     ensures { result ≡ behind_at olds.now news.now (board_plans olds.now news.now) p }
 {
@@ -114,57 +107,28 @@ pub fn place_behind_with(
     c: Conventions,
     old: &[u8],
     new: &[u8],
-    old_cards: &mut [u32],
-    old_entries: &mut [u32],
-    new_cards: &mut [u32],
-    new_entries: &mut [u32],
+    boxes: &mut LentBoxes,
     position: u64,
-) -> BehindAnswer
-    ensures { BehindTold c old.now new.now
-        (record { old_cards = old_cards.old; old_entries = old_entries.old; new_cards = new_cards.old; new_entries = new_entries.old })
-        (record { old_cards = old_cards.new; old_entries = old_entries.new; new_cards = new_cards.new; new_entries = new_entries.new })
-        position result.editions result.behind }
+) -> Result<Option<Behind>, EditionsRefusal>
+    ensures told { BehindTold c old.now new.now (words_of boxes.old) (words_of boxes.new) position result }
+    ensures same { SameLent boxes.old boxes.new }
 {
-    let editions = read_both(c, old, new, old_cards, old_entries, new_cards, new_entries);
-    match editions {
-        Editions::Refused(_) => BehindAnswer {
-            editions,
-            behind: None,
-        },
-        Editions::Both(m, n) => {
-            let olds = cards_in(old_cards, m as usize);
-            let news = cards_in(new_cards, n as usize);
-            let behind = behind_at(olds, news, position);
-            BehindAnswer { editions, behind }
-        }
-    }
+    let both = read_both(c, old, new, boxes)?;
+    let (olds, news) = boxes.cards(both);
+    Ok(behind_at(olds, news, position))
 }
 
-// The record behind the board at a position of the new edition, as places; nothing outside 1 to boards and after a refusal.
+// The record behind the board at a position of the new edition, by its places; none outside 1 to boards.
 pub fn place_behind(
     old: &[u8],
     new: &[u8],
-    old_cards: &mut [u32],
-    old_entries: &mut [u32],
-    new_cards: &mut [u32],
-    new_entries: &mut [u32],
+    boxes: &mut LentBoxes,
     position: u64,
-) -> BehindAnswer
-    ensures { BehindTold built_in old.now new.now
-        (record { old_cards = old_cards.old; old_entries = old_entries.old; new_cards = new_cards.old; new_entries = new_entries.old })
-        (record { old_cards = old_cards.new; old_entries = old_entries.new; new_cards = new_cards.new; new_entries = new_entries.new })
-        position result.editions result.behind }
+) -> Result<Option<Behind>, EditionsRefusal>
+    ensures told { BehindTold built_in old.now new.now (words_of boxes.old) (words_of boxes.new) position result }
+    ensures same { SameLent boxes.old boxes.new }
 {
-    place_behind_with(
-        built_in(),
-        old,
-        new,
-        old_cards,
-        old_entries,
-        new_cards,
-        new_entries,
-        position,
-    )
+    place_behind_with(built_in(), old, new, boxes, position)
 }
 
 // The part of a text from a to e, empty where e is not behind a.
@@ -181,28 +145,14 @@ fn part(text: &[u8], a: u64, e: u64) -> &[u8]
 pub fn record_behind<'a>(
     old: &'a [u8],
     new: &'a [u8],
-    old_cards: &mut [u32],
-    old_entries: &mut [u32],
-    new_cards: &mut [u32],
-    new_entries: &mut [u32],
+    boxes: &mut LentBoxes,
     position: u64,
 ) -> &'a [u8]
-    ensures { PartTold built_in old.now new.now
-        (record { old_cards = old_cards.old; old_entries = old_entries.old; new_cards = new_cards.old; new_entries = new_entries.old })
-        (record { old_cards = old_cards.new; old_entries = old_entries.new; new_cards = new_cards.new; new_entries = new_entries.new })
-        position result.now }
+    ensures told { PartTold built_in old.now new.now (words_of boxes.old) (words_of boxes.new) position result.now }
+    ensures same { SameLent boxes.old boxes.new }
 {
-    let found = place_behind(
-        old,
-        new,
-        old_cards,
-        old_entries,
-        new_cards,
-        new_entries,
-        position,
-    );
-    match found.behind {
-        Some(b) => part(b.edition.text(old, new), b.start, b.end),
-        None => &[],
+    match place_behind(old, new, boxes, position) {
+        Ok(Some(b)) => part(b.edition.text(old, new), b.start, b.end),
+        Ok(None) | Err(_) => &[],
     }
 }

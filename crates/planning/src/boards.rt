@@ -5,11 +5,11 @@ ghost use Rattle.reader.specs.Store.{put_all};
 ghost use Rattle.planning.specs.PlanSteps.{plan_here};
 ghost use Rattle.planning.specs.States.{board_plans};
 ghost use Rattle.planning.specs.Slips.{board_numbers, numbers_from};
-ghost use Rattle.planning.specs.Plans.{BoardsTold};
+ghost use Rattle.planning.specs.Plans.{words_of, SameLent, BoardsTold};
 
 use crate::behind::behind_state;
-use crate::cards::{Card, cards_in};
-use crate::editions::{Editions, read_both};
+use crate::cards::Card;
+use crate::editions::{Both, EditionsRefusal, LentBoxes, read_both};
 use crate::numbers::{put_five, zero_numbers};
 use crate::state::state_of;
 use tables::letters::{Conventions, built_in};
@@ -44,55 +44,28 @@ pub fn plan_boards_with(
     c: Conventions,
     old: &[u8],
     new: &[u8],
-    old_cards: &mut [u32],
-    old_entries: &mut [u32],
-    new_cards: &mut [u32],
-    new_entries: &mut [u32],
+    boxes: &mut LentBoxes,
     numbers: &mut [u64],
-) -> Editions
-    ensures { BoardsTold c old.now new.now
-        (record { old_cards = old_cards.old; old_entries = old_entries.old; new_cards = new_cards.old; new_entries = new_entries.old })
-        numbers.old
-        (record { old_cards = old_cards.new; old_entries = old_entries.new; new_cards = new_cards.new; new_entries = new_entries.new })
-        numbers.new result }
+) -> Result<Both, EditionsRefusal>
+    ensures told { BoardsTold c old.now new.now (words_of boxes.old) numbers.old (words_of boxes.new) numbers.new result }
+    ensures same { SameLent boxes.old boxes.new }
 {
     zero_numbers(numbers);
-    let editions = read_both(c, old, new, old_cards, old_entries, new_cards, new_entries);
-    match editions {
-        Editions::Refused(_) => editions,
-        Editions::Both(m, n) => {
-            let olds = cards_in(old_cards, m as usize);
-            let news = cards_in(new_cards, n as usize);
-            put_boards(olds, news, numbers);
-            editions
-        }
-    }
+    let both = read_both(c, old, new, boxes)?;
+    let (olds, news) = boxes.cards(both);
+    put_boards(olds, news, numbers);
+    Ok(both)
 }
 
 // Five numbers a board: its state, its source board, and the edition, the start and the end of the record behind it.
 pub fn plan_boards(
     old: &[u8],
     new: &[u8],
-    old_cards: &mut [u32],
-    old_entries: &mut [u32],
-    new_cards: &mut [u32],
-    new_entries: &mut [u32],
+    boxes: &mut LentBoxes,
     numbers: &mut [u64],
-) -> Editions
-    ensures { BoardsTold built_in old.now new.now
-        (record { old_cards = old_cards.old; old_entries = old_entries.old; new_cards = new_cards.old; new_entries = new_entries.old })
-        numbers.old
-        (record { old_cards = old_cards.new; old_entries = old_entries.new; new_cards = new_cards.new; new_entries = new_entries.new })
-        numbers.new result }
+) -> Result<Both, EditionsRefusal>
+    ensures told { BoardsTold built_in old.now new.now (words_of boxes.old) numbers.old (words_of boxes.new) numbers.new result }
+    ensures same { SameLent boxes.old boxes.new }
 {
-    plan_boards_with(
-        built_in(),
-        old,
-        new,
-        old_cards,
-        old_entries,
-        new_cards,
-        new_entries,
-        numbers,
-    )
+    plan_boards_with(built_in(), old, new, boxes, numbers)
 }

@@ -1,5 +1,7 @@
 use mathlib.Core.Path.{◌≡◌, refl, sym, ◌∙◌}
 use native.Mathlib.Omega.{arith}
+use borrow.Author.Rules.{rules}
+use Rattle.planning.specs.SlipSteps.{no_slip}
 use lib.ListN.{length}
 use Rattle.planning.proofs.FillLaws.{next_here, next_more, next_none}
 use Rattle.planning.proofs.slips.next_slip.Goals as goal
@@ -16,4 +18,5 @@ loop-i-preserved c = (next_more c.loop-i.invariant.0 c.loop-i-test.true c.state_
 pub returns : goal.returns
 returns c =
     let e : c.loop-i.i ≡ length c.args.news.now = omega arith in
-    (rw e at (next_none c.loop-i.invariant.0 c.loop-i-test.false), omega arith)
+    let z : c.default.result ≡ no_slip = search rules in
+    (rw z (rw e at (next_none c.loop-i.invariant.0 c.loop-i-test.false)), omega arith)
