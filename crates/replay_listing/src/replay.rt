@@ -3,6 +3,7 @@ ghost use Rattle.std.specs.Prelude.{◌≡◌, ◌≤◌, length};
 
 use crate::cases::{Case, case_of};
 use listing_text::listing::list;
+use planning::editions::LentBoxes;
 use tables::page::Written;
 use tables::text::{byte_at, from, upto};
 
@@ -58,17 +59,13 @@ fn list_on(page: &mut [u8], old: &[u8], new: &[u8], limit: usize) -> Written {
     let mut new_cards = [170u32; 319];
     let mut new_entries = [170u32; 67];
     let mut slips = [170u64; 14];
-    list(
-        old,
-        new,
-        limit,
-        &mut old_cards,
-        &mut old_entries,
-        &mut new_cards,
-        &mut new_entries,
-        &mut slips,
-        page,
-    )
+    let mut boxes = LentBoxes {
+        old_cards: &mut old_cards,
+        old_entries: &mut old_entries,
+        new_cards: &mut new_cards,
+        new_entries: &mut new_entries,
+    };
+    list(old, new, limit, &mut boxes, &mut slips, page)
 }
 
 fn agrees_on(page: &mut [u8], c: Case, old: &[u8], new: &[u8], output: &[u8]) -> bool {

@@ -1,11 +1,8 @@
 -- The answers of finishing, and its contract.
-use Rattle.std.specs.Prelude.{ℕ, ◌+◌, ◌*◌, ◌≡◌, Bool, true, false, cond, List, [], ◌∷◌, eqb, leb, ltb, length}
+use Rattle.std.specs.Prelude.{ℕ, ◌+◌, ◌*◌, ◌≡◌, Bool, true, false, cond, List, [], ◌∷◌, eqb, leb, ltb, length, Ok, Err}
 use Rattle.tables.specs.declared.letters.Conventions.{Conventions}
-use Rattle.planning.specs.declared.editions.Editions.{Editions}
-use Rattle.planning.specs.declared.editions.Editions.TheVariants.{Both}
-use Rattle.planning.specs.declared.editions.Editions.TheVariants as editions
 use Rattle.planning.specs.Slips.{totals_of}
-use Rattle.planning.specs.Plans.{editions_number, editions_carries, edition_refused, Boxes, editions_of, plans_of, BoxesAfter}
+use Rattle.planning.specs.Plans.{editions_number, editions_carries, edition_refused, Boxes, editions_of, plans_of, BoxesAfter, Editions}
 use Rattle.writer.specs.declared.finish.FinishRefusal.{FinishRefusal}
 use Rattle.writer.specs.declared.finish.FinishRefusal.TheVariants.{Edition, Answers, Impossible, PageFull}
 use Rattle.writer.specs.declared.finish.Finishing.{Finishing}
@@ -54,8 +51,8 @@ answered_by solve answers done =
     (Refused (Answers solve))
 
 abbrev pub finished_by : Editions → ℕ → List ℕ → Finishing → Finishing
-finished_by (Both m n) solve answers done = answered_by solve answers done
-finished_by (editions.Refused f) solve answers done = Refused (Edition f)
+finished_by (Ok n) solve answers done = answered_by solve answers done
+finished_by (Err f) solve answers done = Refused (Edition f)
 
 -- For both texts, with these boxes, answers and a page of m bytes lent.
 unfoldable pub finishing_of : Conventions → List ℕ → List ℕ → Boxes → List ℕ → ℕ → Finishing
