@@ -8,6 +8,7 @@ use lib.Dec.{ltb, leb}
 use lib.ListN.{length, get_or, replicate}
 use lib.Seq.{take_at, take_all}
 use borrow.Author.Tests.{ltb-true, ltb-false, le-leb, ne_eqb}
+use Rattle.std.specs.Prelude.{Result, Ok, Err}
 use Rattle.tables.specs.declared.letters.Conventions.{Conventions}
 use Rattle.tables.specs.Letters.{Accepted, every}
 use Rattle.tables.proofs.Laws.{by_cases, clash}
@@ -25,8 +26,7 @@ use Rattle.planning.proofs.AnswerLaws.{solve_sum}
 use Rattle.planning.proofs.CardLaws.{CardsHanded}
 use Rattle.planning.proofs.FoundLaws.{card_among, numbered}
 use Rattle.planning.proofs.SlipLaws.{slips_count}
-use Rattle.writer.specs.declared.finish.Finishing.{Finishing}
-use Rattle.writer.specs.declared.finish.Finishing.TheVariants.{Finished, Refused}
+use Rattle.writer.specs.declared.finish.FinishRefusal.{FinishRefusal}
 use Rattle.writer.specs.declared.finish.FinishRefusal.TheVariants.{Edition, Answers, Impossible, PageFull}
 use Rattle.writer.specs.Pages.{written_text}
 use Rattle.writer.specs.Writings.{writing_of}
@@ -48,13 +48,13 @@ use Rattle.std.specs.Prelude.{Ok, Err, is_ok}
 -- ---- when it is finished
 
 -- An answer that begins with 0 names no edition.
-no_edition : (w : Finishing) → get_or (finishing_numbers w) 0 0 ≡ 0 → get_or (finishing_numbers w) 1 0 ≡ 0
-no_edition (Finished n) e = refl
-no_edition (Refused (Edition (Old f))) e = absurd (read_number_lem f e)
-no_edition (Refused (Edition (New f))) e = absurd (read_number_lem f e)
-no_edition (Refused (Answers n)) e = refl
-no_edition (Refused (Impossible n)) e = refl
-no_edition (Refused (PageFull n)) e = refl
+no_edition : (w : Result ℕ FinishRefusal) → get_or (finishing_numbers w) 0 0 ≡ 0 → get_or (finishing_numbers w) 1 0 ≡ 0
+no_edition (Ok n) e = refl
+no_edition (Err (Edition (Old f))) e = absurd (read_number_lem f e)
+no_edition (Err (Edition (New f))) e = absurd (read_number_lem f e)
+no_edition (Err (Answers n)) e = refl
+no_edition (Err (Impossible n)) e = refl
+no_edition (Err (PageFull n)) e = refl
 
 pub finished_when_answered : FinishedWhenAnswered
 finished_when_answered c old new boxes answers page boxes' page' answer' r o =

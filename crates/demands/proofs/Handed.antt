@@ -17,11 +17,10 @@ use Rattle.planning.specs.declared.editions.EditionsRefusal.TheVariants.{Old, Ne
 use Rattle.planning.specs.Plans.{Boxes, old_reading, new_reading, editions_of, BoxesAfter, Editions}
 use Rattle.planning.proofs.BoxLaws.{taken_fits}
 use Rattle.planning.proofs.BothLaws.{both_are_taken, taken_short}
-use Rattle.writer.specs.declared.write.Writing.TheVariants.{Written}
 use Rattle.writer.specs.Pages.{written_text}
-use Rattle.writer.specs.Writings.{written_by, writing_of, is_written}
+use Rattle.writer.specs.Writings.{written_by, writing_of}
 use Rattle.writer.specs.Given.{finished_text}
-use Rattle.writer.specs.Finishings.{finishing_of, is_finished}
+use Rattle.writer.specs.Finishings.{finishing_of}
 use Rattle.golavimes.specs.Answers.{reading_numbers, writing_numbers, editions_head, head_then, WritingOut, FinishOut}
 use Rattle.demands.specs.Demand1.{solve_in}
 use Rattle.demands.specs.Boards.{BothBack, by_plan, by_state, by_record, by_boards, by_searches, by_finish, HandedBack, by_read, by_write, as_old, as_new}
@@ -71,7 +70,7 @@ reading_zero (Err f) e = absurd (read_number_lem f e)
 
 -- A writing that begins with 0: the edition was taken, and the page was long enough.
 pub writing_zero : (bs : List ℕ) (m : ℕ) (r : Result Counts ReadRefusal) → get_or (writing_numbers (written_by bs m r)) 0 0 ≡ 0
-    → (is_ok r ≡ true) × (written_by bs m r ≡ Written (length bs))
+    → (is_ok r ≡ true) × (written_by bs m r ≡ Ok (length bs))
 writing_zero bs m (Ok n) e =
     by_cases (leb (length bs) m)
     (λ t. (refl, rw t))
@@ -117,8 +116,8 @@ finish_held c old new boxes answers page boxes' page' answer' o =
     let d =
     is_done (editions_of c old new boxes) (solve_in c old new) answers (length (finished_text c old new answers)) (length page)
     (sym (ap (λ (l : List ℕ). get_or l 0 0) o.told) ∙ sym o.returned) in
-    boxes_held c old new boxes boxes' (is_finished (finishing_of c old new boxes answers (length page)))
-    d.taken (ap is_finished d.is) o.lent_after.boxes_left
+    boxes_held c old new boxes boxes' (is_ok (finishing_of c old new boxes answers (length page)))
+    d.taken (ap is_ok d.is) o.lent_after.boxes_left
 
 both_handed : (c : Conventions) (old new : List ℕ) (boxes' : Boxes) → BothBack c old new boxes' → HeldBoth c old new boxes'
 both_handed c old new boxes'' (by_plan {boxes = boxes} {slips = slips} {boxes' = boxes'} {slips' = slips'} {answer' = answer'} o) =
@@ -145,7 +144,7 @@ write_held c text cards entries page cards' entries' page' answer' o =
     let t =
     writing_zero (written_text c text) (length page) (reading_of c text (length cards) (length entries))
     (sym (ap (λ (l : List ℕ). get_or l 0 0) o.told) ∙ sym o.returned) in
-    let out = ap is_written t.1 in
+    let out = ap is_ok t.1 in
     held c text cards' entries' (length cards) (length entries) t.0
     (o.lent_after.cards_after ∙ rw out) (o.lent_after.entries_after ∙ rw out)
 

@@ -8,7 +8,7 @@ use lib.Dec.{ltb}
 use lib.ListN.{length, get_or, length-replicate}
 use lib.Seq.{take_all}
 use borrow.Author.Tests.{ltb-true}
-use Rattle.std.specs.Prelude.{Ok}
+use Rattle.std.specs.Prelude.{Ok, is_ok}
 use Rattle.tables.specs.declared.letters.Conventions.{Conventions}
 use Rattle.tables.specs.Letters.{built_in}
 use Rattle.tables.proofs.Laws.{by_cases}
@@ -23,10 +23,9 @@ use Rattle.planning.specs.Slips.{card_from, slips_of, totals_of}
 use Rattle.planning.specs.Plans.{Boxes, editions_of, planning_of, plans_of}
 use Rattle.planning.proofs.AnswerLaws.{solve_sum}
 use Rattle.planning.proofs.SlipLaws.{slips_count}
-use Rattle.writer.specs.declared.finish.Finishing.TheVariants.{Finished}
 use Rattle.writer.specs.Given.{finished_text}
 use Rattle.writer.specs.Writings.{page_after}
-use Rattle.writer.specs.Finishings.{finishing_of, is_finished}
+use Rattle.writer.specs.Finishings.{finishing_of}
 use Rattle.writer.proofs.FinishedPages.{FinishedMost}
 use Rattle.golavimes.specs.Answers.{plan_numbers, finishing_numbers, EditionOut, PlanOut, FinishOut}
 use Rattle.demands.specs.Demand1.{boards_in, entries_in, solve_in}
@@ -73,7 +72,7 @@ finish_out c old new boxes answers page f l =
     let text = finished_text c old new answers in
     let w = finishing_of c old new boxes answers (length page) in
     let r = get_or (finishing_numbers w) 0 0 in
-    let well = is_finished w in
+    let well = is_ok w in
     let after = boxes_after c well old new boxes in
     let on_page = page_after well text (length page) in
     let z =
@@ -83,7 +82,7 @@ finish_out c old new boxes answers page f l =
       lent_after = record { answer = refl; boxes_left = boxes_are c well old new boxes; page_left = refl };
       returned = refl;
     })).1 f in
-    let e : w ≡ Finished (length text) =
+    let e : w ≡ Ok (length text) =
     (is_done (editions_of c old new boxes) (solve_in c old new) answers (length text) (length page) z).is in
     let n : length text - length text ≡ 0 = omega arith in
     record {

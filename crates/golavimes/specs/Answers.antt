@@ -22,15 +22,12 @@ use Rattle.planning.specs.declared.plan.PlanRefusal.TheVariants.{Edition}
 use Rattle.planning.specs.States.{state_number, from_of}
 use Rattle.planning.specs.Slips.{slips_of, edition_number}
 use Rattle.planning.specs.Plans.{plan_number, plan_edition, plan_carries, Boxes, editions_of, planning_of, plans_of, BoxesAfter, state_by, behind_by, boards_after, searches_after, words_by, Editions, Planning}
-use Rattle.writer.specs.declared.write.Writing.{Writing}
-use Rattle.writer.specs.declared.write.Writing.TheVariants as writing
+use Rattle.writer.specs.declared.write.WriteRefusal.{WriteRefusal}
 use Rattle.writer.specs.Writings.{write_number, write_carries, writing_of, IsWritten}
-use Rattle.writer.specs.declared.finish.Finishing.{Finishing}
-use Rattle.writer.specs.declared.finish.Finishing.TheVariants as finishing
+use Rattle.writer.specs.declared.finish.FinishRefusal.{FinishRefusal}
 use Rattle.writer.specs.Finishings.{finish_number, finish_edition, finish_carries, finishing_of, IsFinished}
 use Rattle.lin.specs.declared.convert.Converted.{Converted}
-use Rattle.lin.specs.declared.convert.Converted.TheVariants.{Page}
-use Rattle.lin.specs.declared.convert.Converted.TheVariants as converted
+use Rattle.lin.specs.declared.convert.LinRefusal.{LinRefusal}
 use Rattle.lin.specs.Conversions.{lin_number, lin_carries, converted_of, IsConverted}
 use Rattle.golavimes.specs.declared.Head.{Head}
 
@@ -50,19 +47,19 @@ reading_numbers (Ok n) = 0 ∷ 0 ∷ 0 ∷ n.boards ∷ n.entries ∷ []
 reading_numbers (Err f) = read_number f ∷ 0 ∷ read_carries f ∷ 0 ∷ 0 ∷ []
 
 -- A written edition's answer: the bytes written.
-abbrev pub writing_numbers : Writing → List ℕ
-writing_numbers (writing.Written n) = 0 ∷ 0 ∷ 0 ∷ n ∷ []
-writing_numbers (writing.Refused f) = write_number f ∷ 0 ∷ write_carries f ∷ 0 ∷ []
+abbrev pub writing_numbers : Result ℕ WriteRefusal → List ℕ
+writing_numbers (Ok n) = 0 ∷ 0 ∷ 0 ∷ n ∷ []
+writing_numbers (Err f) = write_number f ∷ 0 ∷ write_carries f ∷ 0 ∷ []
 
 -- A finished edition's answer: the bytes written.
-abbrev pub finishing_numbers : Finishing → List ℕ
-finishing_numbers (finishing.Finished n) = 0 ∷ 0 ∷ 0 ∷ n ∷ []
-finishing_numbers (finishing.Refused f) = finish_number f ∷ finish_edition f ∷ finish_carries f ∷ 0 ∷ []
+abbrev pub finishing_numbers : Result ℕ FinishRefusal → List ℕ
+finishing_numbers (Ok n) = 0 ∷ 0 ∷ 0 ∷ n ∷ []
+finishing_numbers (Err f) = finish_number f ∷ finish_edition f ∷ finish_carries f ∷ 0 ∷ []
 
 -- A converted LIN text's answer: the bytes written and the boards.
-abbrev pub converted_numbers : Converted → List ℕ
-converted_numbers (Page n boards) = 0 ∷ 0 ∷ 0 ∷ n ∷ boards ∷ []
-converted_numbers (converted.Refused f) = lin_number f ∷ 0 ∷ lin_carries f ∷ 0 ∷ 0 ∷ []
+abbrev pub converted_numbers : Result Converted LinRefusal → List ℕ
+converted_numbers (Ok k) = 0 ∷ 0 ∷ 0 ∷ k.bytes ∷ k.boards ∷ []
+converted_numbers (Err f) = lin_number f ∷ 0 ∷ lin_carries f ∷ 0 ∷ 0 ∷ []
 
 -- The first three numbers of planning's answers: refusal, edition (0 none, 1 old, 2 new), carried number.
 abbrev pub refused_head : PlanRefusal → Head

@@ -6,7 +6,7 @@ ghost use Rattle.golavimes.specs.Answers.{written_numbers, decoded_numbers, read
 ghost use Rattle.tables.specs.Letters.{built_in};
 ghost use Rattle.tables.specs.Tables.{digits_text, header_text, rows_text, table_of_digits, table_of_rows};
 
-use lin::convert::Converted;
+use lin::convert::{Converted, LinRefusal};
 use planning::behind::Behind;
 use planning::editions::Editions;
 use planning::plan::{PlanRefusal, Planning};
@@ -14,8 +14,8 @@ use planning::state::BoardState;
 use reader::edition::{Counts, ReadRefusal};
 use tables::dd::{Decoded, TableRead};
 use tables::page::Written;
-use writer::finish::Finishing;
-use writer::write::Writing;
+use writer::finish::FinishRefusal;
+use writer::write::WriteRefusal;
 
 fn written_numbers(w: Written) -> [u64; 4]
     ensures { result ≡ written_numbers w }
@@ -138,12 +138,12 @@ pub fn golavimes_read(
     numbers[0]
 }
 
-fn writing_numbers(w: Writing) -> [u64; 4]
+fn writing_numbers(w: Result<u64, WriteRefusal>) -> [u64; 4]
     ensures { result ≡ writing_numbers w }
 {
     match w {
-        Writing::Written(n) => [0, 0, 0, n],
-        Writing::Refused(f) => [
+        Ok(n) => [0, 0, 0, n],
+        Err(f) => [
             writer::write::write_number(f),
             0,
             writer::write::write_carried(f),
@@ -167,12 +167,12 @@ pub fn golavimes_write(
     numbers[0]
 }
 
-fn converted_numbers(r: Converted) -> [u64; 5]
+fn converted_numbers(r: Result<Converted, LinRefusal>) -> [u64; 5]
     ensures { result ≡ converted_numbers r }
 {
     match r {
-        Converted::Page(bytes, boards) => [0, 0, 0, bytes, boards],
-        Converted::Refused(f) => [
+        Ok(page) => [0, 0, 0, page.bytes, page.boards],
+        Err(f) => [
             lin::convert::lin_number(f),
             0,
             lin::convert::lin_carried(f),
@@ -442,12 +442,12 @@ pub fn golavimes_searches(
     numbers[0]
 }
 
-fn finishing_numbers(w: Finishing) -> [u64; 4]
+fn finishing_numbers(w: Result<u64, FinishRefusal>) -> [u64; 4]
     ensures { result ≡ finishing_numbers w }
 {
     match w {
-        Finishing::Finished(n) => [0, 0, 0, n],
-        Finishing::Refused(f) => [
+        Ok(bytes) => [0, 0, 0, bytes],
+        Err(f) => [
             writer::finish::finish_number(f),
             writer::finish::finish_edition(f),
             writer::finish::finish_carried(f),

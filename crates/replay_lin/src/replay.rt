@@ -2,7 +2,7 @@
 ghost use Rattle.std.specs.Prelude.{◌≡◌, ◌≤◌, length};
 
 use crate::cases::{Case, Told, case_of};
-use lin::convert::{Converted, lin_carried, lin_number, lin_to_pbn};
+use lin::convert::{Converted, LinRefusal, lin_carried, lin_number, lin_to_pbn};
 use tables::text::{byte_at, from, upto};
 
 // How the replay ended: all cases gave the recorded answer, or the first that did not, or the first that is not whole.
@@ -30,15 +30,15 @@ pub struct Replayed {
     pub end: End,
 }
 
-fn told_converted(c: Converted) -> Told {
+fn told_converted(c: Result<Converted, LinRefusal>) -> Told {
     match c {
-        Converted::Page(written, boards) => Told {
+        Ok(page) => Told {
             refusal: 0,
             carried: 0,
-            boards,
-            written,
+            boards: page.boards,
+            written: page.bytes,
         },
-        Converted::Refused(f) => Told {
+        Err(f) => Told {
             refusal: lin_number(f),
             carried: lin_carried(f),
             boards: 0,

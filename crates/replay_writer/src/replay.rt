@@ -4,7 +4,7 @@ ghost use Rattle.std.specs.Prelude.{◌≡◌, ◌≤◌, length};
 use crate::cases::{Case, Told, case_of};
 use reader::edition::read_pbn;
 use tables::text::{byte_at, from, upto};
-use writer::write::{Writing, write_carried, write_number, write_pbn};
+use writer::write::{WriteRefusal, write_carried, write_number, write_pbn};
 
 // How the replay ended: all cases gave the recorded answer, or the first that did not, or the first that is not whole.
 #[derive(Clone, Copy)]
@@ -30,14 +30,14 @@ pub struct Replayed {
     pub end: End,
 }
 
-fn told_writing(w: Writing) -> Told {
+fn told_writing(w: Result<u64, WriteRefusal>) -> Told {
     match w {
-        Writing::Written(written) => Told {
+        Ok(written) => Told {
             refusal: 0,
             carried: 0,
             written,
         },
-        Writing::Refused(f) => Told {
+        Err(f) => Told {
             refusal: write_number(f),
             carried: write_carried(f),
             written: 0,
@@ -107,7 +107,7 @@ fn is_read_on(
     c: Case,
     s: &[u8],
 ) -> bool {
-    read_pbn(text_of(c, s), cards, entries);
+    let _ = read_pbn(text_of(c, s), cards, entries);
     are_words(lent, left(c, cards)) & are_words(also, left(c, entries))
 }
 

@@ -28,12 +28,11 @@ use Rattle.planning.specs.PlanSteps.{BoxesKept}
 use Rattle.planning.proofs.BothLaws.{both_are_taken}
 use Rattle.planning.proofs.AnswerLaws.{SameRoom, boxes_kept, there, boards_are}
 use Rattle.writer.specs.declared.finish.FinishRefusal.TheVariants.{Edition}
-use Rattle.writer.specs.declared.finish.Finishing.{Finishing}
-use Rattle.writer.specs.declared.finish.Finishing.TheVariants.{Refused}
+use Rattle.writer.specs.declared.finish.FinishRefusal.{FinishRefusal}
 use Rattle.writer.specs.Held.{card_word}
 use Rattle.writer.specs.Given.{tables_of, finished_boards, finished_text}
 use Rattle.writer.specs.GivenCards.{given_cards, marked, given_cleared, changed_all, given_box, tabled_page, BoardsFinished}
-use Rattle.writer.specs.Finishings.{finishing_of, is_finished, IsFinished}
+use Rattle.writer.specs.Finishings.{finishing_of, IsFinished}
 use Rattle.writer.proofs.HeldBoards.{Holds, taken_holds}
 use Rattle.writer.proofs.ChangedCards.{marked_long, changed_flat, changed_whole}
 use Rattle.writer.proofs.GiveCells.{part_here_lem}
@@ -274,7 +273,7 @@ module _ {c : Conventions} {old new : List ℕ} {boxes boxes₁ : Boxes} {q : Ed
         rw (box_marked, count_is) (PageWith c new boxes₁.new_cards tabled boxes₁.new_entries ts new_holds other count)
 
   -- Both editions were read, and the new one finished.
-  pub finish_done : {answers page page' : List ℕ} {r : Finishing} {boxes' : Boxes} → SameRoom boxes boxes₁
+  pub finish_done : {answers page page' : List ℕ} {r : Result ℕ FinishRefusal} {boxes' : Boxes} → SameRoom boxes boxes₁
       → BoardsFinished c new m n boxes₁ answers page r boxes' page'
       → IsFinished c old new boxes answers page r boxes' page'
   unfolding finishing_of
@@ -284,17 +283,17 @@ module _ {c : Conventions} {old new : List ℕ} {boxes boxes₁ : Boxes} {q : Ed
       let few : length (tabled_page c new m n boxes₁ answers) ≤ 549755813888 =
       rw same (omega (arith, FinishedFew c old new answers new_holds.short)) in
       let a : editions_of c old new boxes ≡ Both m n = sym b.answer ∙ e in
-      let kept : BoxesKept (is_finished r) boxes₁ boxes' = rw (box_back answers) at d.boxes_left in
+      let kept : BoxesKept (is_ok r) boxes₁ boxes' = rw (box_back answers) at d.boxes_left in
       record {
         answer = d.answer few ∙ rw (a, same, boards_are b e);
-        boxes_left = boxes_kept (is_finished r) filled room kept;
+        boxes_left = boxes_kept (is_ok r) filled room kept;
         page_left = d.page_left few ∙ rw same;
       }
 
 -- An edition was refused.
 pub finish_refused : {c : Conventions} {old new : List ℕ} {boxes boxes' : Boxes} {q : Editions} {f : EditionsRefusal}
     {answers page page' : List ℕ} → BothRead c old new boxes boxes' q → q ≡ Err f → page' ≡ zeros page
-    → IsFinished c old new boxes answers page (Refused (Edition f)) boxes' page'
+    → IsFinished c old new boxes answers page (Err (Edition f)) boxes' page'
 unfolding finishing_of
 finish_refused {c} {old} {new} {boxes} {q = q} {f = f} b e z =
     let well : is_ok q ≡ false = ap is_ok e in

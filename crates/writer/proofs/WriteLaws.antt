@@ -22,13 +22,12 @@ use Rattle.reader.specs.declared.edition.Counts.{Counts}
 use Rattle.reader.specs.declared.edition.ReadRefusal.{ReadRefusal}
 use Rattle.reader.specs.Store.{zeros}
 use Rattle.reader.specs.Editions.{reading_of, cards_of, entries_of, IsRead}
+use Rattle.writer.specs.declared.write.WriteRefusal.{WriteRefusal}
 use Rattle.writer.specs.declared.write.WriteRefusal.TheVariants.{Edition, PageFull}
-use Rattle.writer.specs.declared.write.Writing.{Writing}
-use Rattle.writer.specs.declared.write.Writing.TheVariants.{Written, Refused}
 use Rattle.writer.specs.Puts.{Puts}
 use Rattle.writer.specs.Pages.{written_text}
 use Rattle.writer.specs.BoardTexts.{page_held}
-use Rattle.writer.specs.Writings.{page_answer, written_by, writing_of, is_written, page_after, IsWritten}
+use Rattle.writer.specs.Writings.{page_answer, written_by, writing_of, page_after, IsWritten}
 use Rattle.writer.specs.WritingSteps.{WritingEnded}
 use Rattle.writer.proofs.HeldBoards.{taken_holds}
 use Rattle.writer.proofs.HeldPages.{PageHeld}
@@ -53,15 +52,15 @@ taken_boards c text lc le n i =
     (λ v. ap boards_in (rw (t, u, v) at i))))
 
 -- What a page of bs comes to, by the answer.
-page_out : (bs : List ℕ) (m : ℕ) → page_of bs m ≡ page_after (is_written (page_answer (length bs) m)) bs m
+page_out : (bs : List ℕ) (m : ℕ) → page_of bs m ≡ page_after (is_ok (page_answer (length bs) m)) bs m
 unfolding page_of
 page_out bs m = by_cases (leb (length bs) m) (λ q. rw q) (λ q. rw q)
 
-out_is : (n m : ℕ) → is_written (page_answer n m) ≡ leb n m
+out_is : (n m : ℕ) → is_ok (page_answer n m) ≡ leb n m
 out_is n m = by_cases (leb n m) (λ q. rw q) (λ q. rw q)
 
 -- The edition was taken, its text put and the page ended.
-pub written_taken : {c : Conventions} {text cards entries page cards₁ entries₁ page₁ cards₂ entries₂ page₂ : List ℕ} {k : Counts} {n : ℕ} {r : Writing}
+pub written_taken : {c : Conventions} {text cards entries page cards₁ entries₁ page₁ cards₂ entries₂ page₂ : List ℕ} {k : Counts} {n : ℕ} {r : Result ℕ WriteRefusal}
     → IsRead c text cards entries (Ok k) cards₁ entries₁
     → Puts page 0 (page_held c text cards₁ entries₁ k.boards) page₁ n
     → WritingEnded n cards₁ entries₁ page₁ r cards₂ entries₂ page₂
@@ -79,7 +78,7 @@ written_taken {c} {text} {cards} {entries} {page} {cards₁} {entries₁} {page�
     let el = text_put.kept in
     let ended : PageEnded n page₁ page₂ (cond (leb n (length page₁)) (Bytes n) (paged.Refused (refusal.PageFull n))) = record { told = refl; page_left = d.page_left } in
     let out : r ≡ page_answer (length (written_text c text)) (length page) = rw (← en, ← el) d.answer in
-    let lent : is_written r ≡ leb n (length page₁) = ap is_written d.answer ∙ out_is n (length page₁) in
+    let lent : is_ok r ≡ leb n (length page₁) = ap is_ok d.answer ∙ out_is n (length page₁) in
     record {
       answer = out ∙ ap (written_by (written_text c text) (length page)) i.answer;
       page_left = (finished put ended).page_left ∙ (page_out (written_text c text) (length page) ∙ rw out);
@@ -91,7 +90,7 @@ written_taken {c} {text} {cards} {entries} {page} {cards₁} {entries₁} {page�
 pub written_refused : {c : Conventions} {text cards entries page cards₁ entries₁ page₁ : List ℕ} {f : ReadRefusal}
     → IsRead c text cards entries (Err f) cards₁ entries₁
     → page₁ ≡ zeros page
-    → IsWritten c text cards entries page (Refused (Edition f)) cards₁ entries₁ page₁
+    → IsWritten c text cards entries page (Err (Edition f)) cards₁ entries₁ page₁
 unfolding writing_of
 written_refused {c} {text} {cards} {entries} {page} i z =
     record {
@@ -108,13 +107,13 @@ cleared_none page page' r f =
     rw z at f.page_left ∙ ap (λ (k : ℕ). replicate k 0) (sub-zero (length page))
 
 -- The answer for n bytes that fit, and for more.
-pub ended_in : {n : ℕ} {cards entries page page' : List ℕ} {w : PageWritten} → n ≤ length page → PageEnded n page page' w → WritingEnded n cards entries page (Written n) cards entries page'
+pub ended_in : {n : ℕ} {cards entries page page' : List ℕ} {w : PageWritten} → n ≤ length page → PageEnded n page page' w → WritingEnded n cards entries page (Ok n) cards entries page'
 ended_in {n} {cards} {entries} {page} h f =
     let q = le-leb n (length page) h in
     record { answer = rw q; page_left = f.page_left; cards_after = rw q; entries_after = rw q }
 
 pub ended_out : {n : ℕ} {cards entries page cards' entries' page' : List ℕ} → length page < n → page' ≡ zeros page → cards' ≡ zeros cards → entries' ≡ zeros entries
-    → WritingEnded n cards entries page (Refused (PageFull n)) cards' entries' page'
+    → WritingEnded n cards entries page (Err (PageFull n)) cards' entries' page'
 ended_out {n} {cards} {entries} {page} h x y z =
     let q = lt-leb n (length page) h in
     record { answer = rw q; page_left = rw q x; cards_after = rw q y; entries_after = rw q z }

@@ -3,8 +3,8 @@ ghost use Rattle.std.specs.Prelude.{◌≡◌, false, ◌+◌, ◌*◌, ◌≤�
 ghost use Rattle.tables.specs.Letters.{built_in};
 ghost use Rattle.reader.specs.Store.{zeros};
 ghost use Rattle.planning.specs.PlanSteps.{BoxesKept};
-ghost use Rattle.writer.specs.GivenCards.{marked, given_cleared, changed_at, changed_all, checked_of, FinishEnded, FinishPut, BoardsFinished};
-ghost use Rattle.writer.specs.Finishings.{finish_number, finish_carries, finish_edition, first_above, IsFinished};
+ghost use Rattle.writer.specs.GivenCards.{marked, given_cleared, changed_at, changed_all, FinishEnded, FinishPut, BoardsFinished};
+ghost use Rattle.writer.specs.Finishings.{finish_number, finish_carries, finish_edition, first_above, checked_of, IsFinished};
 
 use crate::give::give_tables;
 use crate::page::put_page;
@@ -25,20 +25,6 @@ pub enum FinishRefusal {
     Answers(u64),
     Impossible(u64),
     PageFull(u64),
-}
-
-// The bytes written, or a refusal, which leaves all that was lent zero.
-#[derive(Clone, Copy)]
-pub enum Finishing {
-    Finished(u64),
-    Refused(FinishRefusal),
-}
-
-// Answers that are let through, or refusal 5 or 6.
-#[derive(Clone, Copy)]
-pub enum Checked {
-    Right,
-    Wrong(FinishRefusal),
 }
 
 pub fn finish_number(f: FinishRefusal) -> u64
@@ -136,21 +122,21 @@ fn first_above(answers: &[u8]) -> usize
     i
 }
 
-// Whether the answers are 20 bytes for each board to solve, none above 13.
-fn check_answers(answers: &[u8], solve: usize) -> Checked
+// Lets answers through that are 20 bytes for each board to solve, none above 13.
+fn check_answers(answers: &[u8], solve: usize) -> Result<(), FinishRefusal>
     ensures { result ≡ checked_of solve answers.now }
 {
     if answers.len() % 20 != 0 {
-        return Checked::Wrong(FinishRefusal::Answers(solve as u64));
+        return Err(FinishRefusal::Answers(solve as u64));
     }
     if answers.len() / 20 != solve {
-        return Checked::Wrong(FinishRefusal::Answers(solve as u64));
+        return Err(FinishRefusal::Answers(solve as u64));
     }
     let k = first_above(answers);
     if k != answers.len() {
-        return Checked::Wrong(FinishRefusal::Impossible(k as u64));
+        return Err(FinishRefusal::Impossible(k as u64));
     }
-    Checked::Right
+    Ok(())
 }
 
 // Sets all that was lent to 0.
@@ -170,7 +156,7 @@ fn zero_all(
     clear(page);
 }
 
-// The answer for n bytes; all that was lent is set to 0 where they do not fit.
+// The n bytes put on a page; all that was lent is set to 0 where they do not fit.
 fn end_finishing(
     n: usize,
     old_cards: &mut [u32],
@@ -178,7 +164,7 @@ fn end_finishing(
     new_cards: &mut [u32],
     new_entries: &mut [u32],
     page: &mut [u8],
-) -> Finishing
+) -> Result<u64, FinishRefusal>
     ensures { FinishEnded n
         (record { old_cards = old_cards.old; old_entries = old_entries.old; new_cards = new_cards.old; new_entries = new_entries.old })
         page.old result
@@ -187,10 +173,10 @@ fn end_finishing(
 {
     if n <= page.len() {
         tables::page::finish(page, n);
-        return Finishing::Finished(n as u64);
+        return Ok(n as u64);
     }
     zero_all(old_cards, old_entries, new_cards, new_entries, page);
-    Finishing::Refused(FinishRefusal::PageFull(n as u64))
+    Err(FinishRefusal::PageFull(n as u64))
 }
 
 // Puts the page of boards whose cells were given, and takes the given tables away again.
@@ -223,7 +209,7 @@ fn finish_boards(
     news: usize,
     answers: &[u8],
     page: &mut [u8],
-) -> Finishing
+) -> Result<u64, FinishRefusal>
     requires { (64 * olds ≤ length old_cards.old) × (64 * news ≤ length new_cards.old) }
     ensures { BoardsFinished c new.now olds news
         (record { old_cards = old_cards.old; old_entries = old_entries.old; new_cards = new_cards.old; new_entries = new_entries.old })
@@ -233,18 +219,18 @@ fn finish_boards(
 {
     let solve = give_tables(old_cards, olds, new_cards, news, answers);
     match check_answers(answers, solve) {
-        Checked::Right => {
+        Ok(()) => {
             let n = put_finished(new, new_cards, new_entries, c, news, page);
             end_finishing(n, old_cards, old_entries, new_cards, new_entries, page)
         }
-        Checked::Wrong(f) => {
+        Err(f) => {
             zero_all(old_cards, old_entries, new_cards, new_entries, page);
-            Finishing::Refused(f)
+            Err(f)
         }
     }
 }
 
-// Finishes by the given conventions.
+// Finishes by the given conventions. How many bytes; a refusal leaves all that was lent zero.
 pub fn finish_with(
     c: Conventions,
     old: &[u8],
@@ -255,7 +241,7 @@ pub fn finish_with(
     new_entries: &mut [u32],
     answers: &[u8],
     page: &mut [u8],
-) -> Finishing
+) -> Result<u64, FinishRefusal>
     ensures { IsFinished c old.now new.now
         (record { old_cards = old_cards.old; old_entries = old_entries.old; new_cards = new_cards.old; new_entries = new_entries.old })
         answers.now page.old result
@@ -265,7 +251,7 @@ pub fn finish_with(
     match read_both(c, old, new, old_cards, old_entries, new_cards, new_entries) {
         Editions::Refused(f) => {
             clear(page);
-            Finishing::Refused(FinishRefusal::Edition(f))
+            Err(FinishRefusal::Edition(f))
         }
         Editions::Both(olds, news) => finish_boards(
             c,
@@ -292,7 +278,7 @@ pub fn finish(
     new_entries: &mut [u32],
     answers: &[u8],
     page: &mut [u8],
-) -> Finishing
+) -> Result<u64, FinishRefusal>
     ensures { IsFinished built_in old.now new.now
         (record { old_cards = old_cards.old; old_entries = old_entries.old; new_cards = new_cards.old; new_entries = new_entries.old })
         answers.now page.old result

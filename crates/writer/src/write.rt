@@ -12,17 +12,10 @@ use tables::letters::{Conventions, built_in};
 use tables::page::finish;
 
 // Refusals 1 to 3 of the edition, and 7 with the bytes needed; specs/Writings.antt gives the numbers.
-#[derive(Clone, Copy)]
+#[derive(Clone, Copy, Debug, PartialEq, Eq)]
 pub enum WriteRefusal {
     Edition(ReadRefusal),
     PageFull(u64),
-}
-
-// The bytes written, or a refusal, which leaves all that was lent zero.
-#[derive(Clone, Copy)]
-pub enum Writing {
-    Written(u64),
-    Refused(WriteRefusal),
 }
 
 pub fn write_number(f: WriteRefusal) -> u64
@@ -50,28 +43,34 @@ pub fn clear(page: &mut [u8])
     finish(page, 0);
 }
 
-// The answer for n bytes; all that was lent is set to 0 where they do not fit.
-fn end_writing(n: usize, cards: &mut [u32], entries: &mut [u32], page: &mut [u8]) -> Writing
+// The n bytes put on a page; all that was lent is set to 0 where they do not fit.
+fn end_writing(
+    n: usize,
+    cards: &mut [u32],
+    entries: &mut [u32],
+    page: &mut [u8],
+) -> Result<u64, WriteRefusal>
     ensures { WritingEnded n cards.old entries.old page.old result cards.new entries.new page.new }
 {
     if n <= page.len() {
         finish(page, n);
-        return Writing::Written(n as u64);
+        return Ok(n as u64);
     }
     clear(page);
     zero(cards);
     zero(entries);
-    Writing::Refused(WriteRefusal::PageFull(n as u64))
+    Err(WriteRefusal::PageFull(n as u64))
 }
 
-// Reads a text into the lent words and writes it on the page, by the given conventions.
+// Reads a text into the lent words and writes it on the page, by the given conventions. How many bytes; a refusal leaves all that was lent
+// zero.
 pub fn write_pbn_with(
     c: Conventions,
     text: &[u8],
     cards: &mut [u32],
     entries: &mut [u32],
     page: &mut [u8],
-) -> Writing
+) -> Result<u64, WriteRefusal>
     ensures { IsWritten c text.now cards.old entries.old page.old result cards.new entries.new page.new }
 {
     match read_pbn_with(c, text, cards, entries) {
@@ -81,13 +80,18 @@ pub fn write_pbn_with(
         }
         Err(f) => {
             clear(page);
-            Writing::Refused(WriteRefusal::Edition(f))
+            Err(WriteRefusal::Edition(f))
         }
     }
 }
 
 // Reads a text into the lent words and writes it on the page.
-pub fn write_pbn(text: &[u8], cards: &mut [u32], entries: &mut [u32], page: &mut [u8]) -> Writing
+pub fn write_pbn(
+    text: &[u8],
+    cards: &mut [u32],
+    entries: &mut [u32],
+    page: &mut [u8],
+) -> Result<u64, WriteRefusal>
     ensures { IsWritten built_in text.now cards.old entries.old page.old result cards.new entries.new page.new }
 {
     write_pbn_with(built_in(), text, cards, entries, page)
