@@ -13,7 +13,8 @@ use Rattle.tables.proofs.RowLaws.{every_append}
 use Rattle.reader.specs.Records.{records_of}
 use Rattle.reader.proofs.EntryLaws.{All, none, one}
 use Rattle.writer.specs.Pages.{built_in_header}
-use Rattle.lin.specs.Pairs.{Pair, is_pair, mb, pc}
+use Rattle.lin.specs.declared.pairs.Command.TheVariants.{Mb, Pc}
+use Rattle.lin.specs.Pairs.{Pair, is_pair}
 use Rattle.lin.specs.Pieces.{board_pieces}
 use Rattle.lin.specs.Dealing.{no_dealing, dealing_from, all_cards, is_deal}
 use Rattle.lin.specs.Bidding.{call_in, calls_from}
@@ -32,16 +33,16 @@ use Rattle.demands.proofs.LinWritable.{LinLinesGood}
 calls_low : (c : Conventions) (ps : List Pair) → every (λ k. ltb k 47) (calls_from c ps) ≡ true
 calls_low c [] = refl
 calls_low c (p ∷ ps) =
-    by_cases (is_pair mb p && ltb (call_in c p.value) 47)
-    (λ e. rw (e, (both (is_pair mb p) (ltb (call_in c p.value) 47) e).1) (calls_low c ps))
+    by_cases (is_pair Mb p && ltb (call_in c p.value) 47)
+    (λ e. rw (e, (both (is_pair Mb p) (ltb (call_in c p.value) 47) e).1) (calls_low c ps))
     (λ e. rw e (calls_low c ps))
 
 cards_low : (c : Conventions) (ps : List Pair) → every (λ k. ltb k 52) (cards_played c ps) ≡ true
 cards_low c [] = refl
 cards_low c (p ∷ ps) =
     let k = card_in c (trimmed p.value) in
-    by_cases (is_pair pc p && ltb k 52)
-    (λ e. rw (e, (both (is_pair pc p) (ltb k 52) e).1) (cards_low c ps))
+    by_cases (is_pair Pc p && ltb k 52)
+    (λ e. rw (e, (both (is_pair Pc p) (ltb k 52) e).1) (cards_low c ps))
     (λ e. rw e (cards_low c ps))
 
 four_low : (s w n e : List ℕ) → every (λ k. ltb k 52) s ≡ true → every (λ k. ltb k 52) w ≡ true → every (λ k. ltb k 52) n ≡ true → every (λ k. ltb k 52) e ≡ true

@@ -2,7 +2,7 @@
 #![tactic(auto)]
 
 ghost use Rattle.std.specs.Prelude.{◌≡◌, ◌+◌, ◌-◌, ◌≤◌, ◌∷◌, length, get_or, replicate};
-ghost use Rattle.golavimes.specs.Answers.{written_numbers, decoded_numbers, bytes_numbers, refused_head, editions_head, plan_numbers, state_numbers, record_numbers, boards_numbers, searches_numbers, WroteOut, ReadOut, EditionOut, WritingOut, LinOut, PlanOut, StateOut, BehindOut, BoardsOut, SearchesOut, FinishOut};
+ghost use Rattle.golavimes.specs.Answers.{written_numbers, decoded_numbers, table_left, bytes_numbers, refused_head, editions_head, plan_numbers, state_numbers, record_numbers, boards_numbers, searches_numbers, WroteOut, ReadOut, EditionOut, WritingOut, LinOut, PlanOut, StateOut, BehindOut, BoardsOut, SearchesOut, FinishOut};
 ghost use Rattle.tables.specs.Letters.{built_in};
 ghost use Rattle.tables.specs.Tables.{digits_text, header_text, rows_text, table_of_digits, table_of_rows};
 
@@ -10,8 +10,7 @@ use planning::behind::Behind;
 use planning::editions::Editions;
 use planning::plan::{PlanRefusal, Planning};
 use planning::state::BoardState;
-use tables::dd::{Decoded, TableRead};
-use tables::page::Written;
+use tables::refusal::Refusal;
 use tables::refused::Refused;
 
 // Tells the caller values, and that nothing is refused.
@@ -46,26 +45,21 @@ fn tell_bytes<R: Refused>(written: Result<u64, R>, answer: &mut [u64; 4]) -> u64
     }
 }
 
-fn written_numbers(w: Written) -> [u64; 4]
-    ensures { result ≡ written_numbers w }
+fn written_numbers(written: Result<u64, Refusal>) -> [u64; 4]
+    ensures { result ≡ written_numbers written }
 {
-    match w {
-        Written::Bytes(n) => [0, 0, 0, n],
-        Written::Refused(f) => [
-            tables::refusal::number(f),
-            0,
-            tables::refusal::carried(f),
-            0,
-        ],
+    match written {
+        Ok(bytes) => [0, 0, 0, bytes],
+        Err(f) => [f.number(), 0, f.carried(), 0],
     }
 }
 
-fn decoded_numbers(d: Decoded) -> [u64; 3]
-    ensures { result ≡ decoded_numbers d }
+fn decoded_numbers(read: Result<[u8; 20], Refusal>) -> [u64; 3]
+    ensures { result ≡ decoded_numbers read }
 {
-    match d {
-        Decoded::Table => [0, 0, 0],
-        Decoded::Refused(f) => [tables::refusal::number(f), 0, tables::refusal::carried(f)],
+    match read {
+        Ok(_) => [0, 0, 0],
+        Err(f) => [f.number(), 0, f.carried()],
     }
 }
 
@@ -104,14 +98,15 @@ pub fn golavimes_optimum_result_table_rows(
     numbers[0]
 }
 
-// Hands a table that was read to the caller's.
-fn hand_out(read: TableRead, table: &mut [u8; 20], answer: &mut [u64; 3]) -> u64
-    ensures { (table.new ≡ read.table) × (answer.new ≡ decoded_numbers read.answer) × (result ≡ get_or (decoded_numbers read.answer) 0 0) }
+// Hands a table that was read to the caller's: zeros after a refusal.
+fn hand_out(read: Result<[u8; 20], Refusal>, table: &mut [u8; 20], answer: &mut [u64; 3]) -> u64
+    ensures { (table.new ≡ table_left read) × (answer.new ≡ decoded_numbers read) × (result ≡ get_or (decoded_numbers read) 0 0) }
 {
-    let cells = read.table;
-    let told = read.answer;
-    let numbers = decoded_numbers(told);
-    *table = cells;
+    let numbers = decoded_numbers(read);
+    *table = match read {
+        Ok(cells) => cells,
+        Err(_) => [0; 20],
+    };
     *answer = numbers;
     numbers[0]
 }
@@ -260,8 +255,8 @@ fn state_numbers(r: Editions, s: BoardState) -> [u64; 5]
         h.refusal,
         h.edition,
         h.carried,
-        planning::state::state_number(s),
-        planning::state::from_of(s),
+        s.number(),
+        s.source(),
     ]
 }
 
@@ -297,24 +292,20 @@ pub fn golavimes_state(
     numbers[0]
 }
 
-// e - a, or 0.
-fn less(e: u64, a: u64) -> u64
-    ensures { result ≡ e - a }
-{
-    if e <= a {
-        return 0;
-    }
-    e - a
-}
-
-fn behind_numbers(r: Editions, b: Behind) -> [u64; 6]
+fn behind_numbers(r: Editions, b: Option<Behind>) -> [u64; 6]
     ensures { result ≡ record_numbers r b }
 {
     let h = editions_head(r);
     match b {
-        Behind::InOld(a, e) => [h.refusal, h.edition, h.carried, 1, a, less(e, a)],
-        Behind::InNew(a, e) => [h.refusal, h.edition, h.carried, 2, a, less(e, a)],
-        Behind::Nothing => [h.refusal, h.edition, h.carried, 0, 0, 0],
+        Some(p) => [
+            h.refusal,
+            h.edition,
+            h.carried,
+            p.edition.number(),
+            p.start,
+            p.end.saturating_sub(p.start),
+        ],
+        None => [h.refusal, h.edition, h.carried, 0, 0, 0],
     }
 }
 

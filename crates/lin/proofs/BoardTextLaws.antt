@@ -26,7 +26,7 @@ use Rattle.writer.proofs.NotePlaces.{none_between}
 use Rattle.writer.proofs.SectionTexts.{tokens_rounds}
 use Rattle.lin.specs.declared.survey.Survey.{Survey}
 use Rattle.lin.specs.Pairs.{Pair}
-use Rattle.lin.specs.Dealing.{Dealing, no_dealing, dealing_from, is_deal, dealt_hands}
+use Rattle.lin.specs.Dealing.{no_dealing, dealing_from, dealt_hands}
 use Rattle.lin.specs.DealingSteps.{told}
 use Rattle.lin.specs.declared.bidding.Contract.{Contract}
 use Rattle.lin.specs.Bidding.{vulnerability_from, calls_from, no_contract, contract_from, contract_token}
@@ -190,14 +190,10 @@ pub record SurveyIs (c : Conventions) (ps : List Pair) (s : Survey) : Type 0 whe
   pub contract_is : s.contract ≡ contract_from 0 no_contract (calls_from c ps)
   pub played_is : s.played ≡ is_any (cards_played c ps)
 
-told_good : (d : Dealing) → is_deal d ≡ true → told d ≡ record { dealer = d.dealer; hands = dealt_hands d; good = true }
-told_good d e = rw e
-
 -- THEOREM. A board's lines are the text that its survey gives.
 pub board_text : (c : Conventions) (ps : List Pair) (s : Survey) → SurveyIs c ps s
-    → (board_of c ps).dealing.dealer < 4 → (board_of c ps).vulnerability < 4 → is_deal (board_of c ps).dealing ≡ true
-    → lines_text (lin_lines c (board_of c ps)) ≡ survey_text c s ps
+    → (board_of c ps).dealing.dealer < 4 → (board_of c ps).vulnerability < 4
+    → lines_text (lin_lines c (board_of c ps)) ≡ survey_text c s (dealt_hands (board_of c ps).dealing) ps
 unfolding board_of survey_text lin_play_text contract_of declarer_in
-board_text c ps s f h k e =
-    let d = f.deal_is ∙ told_good (dealing_from c no_dealing ps) e in
-    rw (d, f.vulnerability_is, f.called_is, f.contract_is, f.played_is) (lines_text_lem c (board_of c ps) h k)
+board_text c ps s f h k =
+    rw (f.deal_is, f.vulnerability_is, f.called_is, f.contract_is, f.played_is) (lines_text_lem c (board_of c ps) h k)

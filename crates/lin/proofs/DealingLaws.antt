@@ -14,28 +14,30 @@ use Rattle.tables.specs.Text.{before, prepend, single, is_inside, starts, charac
 use Rattle.tables.specs.Letters.{suit_of, rank_of, among, distinct, every}
 use Rattle.tables.proofs.Laws.{by_cases, both, either, neither, clash, step, stop}
 use Rattle.tables.proofs.RowLaws.{every_append}
-use Rattle.reader.specs.declared.deal.HandRead.{HandRead}
-use Rattle.reader.specs.declared.deal.HandRead.TheVariants.{Held as Placed, NoHand}
+use Rattle.std.specs.Prelude.{Option, Some, None, option_and_then}
+use Rattle.reader.specs.declared.deal.Hands.{Hands}
 use Rattle.reader.specs.Words.{card_number}
 use Rattle.reader.specs.Deals.{bit, has, hand_bits, ones, card_count, Proper}
-use Rattle.reader.specs.DealSteps.{place}
+use Rattle.reader.specs.DealSteps.{HandRead, place}
 use Rattle.reader.proofs.DealLaws.{never_held, all_dealt}
 use Rattle.reader.proofs.CardSets.{bit_small, bit_high, times, times_append, distinct_times, times_distinct, distinct_front, distinct_back, bit_total, in_pack, total_below, count_total, count_deck, place_all, place_sum, place_append, down, down_none, down_more, total_deck, times_deck, count_down, among_times}
 use Rattle.lin.specs.declared.dealing.LinHand.{LinHand}
-use Rattle.lin.specs.declared.dealing.LinHand.TheVariants.{Held, Again}
-use Rattle.lin.specs.declared.dealing.LinDeal.TheVariants.{Dealt, Faulty}
 use Rattle.lin.specs.declared.dealing.LinDealing.{LinDealing}
-use Rattle.lin.specs.Pairs.{parts, Pair, is_pair, md}
+use Rattle.lin.specs.declared.pairs.Command.TheVariants.{Md}
+use Rattle.lin.specs.Pairs.{parts, Pair, is_pair}
 use Rattle.lin.specs.Dealing.{Dealing, no_dealing, dealer_of, hand_cards, hand_of, unheld, is_thirteen, east_of, dealt_by, dealing_in, dealing_from, all_cards, has_card, is_hand, is_deal, dealt_hands}
-use Rattle.lin.specs.DealingSteps.{letter_step, after_letter, hand_run, start_part, held_count, hand_read, IsSoundHand, field_first, fields_behind, dealt_as, hands_dealt, fields_dealt, told_by, told, told_in}
+use Rattle.lin.specs.DealingSteps.{letter_step, hand_run, start_part, held_count, hand_read, IsSoundHand, field_first, fields_behind, dealt_as, hands_dealt, fields_dealt, told, told_in}
 use Rattle.lin.specs.PieceSteps.{any_bits}
 
 -- ---- a hand
 
+abbrev held : ℕ → ℕ → Option LinHand
+held x n = Some (record { cards = x; count = n })
+
 hand_run_lem : (c : Conventions) (x n s : ℕ) (bs : List ℕ)
     → hand_run c (record { cards = x; count = n; suit = s }) bs ≡ held_count (n + length (hand_cards c s bs)) (place x (hand_cards c s bs))
 unfolding letter_step
-hand_run_lem c x n s [] = ap (λ (m : ℕ). Held x m) (omega arith)
+hand_run_lem c x n s [] = ap (λ (m : ℕ). held x m) (omega arith)
 hand_run_lem c x n s (b ∷ bs) =
     by_cases (ltb (suit_of c b) 4)
     (λ t. rw t (hand_run_lem c x n (suit_of c b) bs))
@@ -51,7 +53,7 @@ hand_run_lem c x n s (b ∷ bs) =
     (λ u. rw (t, u) (hand_run_lem c x n s bs)))
 
 -- A field without a byte.
-pub hand_none : (c : Conventions) (x : ℕ) (s : List ℕ) → length s ≡ 0 → Held x 0 ≡ hand_read x (hand_of c s)
+pub hand_none : (c : Conventions) (x : ℕ) (s : List ℕ) → length s ≡ 0 → held x 0 ≡ hand_read x (hand_of c s)
 unfolding hand_read hand_of
 hand_none c x [] h = refl
 hand_none c x (b ∷ bs) h = absurd (omega arith)
@@ -69,7 +71,7 @@ characters_some [] h = absurd (h refl)
 characters_some (b ∷ bs) h = refl
 
 pub hand_some : (c : Conventions) (x : ℕ) (s : List ℕ) → (length s ≡ 0 → ⊥)
-    → after_letter (letter_step c (start_part x) (first_character s)) (λ g. hand_run c g (starts (drop 1 s))) ≡ hand_read x (hand_of c s)
+    → option_and_then (λ g. hand_run c g (starts (drop 1 s))) (letter_step c (start_part x) (first_character s)) ≡ hand_read x (hand_of c s)
 hand_some c x s h = ap (λ (l : List ℕ). hand_run c (start_part x) l) (sym (characters_some s h)) ∙ hand_read_lem c x s
 
 -- The characters from the place i on.
@@ -207,21 +209,23 @@ pack_hand : (c : Conventions) (field : List ℕ) → every in_pack (hand_of c fi
 unfolding hand_of
 pack_hand c field = pack_cards c 4 (characters field)
 
-counted_held : (r : HandRead) (m : ℕ) {y n : ℕ} → held_count m r ≡ Held y n → (r ≡ Placed y) × (m ≡ n)
-counted_held (Placed z) m e = (cc, cc)
-counted_held NoHand m e = let z : ◌≡◌ {A = ℕ} 0 1 = cc in absurd (omega arith)
+counted_held : (r : HandRead) (m : ℕ) {h : LinHand} → held_count m r ≡ Some h → (r ≡ Some h.cards) × (m ≡ h.count)
+counted_held (Some z) m {h} e =
+    let k : ◌≡◌ {A = LinHand} (record { cards = z; count = m }) h = cc in
+    (ap (λ (x : LinHand). Some x.cards) k, ap (λ (x : LinHand). x.count) k)
+counted_held None m e = let z : ◌≡◌ {A = ℕ} 0 1 = cc in absurd (omega arith)
 
-counted_again : (r : HandRead) (m : ℕ) → held_count m r ≡ Again → r ≡ NoHand
-counted_again (Placed z) m e = let z : ◌≡◌ {A = ℕ} 0 1 = cc in absurd (omega arith)
-counted_again NoHand m e = refl
+counted_none : (r : HandRead) (m : ℕ) → held_count m r ≡ None → r ≡ None
+counted_none (Some z) m e = let z : ◌≡◌ {A = ℕ} 0 1 = cc in absurd (omega arith)
+counted_none None m e = refl
 
-read_held : (x : ℕ) (ks : List ℕ) {y n : ℕ} → hand_read x ks ≡ Held y n → (place x ks ≡ Placed y) × (length ks ≡ n)
+read_held : (x : ℕ) (ks : List ℕ) {h : LinHand} → hand_read x ks ≡ Some h → (place x ks ≡ Some h.cards) × (length ks ≡ h.count)
 unfolding hand_read
 read_held x ks e = counted_held (place x ks) (length ks) e
 
-read_again : (x : ℕ) (ks : List ℕ) → hand_read x ks ≡ Again → place x ks ≡ NoHand
+read_none : (x : ℕ) (ks : List ℕ) → hand_read x ks ≡ None → place x ks ≡ None
 unfolding hand_read
-read_again x ks e = counted_again (place x ks) (length ks) e
+read_none x ks e = counted_none (place x ks) (length ks) e
 
 and_off : (a b : Bool) → b ≡ false → (a && b) ≡ false
 and_off true b e = e
@@ -230,31 +234,31 @@ and_off false b e = refl
 abbrev of_hands : List ℕ → List ℕ → List ℕ → List ℕ → Dealing
 of_hands s w n e = record { dealer = 0; north = n; east = e; south = s; west = w }
 
-undealt : (s w n e : List ℕ) → place 0 (s ++ (w ++ (n ++ e))) ≡ NoHand → Faulty ≡ dealt_as (of_hands s w n e)
+undealt : (s w n e : List ℕ) → place 0 (s ++ (w ++ (n ++ e))) ≡ None → None ≡ dealt_as (of_hands s w n e)
 undealt s w n e h =
     by_cases (distinct (s ++ (w ++ (n ++ e))))
     (λ t. never_held (sym (rw (place_all (s ++ (w ++ (n ++ e))), t) at h)))
     (λ t. rw t)
 
 module _ (s w n e : List ℕ) where
-  many_south : 13 < length s → Faulty ≡ dealt_as (of_hands s w n e)
+  many_south : 13 < length s → None ≡ dealt_as (of_hands s w n e)
   many_south h = rw (lt-leb (length s) 13 h, and_off (distinct (s ++ (w ++ (n ++ e)))) false refl)
 
-  many_west : 13 < length w → Faulty ≡ dealt_as (of_hands s w n e)
+  many_west : 13 < length w → None ≡ dealt_as (of_hands s w n e)
   many_west h = rw (lt-leb (length w) 13 h, and_off (is_hand s) false refl, and_off (distinct (s ++ (w ++ (n ++ e)))) false refl)
 
-  many_north : 13 < length n → Faulty ≡ dealt_as (of_hands s w n e)
+  many_north : 13 < length n → None ≡ dealt_as (of_hands s w n e)
   many_north h = rw (lt-leb (length n) 13 h, and_off (is_hand w) false refl, and_off (is_hand s) false refl, and_off (distinct (s ++ (w ++ (n ++ e)))) false refl)
 
-  many_east : 13 < length e → Faulty ≡ dealt_as (of_hands s w n e)
+  many_east : 13 < length e → None ≡ dealt_as (of_hands s w n e)
   many_east h = rw (lt-leb (length e) 13 h, and_off (is_hand n) false refl, and_off (is_hand w) false refl, and_off (is_hand s) false refl, and_off (distinct (s ++ (w ++ (n ++ e)))) false refl)
 
-  few_all : distinct (s ++ (w ++ (n ++ e))) ≡ true → length s ≤ 13 → length w ≤ 13 → length n ≤ 13 → length e ≤ 13 → Dealt (dealt_hands (of_hands s w n e)) ≡ dealt_as (of_hands s w n e)
+  few_all : distinct (s ++ (w ++ (n ++ e))) ≡ true → length s ≤ 13 → length w ≤ 13 → length n ≤ 13 → length e ≤ 13 → Some (dealt_hands (of_hands s w n e)) ≡ dealt_as (of_hands s w n e)
   few_all d hs hw hn he = rw (d, le-leb (length s) 13 hs, le-leb (length w) 13 hw, le-leb (length n) 13 hn, le-leb (length e) 13 he)
 
-pub sound_more : (x y : ℕ) (r : LinHand) → x ≤ y → IsSoundHand y r → IsSoundHand x r
-sound_more x y (Held z n) h g = (omega (arith, g.0), g.1)
-sound_more x y Again h g = tt
+pub sound_more : (x y : ℕ) (r : Option LinHand) → x ≤ y → IsSoundHand y r → IsSoundHand x r
+sound_more x y (Some z) h g = (omega (arith, g.0), g.1)
+sound_more x y None h g = tt
 
 east_all : (c : Conventions) (e s w n : List ℕ) → (eqb (length (trimmed e)) 0 && (is_thirteen s && (is_thirteen w && is_thirteen n))) ≡ true
     → east_of c e s w n ≡ unheld (s ++ (w ++ n)) 52
@@ -280,32 +284,50 @@ module _ (c : Conventions) (s w n e : List ℕ) where
   abbrev east : List ℕ
   east = east_of c e south west north
 
-  pub no_south : hand_read 0 (hand_of c s) ≡ Again → Faulty ≡ hands_dealt c s w n e
+  pub no_south : hand_read 0 (hand_of c s) ≡ None → None ≡ hands_dealt c s w n e
   unfolding hands_dealt
-  no_south h = undealt south west north east (place_append 0 south (west ++ (north ++ east)) ∙ rw (read_again 0 south h))
+  no_south h = undealt south west north east (place_append 0 south (west ++ (north ++ east)) ∙ rw (read_none 0 south h))
 
-  module _ {a i : ℕ} (f : hand_read 0 (hand_of c s) ≡ Held a i) where
-    pub no_west : hand_read a (hand_of c w) ≡ Again → Faulty ≡ hands_dealt c s w n e
+  module _ {fs : LinHand} (f : hand_read 0 (hand_of c s) ≡ Some fs) where
+    abbrev a : ℕ
+    a = fs.cards
+
+    abbrev i : ℕ
+    i = fs.count
+
+    pub no_west : hand_read a (hand_of c w) ≡ None → None ≡ hands_dealt c s w n e
     unfolding hands_dealt
     no_west h =
         undealt south west north east
-        (place_append 0 south (west ++ (north ++ east)) ∙ rw (read_held 0 south f).0 (place_append a west (north ++ east) ∙ rw (read_again a west h)))
+        (place_append 0 south (west ++ (north ++ east)) ∙ rw (read_held 0 south f).0 (place_append a west (north ++ east) ∙ rw (read_none a west h)))
 
-    module _ {b j : ℕ} (g : hand_read a (hand_of c w) ≡ Held b j) where
+    module _ {fw : LinHand} (g : hand_read a (hand_of c w) ≡ Some fw) where
+      abbrev b : ℕ
+      b = fw.cards
+
+      abbrev j : ℕ
+      j = fw.count
+
       -- The cards of S and W, and more.
       two_placed : (l : List ℕ) → place 0 (south ++ (west ++ l)) ≡ place b l
       two_placed l = place_append 0 south (west ++ l) ∙ rw (read_held 0 south f).0 (place_append a west l ∙ rw (read_held a west g).0)
 
-      pub no_north : hand_read b (hand_of c n) ≡ Again → Faulty ≡ hands_dealt c s w n e
+      pub no_north : hand_read b (hand_of c n) ≡ None → None ≡ hands_dealt c s w n e
       unfolding hands_dealt
-      no_north h = undealt south west north east (two_placed (north ++ east) ∙ place_append b north east ∙ rw (read_again b north h))
+      no_north h = undealt south west north east (two_placed (north ++ east) ∙ place_append b north east ∙ rw (read_none b north h))
 
-      module _ {d k : ℕ} (h : hand_read b (hand_of c n) ≡ Held d k) where
+      module _ {fn : LinHand} (h : hand_read b (hand_of c n) ≡ Some fn) where
+        abbrev d : ℕ
+        d = fn.cards
+
+        abbrev k : ℕ
+        k = fn.count
+
         three_placed : (l : List ℕ) → place 0 (south ++ (west ++ (north ++ l))) ≡ place d l
         three_placed l = two_placed (north ++ l) ∙ place_append b north l ∙ rw (read_held b north h).0
 
         -- One of three hands has more than 13 cards.
-        pub no_room : (ltb 13 i || (ltb 13 j || ltb 13 k)) ≡ true → Faulty ≡ hands_dealt c s w n e
+        pub no_room : (ltb 13 i || (ltb 13 j || ltb 13 k)) ≡ true → None ≡ hands_dealt c s w n e
         unfolding hands_dealt
         no_room t =
             either (ltb 13 i) (ltb 13 j || ltb 13 k) t
@@ -317,7 +339,7 @@ module _ (c : Conventions) (s w n e : List ℕ) where
 
         -- East holds what the others do not.
         pub east_others : (eqb (length (trimmed e)) 0 && (eqb i 13 && (eqb j 13 && eqb k 13))) ≡ true
-            → Dealt (record { north = d - b; east = 4503599627370495 - d; south = a; west = b - a }) ≡ hands_dealt c s w n e
+            → Some (record { north = d - b; east = 4503599627370495 - d; south = a; west = b - a }) ≡ hands_dealt c s w n e
         unfolding hands_dealt
         east_others t =
             let o = both (eqb (length (trimmed e)) 0) (eqb i 13 && (eqb j 13 && eqb k 13)) t in
@@ -328,7 +350,7 @@ module _ (c : Conventions) (s w n e : List ℕ) where
             let lk : length north ≡ 13 = (read_held b north h).1 ∙ eqb-true k 13 q.1 in
             let held = south ++ (west ++ north) in
             let y : east ≡ unheld held 52 = east_all c e south west north (rw (o.0, li, lj, lk)) in
-            let z : place 0 held ≡ Placed d = two_placed north ∙ (read_held b north h).0 in
+            let z : place 0 held ≡ Some d = two_placed north ∙ (read_held b north h).0 in
             let once = all_dealt held z in
             let pack = every_append in_pack south (west ++ north) (pack_hand c s) (every_append in_pack west north (pack_hand c w) (pack_hand c n)) in
             let sa = place_sum 0 south (read_held 0 south f).0 in
@@ -352,17 +374,23 @@ module _ (c : Conventions) (s w n e : List ℕ) where
           east_own : east ≡ hand_of c e
           east_own = east_named c e south west north (rw ((read_held 0 south f).1, (read_held a west g).1, (read_held b north h).1) t)
 
-          pub no_east : hand_read d (hand_of c e) ≡ Again → Faulty ≡ hands_dealt c s w n e
+          pub no_east : hand_read d (hand_of c e) ≡ None → None ≡ hands_dealt c s w n e
           unfolding hands_dealt
-          no_east u = undealt south west north east (three_placed east ∙ rw east_own (read_again d (hand_of c e) u))
+          no_east u = undealt south west north east (three_placed east ∙ rw east_own (read_none d (hand_of c e) u))
 
-          module _ {x l : ℕ} (u : hand_read d (hand_of c e) ≡ Held x l) where
-            pub no_room_east : 13 < l → Faulty ≡ hands_dealt c s w n e
+          module _ {fe : LinHand} (u : hand_read d (hand_of c e) ≡ Some fe) where
+            abbrev x : ℕ
+            x = fe.cards
+
+            abbrev l : ℕ
+            l = fe.count
+
+            pub no_room_east : 13 < l → None ≡ hands_dealt c s w n e
             unfolding hands_dealt
             no_room_east v = rw east_own (many_east south west north (hand_of c e) (omega (arith, (read_held d (hand_of c e) u).1)))
 
             pub all_four : (ltb 13 i || (ltb 13 j || ltb 13 k)) ≡ false → l ≤ 13
-                → Dealt (record { north = d - b; east = x - d; south = a; west = b - a }) ≡ hands_dealt c s w n e
+                → Some (record { north = d - b; east = x - d; south = a; west = b - a }) ≡ hands_dealt c s w n e
             unfolding hands_dealt
             all_four v m =
                 let p = neither (ltb 13 i) (ltb 13 j || ltb 13 k) v in
@@ -386,7 +414,7 @@ module _ (c : Conventions) (s w n e : List ℕ) where
 -- ---- the md in force
 
 pub told_is : (c : Conventions) (t : LinDealing) (v : List ℕ)
-    → told_in c t v ≡ cond (ltb (dealer_of (first_character v)) 4) (told_by (dealer_of (first_character v)) (fields_dealt c (drop 1 v))) t
+    → told_in c t v ≡ cond (ltb (dealer_of (first_character v)) 4) (record { dealer = dealer_of (first_character v); hands = fields_dealt c (drop 1 v) }) t
 unfolding told_in dealer_of
 told_is c t [] = refl
 told_is c t (b ∷ bs) = refl
@@ -399,24 +427,31 @@ told_in_lem c d (b ∷ bs) = by_cases (ltb (dealer_of (single b bs)) 4) (λ t. r
 -- The walk over the pairs.
 abbrev pub told_from : Conventions → LinDealing → List Pair → LinDealing
 told_from c t [] = t
-told_from c t (p ∷ ps) = told_from c (cond (is_pair md p) (told_in c t (trimmed p.value)) t) ps
+told_from c t (p ∷ ps) = told_from c (cond (is_pair Md p) (told_in c t (trimmed p.value)) t) ps
 
 pub told_step : (c : Conventions) (d : Dealing) (p : Pair)
-    → cond (is_pair md p) (told_in c (told d) (trimmed p.value)) (told d) ≡ told (cond (is_pair md p) (dealing_in c d (trimmed p.value)) d)
-told_step c d p = by_cases (is_pair md p) (λ t. rw t (told_in_lem c d (trimmed p.value))) (λ t. rw t)
+    → cond (is_pair Md p) (told_in c (told d) (trimmed p.value)) (told d) ≡ told (cond (is_pair Md p) (dealing_in c d (trimmed p.value)) d)
+told_step c d p = by_cases (is_pair Md p) (λ t. rw t (told_in_lem c d (trimmed p.value))) (λ t. rw t)
 
 pub told_from_lem : (c : Conventions) (d : Dealing) (ps : List Pair) → told_from c (told d) ps ≡ told (dealing_from c d ps)
 told_from_lem c d [] = refl
-told_from_lem c d (p ∷ ps) = rw (told_step c d p) (told_from_lem c (cond (is_pair md p) (dealing_in c d (trimmed p.value)) d) ps)
+told_from_lem c d (p ∷ ps) = rw (told_step c d p) (told_from_lem c (cond (is_pair Md p) (dealing_in c d (trimmed p.value)) d) ps)
 
-pub told_dealer : (d : Dealing) → (told d).dealer ≡ d.dealer
-told_dealer d = by_cases (is_deal d) (λ t. rw t) (λ t. rw t)
+-- Hands that make a deal, and those that make none.
+pub dealt_some : (d : Dealing) (h : Hands) → dealt_as d ≡ Some h → (is_deal d ≡ true) × (dealt_hands d ≡ h)
+dealt_some d h e = by_cases (is_deal d) (λ t. (t, some_same (rw t at e))) (λ t. clash (sym (none_same (rw t at e))))
+  where
+    some_same : ◌≡◌ {A = Option Hands} (Some (dealt_hands d)) (Some h) → dealt_hands d ≡ h
+    some_same z = cc
 
-pub told_good : (d : Dealing) → (told d).good ≡ is_deal d
-told_good d = by_cases (is_deal d) (λ t. rw t) (λ t. rw t)
+    none_same : ◌≡◌ {A = Option Hands} None (Some h) → ◌≡◌ {A = Bool} true false
+    none_same z = cc
 
-pub told_hands : (d : Dealing) → is_deal d ≡ true → (told d).hands ≡ dealt_hands d
-told_hands d t = rw t
+pub dealt_none : (d : Dealing) → dealt_as d ≡ None → is_deal d ≡ false
+dealt_none d e = by_cases (is_deal d) (λ t. some_none (rw t at e)) (λ t. t)
+  where
+    some_none : ◌≡◌ {A = Option Hands} (Some (dealt_hands d)) None → is_deal d ≡ false
+    some_none z = cc
 
 dealer_in : (c : Conventions) (d : Dealing) (v : List ℕ) → d.dealer ≤ 3 → (dealing_in c d v).dealer ≤ 3
 dealer_in c d [] h = h
@@ -426,11 +461,11 @@ dealer_in c d (b ∷ bs) h =
 pub dealer_from : (c : Conventions) (d : Dealing) (ps : List Pair) → d.dealer ≤ 3 → (dealing_from c d ps).dealer ≤ 3
 dealer_from c d [] h = h
 dealer_from c d (p ∷ ps) h =
-    dealer_from c (cond (is_pair md p) (dealing_in c d (trimmed p.value)) d) ps
-    (by_cases (is_pair md p) (λ t. rw t (dealer_in c d (trimmed p.value) h)) (λ t. rw t h))
+    dealer_from c (cond (is_pair Md p) (dealing_in c d (trimmed p.value)) d) ps
+    (by_cases (is_pair Md p) (λ t. rw t (dealer_in c d (trimmed p.value) h)) (λ t. rw t h))
 
 pub told_dealer_low : (c : Conventions) (ps : List Pair) → (told (dealing_from c no_dealing ps)).dealer ≤ 3
-told_dealer_low c ps = rw (told_dealer (dealing_from c no_dealing ps)) (dealer_from c no_dealing ps (omega arith))
+told_dealer_low c ps = dealer_from c no_dealing ps (omega arith)
 
 -- ---- the hands of a deal
 
@@ -472,8 +507,8 @@ packed_in c d (b ∷ bs) p =
 packed_from : (c : Conventions) (d : Dealing) (ps : List Pair) → Packed d → Packed (dealing_from c d ps)
 packed_from c d [] p = p
 packed_from c d (q ∷ ps) p =
-    packed_from c (cond (is_pair md q) (dealing_in c d (trimmed q.value)) d) ps
-    (by_cases (is_pair md q) (λ t. rw t (packed_in c d (trimmed q.value) p)) (λ t. rw t p))
+    packed_from c (cond (is_pair Md q) (dealing_in c d (trimmed q.value)) d) ps
+    (by_cases (is_pair Md q) (λ t. rw t (packed_in c d (trimmed q.value) p)) (λ t. rw t p))
 
 few_cards : (ks : List ℕ) → distinct ks ≡ true → every in_pack ks ≡ true → is_hand ks ≡ true → card_count (hand_bits ks) ≤ 13
 few_cards ks d f h = rw (count_total ks d f) (leb-true (length ks) 13 h)

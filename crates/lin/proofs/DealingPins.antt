@@ -1,24 +1,24 @@
 -- Worked examples of an md's value, by the built-in letters.
 use Prim.Native.Nat.{ℕ, ◌+◌, ◌-◌, ◌^◌}
 use mathlib.Core.Path.{◌≡◌, refl}
-use mathlib.Core.Bool.{true, false}
 use mathlib.Core.List.{List, [], ◌∷◌, ◌++◌}
+use Rattle.std.specs.Prelude.{Some, None}
 use Rattle.tables.specs.Text.{ascii, is_white, is_inside, trimmed}
 use Rattle.tables.specs.Letters.{built_in, suit_of, rank_of, honour_of, capital}
 use Rattle.reader.specs.Words.{card_number}
 use Rattle.lin.specs.declared.dealing.LinDealing.{LinDealing}
 use Rattle.lin.specs.Dealing.{no_dealing, dealer_of, hand_of, unheld, east_of, dealing_in}
-use Rattle.lin.specs.DealingSteps.{no_hands, told}
+use Rattle.lin.specs.DealingSteps.{told}
 
 unfoldable reading : List ℕ → LinDealing
 unfolding is_white is_inside trimmed built_in suit_of rank_of honour_of capital card_number dealer_of hand_of unheld east_of
 reading v = told (dealing_in built_in no_dealing (trimmed v))
 
 abbrev deal : ℕ → ℕ → ℕ → ℕ → ℕ → LinDealing
-deal d n e s w = record { dealer = d; hands = record { north = n; east = e; south = s; west = w }; good = true }
+deal d n e s w = record { dealer = d; hands = Some (record { north = n; east = e; south = s; west = w }) }
 
 abbrev bad : ℕ → LinDealing
-bad d = record { dealer = d; hands = no_hands; good = false }
+bad d = record { dealer = d; hands = None }
 
 -- South has all spades, West all hearts, North all diamonds.
 abbrev three : List ℕ

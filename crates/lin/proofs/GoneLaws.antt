@@ -7,22 +7,28 @@ use native.Mathlib.Omega.{arith}
 use lib.Dec.{eqb}
 use lib.ListN.{length, length-append}
 use borrow.Author.Tests.{ne_eqb}
+use Rattle.std.specs.Prelude.{Option, Some, None}
 use Rattle.tables.specs.declared.letters.Conventions.{Conventions}
+use Rattle.reader.specs.declared.deal.Hands.{Hands}
 use Rattle.tables.proofs.Laws.{by_cases, clash}
-use Rattle.writer.specs.Puts.{Puts}
+use Rattle.tables.specs.declared.page.Page.{Page}
+use Rattle.tables.specs.Puts.{Puts}
 use Rattle.writer.specs.Pages.{built_in_header}
 use Rattle.writer.specs.Remarks.{lines_text}
-use Rattle.writer.proofs.PutLaws.{puts_then, puts_as, puts_nothing}
+use Rattle.tables.proofs.PutsLaws.{puts_then, puts_as, puts_nothing}
+use Rattle.reader.proofs.WordLaws.{and_false}
 use Rattle.lin.specs.declared.pieces.Progress.{Progress}
 use Rattle.lin.specs.declared.survey.Survey.{Survey}
-use Rattle.lin.specs.Pairs.{Pair, has_pair, md}
+use Rattle.lin.specs.declared.pairs.Command.TheVariants.{Md}
+use Rattle.lin.specs.Pairs.{Pair, has_pair}
 use Rattle.lin.specs.Pieces.{with_deal}
-use Rattle.lin.specs.Dealing.{Dealing, no_dealing, dealing_from, has_card, is_deal}
+use Rattle.lin.specs.Dealing.{Dealing, no_dealing, dealing_from, has_card, is_deal, dealt_hands}
+use Rattle.lin.specs.DealingSteps.{dealt_as}
 use Rattle.lin.specs.SurveySteps.{no_survey, survey_from}
 use Rattle.lin.specs.BoardSteps.{survey_text}
 use Rattle.lin.specs.LinBoards.{LinBoard, board_of, any_card, all_deals, lin_lines, lin_next, lin_page}
-use Rattle.lin.specs.PieceSteps.{no_progress, above_text, any_bits, part_text, Goes, GoesIf, Gone, GoesAll}
-use Rattle.lin.proofs.DealingLaws.{told_in_lem, told_good, told_hands, told_dealer_low, any_card_lem}
+use Rattle.lin.specs.PieceSteps.{no_progress, above_text, any_bits, part_text, BoardPut, Goes, GoesIf, Gone, GoesAll}
+use Rattle.lin.proofs.DealingLaws.{told_in_lem, dealt_some, dealt_none, told_dealer_low, any_card_lem}
 use Rattle.lin.proofs.SurveyLaws.{survey_is, dealer_low, vulnerability_low}
 use Rattle.lin.proofs.BoardTextLaws.{board_text}
 
@@ -36,50 +42,35 @@ module _ (c : Conventions) (ps : List Pair) where
   pub survey_dealer : (survey_from c no_survey ps).deal.dealer ≤ 3
   survey_dealer = rw (survey_is c (told_in_lem c) ps).deal_is (told_dealer_low c ps)
 
-  survey_good : (survey_from c no_survey ps).deal.good ≡ is_deal (board_of c ps).dealing
+  survey_hands : (s : Survey) → s ≡ survey_from c no_survey ps → s.deal.hands ≡ dealt_as (board_of c ps).dealing
   unfolding board_of
-  survey_good = rw (survey_is c (told_in_lem c) ps).deal_is (told_good dealing)
+  survey_hands s e = rw (e, (survey_is c (told_in_lem c) ps).deal_is)
 
-  survey_any : is_deal (board_of c ps).dealing ≡ true → any_bits (survey_from c no_survey ps).deal.hands ≡ has_card (board_of c ps).dealing
+  board_any : any_bits (dealt_hands (board_of c ps).dealing) ≡ has_card (board_of c ps).dealing
   unfolding board_of
-  survey_any e = rw ((survey_is c (told_in_lem c) ps).deal_is, told_hands dealing e) (any_card_lem dealing)
+  board_any = any_card_lem dealing
 
-  survey_text_lem : is_deal (board_of c ps).dealing ≡ true → survey_text c (survey_from c no_survey ps) ps ≡ lines_text (lin_lines c (board_of c ps))
-  survey_text_lem e = sym (board_text c ps (survey_from c no_survey ps) (survey_is c (told_in_lem c) ps) (dealer_low c ps) (vulnerability_low c ps) e)
+  survey_text_lem : survey_text c (survey_from c no_survey ps) (dealt_hands (board_of c ps).dealing) ps ≡ lines_text (lin_lines c (board_of c ps))
+  survey_text_lem = sym (board_text c ps (survey_from c no_survey ps) (survey_is c (told_in_lem c) ps) (dealer_low c ps) (vulnerability_low c ps))
 
-  -- A board that makes a deal is put; one that does not stops; nothing goes on behind such a one.
-  pub goes_good : (page : List ℕ) (g : Progress) (s : Survey) (page₁ page' : List ℕ) (a at : ℕ) (any : Bool) → g.good ≡ true → s ≡ survey_from c no_survey ps → s.deal.good ≡ true
-      → any ≡ any_bits s.deal.hands
-      → Puts page g.at (above_text (eqb g.boards 0)) page₁ a → Puts page₁ a (survey_text c s ps) page' at
-      → Goes c ps page g page' (record { at = at; boards = g.boards + 1; any = g.any || any; good = true })
-  goes_good page g s page₁ page' a at any t e d k above own =
-      let good : is_deal (board_of c ps).dealing ≡ true = sym survey_good ∙ ap (λ (x : Survey). x.deal.good) (sym e) ∙ d in
-      let both = puts_then above (puts_as (ap (λ (x : Survey). survey_text c x ps) e ∙ survey_text_lem good) own) in
+  -- A board that makes a deal is put; one that does not stops.
+  pub goes_good : {p : Page} {g : Progress} {s : Survey} {h : Hands} {p₁ q : Page} {any : Bool} → s ≡ survey_from c no_survey ps → s.deal.hands ≡ Some h
+      → any ≡ any_bits h
+      → Puts p (above_text (eqb g.boards 0)) p₁ → Puts p₁ (survey_text c s h ps) q
+      → Goes c ps p g q (Some (record { boards = g.boards + 1; any = g.any || any }))
+  goes_good {p} {g} {s} {h} {p₁} {q} {any} e d k above own =
+      let deal = dealt_some (board_of c ps).dealing h (sym (survey_hands s e) ∙ d) in
+      let both = puts_then above (puts_as (rw (e, ← deal.1) survey_text_lem) own) in
       record {
-        stays = λ f. clash (sym f ∙ t);
-        goes = λ f. record {
-          good_is = sym good;
-          any_is = λ h. ap (λ (x : Bool). g.any || x) (k ∙ ap (λ (x : Survey). any_bits x.deal.hands) e ∙ survey_any good);
-          boards_are = λ h. refl;
-          puts = λ h. both;
-        };
-        kept = both.kept;
-        one_more = omega arith;
+        some_is = sym deal.0;
+        goes = record { any_is = ap (λ (x : Bool). g.any || x) (k ∙ rw (← deal.1) board_any); boards_are = refl; puts = both };
+        lent = record { kept = both.kept; same = both.same };
       }
 
-  pub goes_bad : (page : List ℕ) (g : Progress) (s : Survey) → g.good ≡ true → s ≡ survey_from c no_survey ps → s.deal.good ≡ false
-      → Goes c ps page g page (record { at = g.at; boards = g.boards; any = g.any; good = false })
-  goes_bad page g s t e d =
-      let bad : is_deal (board_of c ps).dealing ≡ false = sym survey_good ∙ ap (λ (x : Survey). x.deal.good) (sym e) ∙ d in
-      record {
-        stays = λ f. refl;
-        goes = λ f. record { good_is = sym bad; any_is = λ h. clash h; boards_are = λ h. clash h; puts = λ h. clash h };
-        kept = refl;
-        one_more = omega arith;
-      }
-
-  pub goes_none : (page : List ℕ) (g : Progress) → g.good ≡ false → Goes c ps page g page g
-  goes_none page g t = record { stays = λ f. t; goes = λ f. clash (sym t ∙ f); kept = refl; one_more = omega arith }
+  pub goes_bad : {p : Page} {g : Progress} {s : Survey} → s ≡ survey_from c no_survey ps → s.deal.hands ≡ None → Goes c ps p g p None
+  goes_bad {p} {g} {s} e d =
+      let bad = dealt_none (board_of c ps).dealing (sym (survey_hands s e) ∙ d) in
+      record { some_is = sym bad; goes = tt; lent = record { kept = refl; same = refl } }
 
 -- ---- boards in a row
 
@@ -124,80 +115,92 @@ page_more c (x ∷ bs) b =
     rw (y, z, next_more c bs b)
     (append_assoc (built_in_header ++ lines_text (lin_lines c x)) (lin_next c bs) (10 ∷ lines_text (lin_lines c b)))
 
-pub gone_none : (c : Conventions) (page : List ℕ) → Gone c [] page page no_progress
-gone_none c page = record { good_is = refl; any_is = λ h. refl; boards_are = λ h. refl; puts = λ h. puts_nothing page 0; kept = refl }
+all_not : (bs ds : List LinBoard) (b : LinBoard) → is_deal b.dealing ≡ false → all_deals (bs ++ b ∷ ds) ≡ false
+all_not [] ds b e = rw e
+all_not (x ∷ bs) ds b e = rw (all_not bs ds b e) (and_false (is_deal x.dealing))
 
--- Two tests that both hold.
-both_true : (p q : Bool) → (p && q) ≡ true → (p ≡ true) × (q ≡ true)
-both_true true q e = (refl, e)
-both_true false q e = clash e
+pub gone_none : (c : Conventions) (p : Page) → Gone c [] p p no_progress
+gone_none c p = record { deals = refl; any_is = refl; boards_are = refl; puts = puts_nothing p }
 
-gone_on : (c : Conventions) (bs : List LinBoard) (ps : List Pair) (page₀ page page' : List ℕ) (g r : Progress) → g.good ≡ true → Gone c bs page₀ page g → Goes c ps page g page' r
-    → Gone c (bs ++ board_of c ps ∷ []) page₀ page' r
-gone_on c bs ps page₀ page page' g r t n m =
-    let p = m.goes t in
-    let b = board_of c ps in
-    let count = n.boards_are t in
+gone_more : {c : Conventions} {bs : List LinBoard} {b : LinBoard} {p₀ p q : Page} {g r : Progress} → Gone c bs p₀ p g → BoardPut c b p g q r → is_deal b.dealing ≡ true
+    → Gone c (bs ++ b ∷ []) p₀ q r
+gone_more {c} {bs} {b} n m t =
+    let count = n.boards_are in
     record {
-      good_is = p.good_is ∙ rw (all_more bs b, ← n.good_is, t);
-      any_is = λ h. p.any_is h ∙ rw (any_more bs b, n.any_is t);
-      boards_are = λ h. p.boards_are h ∙ rw (count, length-append bs (b ∷ []));
-      puts = λ h. puts_as (rw count (page_more c bs b)) (puts_then (n.puts t) (p.puts h));
-      kept = m.kept ∙ n.kept;
+      deals = rw (all_more bs b, n.deals, t);
+      any_is = m.any_is ∙ rw (any_more bs b, n.any_is);
+      boards_are = m.boards_are ∙ rw (count, length-append bs (b ∷ []));
+      puts = puts_as (rw count (page_more c bs b)) (puts_then n.puts m.puts);
     }
-
-gone_off : (c : Conventions) (bs : List LinBoard) (ps : List Pair) (page₀ page page' : List ℕ) (g r : Progress) → g.good ≡ false → Gone c bs page₀ page g → Goes c ps page g page' r
-    → Gone c (bs ++ board_of c ps ∷ []) page₀ page' r
-gone_off c bs ps page₀ page page' g r t n m =
-    let b = board_of c ps in
-    let bad = m.stays t in
-    record {
-      good_is = bad ∙ rw (all_more bs b, ← n.good_is, t);
-      any_is = λ h. clash (sym bad ∙ h);
-      boards_are = λ h. clash (sym bad ∙ h);
-      puts = λ h. clash (sym bad ∙ h);
-      kept = m.kept ∙ n.kept;
-    }
-
-gone_more : (c : Conventions) (bs : List LinBoard) (ps : List Pair) (page₀ page page' : List ℕ) (g r : Progress) → Gone c bs page₀ page g → Goes c ps page g page' r
-    → Gone c (bs ++ board_of c ps ∷ []) page₀ page' r
-gone_more c bs ps page₀ page page' g r n m =
-    by_cases g.good (λ t. gone_on c bs ps page₀ page page' g r t n m) (λ t. gone_off c bs ps page₀ page page' g r t n m)
 
 -- ---- pieces that are left
 
--- Of all pieces some were put, and the rest is left.
-pub record Going (c : Conventions) (pieces rest : List (List Pair)) (page₀ page : List ℕ) (g : Progress) : Type 0 where
+-- Of all pieces some were put, which make deals, and the rest is left.
+pub record Going (c : Conventions) (pieces rest : List (List Pair)) (p₀ p : Page) (g : Progress) : Type 0 where
   pub done : List (List Pair)
   pub pieces_are : pieces ≡ done ++ rest
-  pub gone : Gone c (map (board_of c) done) page₀ page g
+  pub gone : Gone c (map (board_of c) done) p₀ p g
 
-pub going_first : (c : Conventions) (pieces : List (List Pair)) (page : List ℕ) (g : Progress) → g ≡ no_progress → Going c pieces pieces page page g
-going_first c pieces page g e = rw e (record { done = []; pieces_are = refl; gone = gone_none c page })
+pub going_first : (c : Conventions) (pieces : List (List Pair)) (p : Page) (g : Progress) → g ≡ no_progress → Going c pieces pieces p p g
+going_first c pieces p g e = rw e (record { done = []; pieces_are = refl; gone = gone_none c p })
 
-pub going_same : {c : Conventions} {pieces rest rest' : List (List Pair)} {page₀ page : List ℕ} {g : Progress} → rest ≡ rest' → Going c pieces rest page₀ page g → Going c pieces rest' page₀ page g
+pub going_same : {c : Conventions} {pieces rest rest' : List (List Pair)} {p₀ p : Page} {g : Progress} → rest ≡ rest' → Going c pieces rest p₀ p g → Going c pieces rest' p₀ p g
 going_same e n = rw (← e) n
 
-pub going_next : {c : Conventions} {pieces : List (List Pair)} {x : List Pair} {rest : List (List Pair)} {page₀ page page' : List ℕ} {g r : Progress} → Going c pieces (x ∷ rest) page₀ page g
-    → Goes c x page g page' r → Going c pieces rest page₀ page' r
-going_next {c} {pieces} {x} {rest} {page₀} {page} {page'} {g} {r} n m =
-    record {
-      done = n.done ++ x ∷ [];
-      pieces_are = n.pieces_are ∙ sym (append_assoc n.done (x ∷ []) rest);
-      gone = rw (map-append (board_of c) n.done (x ∷ [])) (gone_more c (map (board_of c) n.done) x page₀ page page' g r n.gone m);
-    }
+module _ {c : Conventions} {pieces : List (List Pair)} {x : List Pair} {rest : List (List Pair)} {p₀ p q : Page} {g : Progress} (n : Going c pieces (x ∷ rest) p₀ p g) where
+  pub going_next : {r : Progress} → Goes c x p g q (Some r) → Going c pieces rest p₀ q r
+  going_next {r} m =
+      record {
+        done = n.done ++ x ∷ [];
+        pieces_are = n.pieces_are ∙ sym (append_assoc n.done (x ∷ []) rest);
+        gone = rw (map-append (board_of c) n.done (x ∷ [])) (gone_more n.gone m.goes (sym m.some_is));
+      }
+
+  -- A board that makes no deal.
+  pub going_off : Goes c x p g q None → GoesAll c pieces p₀ q None
+  going_off m =
+      record {
+        some_is = sym (rw (n.pieces_are, map-append (board_of c) n.done (x ∷ rest)) (all_not (map (board_of c) n.done) (map (board_of c) rest) (board_of c x) (sym m.some_is)));
+        gone = tt;
+        lent = record { kept = m.lent.kept ∙ n.gone.puts.kept; same = m.lent.same ∙ n.gone.puts.same };
+      }
+
+pub going_end : {c : Conventions} {pieces : List (List Pair)} {p₀ p : Page} {g : Progress} → Going c pieces [] p₀ p g → GoesAll c pieces p₀ p (Some g)
+going_end {c} {pieces} n =
+    let e : pieces ≡ n.done = n.pieces_are ∙ append-nil n.done in
+    rw e (record { some_is = sym n.gone.deals; gone = n.gone; lent = record { kept = n.gone.puts.kept; same = n.gone.puts.same } })
 
 -- A piece that counts only with an md.
-pub going_if : {c : Conventions} {pieces : List (List Pair)} (x : List Pair) (rest : List (List Pair)) {page₀ page page' : List ℕ} {g r : Progress} → Going c pieces (with_deal (x ∷ rest)) page₀ page g
-    → GoesIf c x page g page' r → Going c pieces (with_deal rest) page₀ page' r
-going_if {c} {pieces} x rest {page₀} {page} {page'} {g} {r} n m =
-    by_cases (has_pair md x)
-    (λ t. going_next (going_same (rw t) n) (m.takes t))
-    (λ t. let s = m.skips t in rw (s.0, s.1) (going_same (rw t) n))
+module _ {c : Conventions} {pieces : List (List Pair)} (x : List Pair) (rest : List (List Pair)) {p₀ p q : Page} {g : Progress} (n : Going c pieces (with_deal (x ∷ rest)) p₀ p g) where
+  pub going_if : {r : Progress} → GoesIf c x p g q (Some r) → Going c pieces (with_deal rest) p₀ q r
+  going_if {r} m =
+      by_cases (has_pair Md x)
+      (λ t. going_next (going_same (rw t) n) (m.takes t))
+      (λ t. let s = m.skips t in let k : r ≡ g = some_one r g s.1 in rw (s.0, k) (going_same (rw t) n))
+    where
+      some_one : (r g : Progress) → ◌≡◌ {A = Option Progress} (Some r) (Some g) → r ≡ g
+      some_one r g e = cc
 
-pub if_more : {c : Conventions} {x : List Pair} {page page' : List ℕ} {g r : Progress} → GoesIf c x page g page' r → r.boards ≤ g.boards + 1
-if_more {c} {x} {page} {page'} {g} {r} m =
-    by_cases (has_pair md x) (λ t. (m.takes t).one_more) (λ t. rw (m.skips t).1 (omega arith))
+  pub going_off_if : GoesIf c x p g q None → GoesAll c pieces p₀ q None
+  going_off_if m =
+      by_cases (has_pair Md x)
+      (λ t. going_off {rest = with_deal rest} (going_same (rw t) n) (m.takes t))
+      (λ t. clash (none_some g (m.skips t).1))
+    where
+      none_some : (g : Progress) → ◌≡◌ {A = Option Progress} None (Some g) → ◌≡◌ {A = Bool} false true
+      none_some g e = cc
 
-pub going_end : {c : Conventions} {pieces : List (List Pair)} {page₀ page : List ℕ} {g : Progress} → Going c pieces [] page₀ page g → GoesAll c pieces page₀ page g
-going_end {c} {pieces} n = rw (n.pieces_are, append-nil n.done) n.gone
+-- The last piece.
+pub going_last : {c : Conventions} {pieces : List (List Pair)} (x : List Pair) {p₀ p q : Page} {g : Progress} (r : Option Progress) → Going c pieces (with_deal (x ∷ [])) p₀ p g → GoesIf c x p g q r → GoesAll c pieces p₀ q r
+going_last x (Some r) n m = going_end (going_if x [] n m)
+going_last x None n m = going_off_if x [] n m
+
+pub goes_more : {c : Conventions} {x : List Pair} {p q : Page} {g r : Progress} → Goes c x p g q (Some r) → r.boards ≤ g.boards + 1
+goes_more m = omega (arith, m.goes.boards_are)
+
+pub if_more : {c : Conventions} {x : List Pair} {p q : Page} {g r : Progress} → GoesIf c x p g q (Some r) → r.boards ≤ g.boards + 1
+if_more {c} {x} {p} {q} {g} {r} m =
+    by_cases (has_pair Md x) (λ t. goes_more (m.takes t)) (λ t. rw (some_one r g (m.skips t).1) (omega arith))
+  where
+    some_one : (r g : Progress) → ◌≡◌ {A = Option Progress} (Some r) (Some g) → r ≡ g
+    some_one r g e = cc

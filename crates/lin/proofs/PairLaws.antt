@@ -1,13 +1,14 @@
 -- Laws of commands and pairs.
 use Prim.Native.Nat.{ℕ, suc, ◌+◌, ◌-◌, ◌≤◌, ◌<◌}
 use mathlib.Core.Path.{◌≡◌, refl, sym, ap, ◌∙◌}
-use mathlib.Core.Bool.{Bool, true, false, ◌&&◌}
+use mathlib.Core.Bool.{Bool, true, false, cond, ◌&&◌}
 use mathlib.Core.List.{List, [], ◌∷◌, ◌++◌, append_assoc}
 use native.Mathlib.Omega.{arith}
 use lib.Dec.{eqb, ltb}
+use denote.Enum.Bare.{sameb, same_true, same_false}
 use lib.ListN.{length, take, drop, get_or, length-drop, length-append}
 use lib.Seq.{drop-drop, take_all, drop-append_seam, take-append_seam}
-use borrow.Author.Tests.{ltb-true, ltb-false, eqb-true, eq-eqb}
+use borrow.Author.Tests.{ltb-true, ltb-false, eqb-true, eq-eqb, ne_eqb}
 use Rattle.tables.specs.Text.{ascii, differs, before, prepend, trimmed}
 use Rattle.tables.specs.Letters.{capital}
 use Rattle.tables.proofs.Laws.{by_cases, stop}
@@ -15,10 +16,41 @@ use Rattle.tables.proofs.TextLaws.{front_few, take_front}
 use Rattle.reader.specs.Words.{same_word}
 use Rattle.reader.proofs.WordLaws.{word_long}
 use Rattle.lin.specs.declared.pairs.PairAt.{PairAt}
-use Rattle.lin.specs.Pairs.{parts, command_named, command_of, Pair, paired, pairs_of}
-use Rattle.lin.specs.PairSteps.{two_same, command_two, between, Sealed, IsNext}
+use Rattle.lin.specs.declared.pairs.Pairs.{Pairs}
+use Rattle.lin.specs.declared.pairs.Command.{Command}
+use Rattle.lin.specs.contracts.pairs.Command.{the_type}
+use Rattle.lin.specs.declared.pairs.Command.TheVariants.{Qx, Heading, Md, Sv, Mb, Pc, Other}
+use Rattle.lin.specs.Pairs.{parts, place_of, command_named, command_of, Pair, paired, pairs_of}
+use Rattle.lin.specs.PairSteps.{two_same, command_two, Sealed, IsNext}
 
 -- ---- commands
+
+-- A command is told by its place.
+placed : ℕ → Command
+placed k = cond (eqb k 1) Qx (cond (eqb k 2) Heading (cond (eqb k 3) Md (cond (eqb k 4) Sv (cond (eqb k 5) Mb (cond (eqb k 6) Pc Other)))))
+
+placed_place : (k : Command) → placed (place_of k) ≡ k
+unfolding placed
+placed_place Qx = refl
+placed_place Heading = refl
+placed_place Md = refl
+placed_place Sv = refl
+placed_place Mb = refl
+placed_place Pc = refl
+placed_place Other = refl
+
+pub same_command : (k m : Command) → eqb (place_of k) (place_of m) ≡ true → k ≡ m
+same_command k m e = sym (placed_place k) ∙ ap placed (eqb-true _ _ e) ∙ placed_place m
+
+pub other_command : (k m : Command) → (k ≡ m → ⊥) → eqb (place_of k) (place_of m) ≡ false
+other_command k m f = ne_eqb _ _ (λ e. f (sym (placed_place k) ∙ ap placed e ∙ placed_place m))
+
+-- What `==` tells of two commands.
+pub same_place : (k m : Command) → sameb the_type k m ≡ eqb (place_of k) (place_of m)
+same_place k m =
+    by_cases (sameb the_type k m)
+    (λ e. rw (e, same_true the_type tt k m e, eq-eqb (place_of m) (place_of m) refl))
+    (λ e. rw (e, other_command k m (same_false the_type k m e)))
 
 and_true : (p : Bool) → (p && true) ≡ p
 and_true true = refl
@@ -43,7 +75,7 @@ pub command_two_lem : (s : List ℕ) → length (trimmed s) ≡ 2 → command_of
 unfolding command_of
 command_two_lem s e = ap command_named (two_bytes (trimmed s) e) ∙ named_two (get_or (trimmed s) 0 0) (get_or (trimmed s) 1 0)
 
-pub command_none : (s : List ℕ) → (length (trimmed s) ≡ 2 → ⊥) → command_of s ≡ 0
+pub command_none : (s : List ℕ) → (length (trimmed s) ≡ 2 → ⊥) → command_of s ≡ Other
 unfolding command_of
 command_none s e =
     let t = trimmed s in
@@ -230,38 +262,36 @@ first_text s t n h e k =
     (λ l. first_cut s t n h e (ltb-true (length (before 124 t)) (length t) l) k)
     (λ l. first_whole s t n h e (ltb-false (length (before 124 t)) (length t) l) k)
 
-pub next_is : (text : List ℕ) (at : ℕ) (p : PairAt)
-    → (let rest = drop at text in let bar = length (before 124 rest) in
+pub next_is : (s : Pairs) (p : PairAt) (t : Pairs)
+    → (let text = s.text.now in let rest = drop s.at text in let bar = length (before 124 rest) in let back = drop (bar + 1) rest in
     bar < length rest
     → p.command ≡ command_of (take bar rest)
-    → p.command ≤ 6
-    → p.start ≡ at + bar + 1
-    → p.end ≡ p.start + length (before 124 (drop (bar + 1) rest))
-    → IsNext text at p)
-next_is text at p h k low a e =
+    → p.value.now ≡ before 124 back
+    → p.end ≡ s.at + bar + 1 + length (before 124 back) + 1
+    → t.text ≡ s.text
+    → t.at ≡ p.end
+    → IsNext s p t)
+next_is s p t h k v e same place =
+    let text = s.text.now in
+    let at = s.at in
     let rest = drop at text in
     let bar = length (before 124 rest) in
     let back = drop (bar + 1) rest in
     let n = length (before 124 back) in
     let few = front_few (differs 124) back in
-    let there : drop p.start text ≡ back = ap (λ (i : ℕ). drop i text) (a ∙ sum at bar) ∙ sym (drop-drop (bar + 1) at text) in
-    let next : drop (p.end + 1) text ≡ drop (n + 1) back = ap (λ (i : ℕ). drop i text) (ap (λ (i : ℕ). i + 1) e ∙ sum p.start n) ∙ sym (drop-drop (n + 1) p.start text) ∙ ap (drop (n + 1)) there in
-    let size : p.end - p.start ≡ n = omega (arith, e) in
-    let value : between text p.start p.end ≡ before 124 back = ap (λ (i : ℕ). take i (drop p.start text)) size ∙ ap (take n) there ∙ take_front (differs 124) back in
+    let far : at + (bar + 1 + (n + 1)) ≡ p.end = omega (arith, e) in
+    let next : drop p.end text ≡ drop (n + 1) back = sym (drop-drop (n + 1) (bar + 1) rest ∙ drop-drop (bar + 1 + (n + 1)) at text ∙ ap (λ (i : ℕ). drop i text) far) in
     let name : p.command ≡ command_of (before 124 rest) = k ∙ ap command_of (take_front (differs 124) rest) in
     let whole = length-drop at text in
     let most = length-drop (bar + 1) rest in
-    let wide : p.end + 1 - at ≡ bar + 1 + n + 1 = omega (arith, a, e) in
-    let first = first_text rest back (p.end + 1 - at) h refl wide in
+    let wide : p.end - at ≡ bar + 1 + n + 1 = omega (arith, e) in
+    let first = first_text rest back (p.end - at) h refl wide in
     record {
-      pairs_are = rw (value, next, name) (pairs_some rest h);
-      alone = rw (value, name) first.alone;
-      sealed = λ l. first.sealed (omega (arith, a, e, l, h, whole, most));
-      behind = omega (arith, a);
-      ordered = omega (arith, e);
-      inside = omega (arith, a, e, few, h, whole, most);
-      command_low = low;
+      pairs_are = rw (v, place, same, next, name) (pairs_some rest h);
+      alone = rw (v, name) first.alone;
+      sealed = λ l. first.sealed (omega (arith, e, l, h, whole, most));
+      same_text = same;
+      place = place;
+      behind = omega (arith, e);
+      inside = omega (arith, e, few, h, whole, most);
     }
-  where
-    sum : (a b : ℕ) → a + b + 1 ≡ a + (b + 1)
-    sum a b = omega arith

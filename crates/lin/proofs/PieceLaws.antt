@@ -2,11 +2,12 @@
 use mathlib.Core.Path.{◌≡◌, refl, ◌∙◌, ap}
 use mathlib.Core.Bool.{Bool, true, false, cond, ◌&&◌, not}
 use mathlib.Core.List.{List, [], ◌∷◌, ◌++◌, append_assoc, append-nil}
-use borrow.Author.Tests.{eqb-true}
 use Rattle.tables.proofs.Laws.{by_cases, clash}
-use Rattle.lin.specs.Pairs.{Pair, is_pair, qx, heading}
+use Rattle.lin.specs.declared.pairs.Command.TheVariants.{Qx, Heading}
+use Rattle.lin.specs.Pairs.{Pair, is_pair}
 use Rattle.lin.specs.Pieces.{opens, pair_before, split, with_deal}
-use Rattle.lin.specs.PieceSteps.{is_some, split_from}
+use Rattle.lin.specs.PieceSteps.{has_pairs, split_from}
+use Rattle.lin.proofs.PairLaws.{same_command}
 
 -- Pairs put before the first piece, or as the only one.
 abbrev join_all : List Pair → List (List Pair) → List (List Pair)
@@ -19,7 +20,7 @@ join_before xs p (g ∷ gs) = rw (append_assoc xs (p ∷ []) g)
 
 join_none : (ps : List Pair) → opens ps ≡ true → join_all [] (split ps) ≡ split ps
 join_none [] e = clash e
-join_none (p ∷ ps) e = some_piece (opens ps && not (is_pair heading p)) (split ps)
+join_none (p ∷ ps) e = some_piece (opens ps && not (is_pair Heading p)) (split ps)
   where
     some_before : (gs : List (List Pair)) → join_all [] (pair_before p gs) ≡ pair_before p gs
     some_before [] = refl
@@ -38,25 +39,25 @@ run_ends xs p ps =
     (λ e. rw (e, join_none ps e))
     (λ e. rw (e, append-nil (xs ++ p ∷ []), join_before xs p (split ps)))
 
-some_last : (xs : List Pair) (p : Pair) → is_some (xs ++ p ∷ []) ≡ true
+some_last : (xs : List Pair) (p : Pair) → has_pairs (xs ++ p ∷ []) ≡ true
 some_last [] p = refl
 some_last (x ∷ xs) p = refl
 
-some_more : (xs ys : List Pair) → is_some xs ≡ true → is_some (xs ++ ys) ≡ true
+some_more : (xs ys : List Pair) → has_pairs xs ≡ true → has_pairs (xs ++ ys) ≡ true
 some_more [] ys e = clash e
 some_more (x ∷ xs) ys e = refl
 
 -- Behind pairs of a piece, and behind none.
-split_behind : (own run ps : List Pair) → is_some own ≡ true
+split_behind : (own run ps : List Pair) → has_pairs own ≡ true
     → split_from own run ps ≡ cond (opens ps) (own ∷ join_all run (split ps)) (join_all (own ++ run) (split ps))
 split_behind own run [] s = refl
 split_behind own run (p ∷ ps) s =
-    by_cases (is_pair heading p)
+    by_cases (is_pair Heading p)
     (λ t.
-    let q : is_pair qx p ≡ false = rw (eqb-true p.command heading t) in
+    let q : is_pair Qx p ≡ false = rw (same_command p.command Heading t) in
     rw (t, q) (titled (opens ps) (split_behind own (run ++ p ∷ []) ps s)))
     (λ t.
-    by_cases (is_pair qx p)
+    by_cases (is_pair Qx p)
     (λ q. rw (t, q, s) (ap (λ (gs : List (List Pair)). own ∷ gs) (split_behind (run ++ p ∷ []) [] ps (some_last run p) ∙ run_ends run p ps)))
     (λ q.
     rw (t, q)
@@ -71,9 +72,9 @@ split_behind own run (p ∷ ps) s =
 split_first : (run ps : List Pair) → split_from [] run ps ≡ join_all run (split ps)
 split_first run [] = refl
 split_first run (p ∷ ps) =
-    by_cases (is_pair heading p)
+    by_cases (is_pair Heading p)
     (λ t. rw t (split_first (run ++ p ∷ []) ps ∙ titled (opens ps)))
-    (λ t. rw (t, no_piece_lem (is_pair qx p)) (split_behind (run ++ p ∷ []) [] ps (some_last run p) ∙ run_ends run p ps))
+    (λ t. rw (t, no_piece_lem (is_pair Qx p)) (split_behind (run ++ p ∷ []) [] ps (some_last run p) ∙ run_ends run p ps))
   where
     titled : (b : Bool) → join_all (run ++ p ∷ []) (split ps) ≡ join_all run (cond (b && false) ((p ∷ []) ∷ split ps) (pair_before p (split ps)))
     titled true = join_before run p (split ps)

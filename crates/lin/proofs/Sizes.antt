@@ -23,7 +23,8 @@ use Rattle.writer.specs.Pages.{built_in_header}
 use Rattle.writer.specs.Items.{before_call, tokens_text}
 use Rattle.writer.proofs.TagSizes.{token_few, seat_few, vulnerability_few}
 use Rattle.lin.specs.declared.playing.LinTrick.{LinTrick}
-use Rattle.lin.specs.Pairs.{parts, command_named, command_of, Pair, paired, pairs_of, is_pair, has_pair, qx, heading, md, mb, pc}
+use Rattle.lin.specs.declared.pairs.Command.TheVariants.{Qx, Heading, Md, Mb, Pc, Other}
+use Rattle.lin.specs.Pairs.{parts, place_of, command_named, command_of, Pair, paired, pairs_of, is_pair, has_pair}
 use Rattle.lin.specs.Pieces.{opens, pair_before, split, with_deal, line_pieces, board_pieces}
 use Rattle.lin.specs.Dealing.{no_dealing, dealt_hands}
 use Rattle.lin.specs.declared.bidding.Contract.{Contract}
@@ -34,6 +35,7 @@ use Rattle.lin.specs.PlayingSteps.{word_text, trick_text, empty_trick, taken, ne
 use Rattle.lin.specs.BoardSteps.{lin_head_text, lin_result_text, call_tokens, lin_auction_text, played_text}
 use Rattle.lin.specs.LinBoards.{LinBoard, board_of, lin_boards, contract_of, declarer_in, opening_leader, trump_of, lin_lines, lin_next, lin_page, lin_text}
 use Rattle.lin.proofs.BoardTextLaws.{is_any, lines_text_lem}
+use Rattle.lin.proofs.PairLaws.{same_command}
 use Rattle.lin.proofs.SurveyLaws.{dealer_low, vulnerability_low}
 
 -- ---- the contract
@@ -82,8 +84,8 @@ AllLow (k ∷ ks) = (k < 47) × AllLow ks
 calls_low : (c : Conventions) (ps : List Pair) → AllLow (calls_from c ps)
 calls_low c [] = tt
 calls_low c (p ∷ ps) =
-    chosen AllLow (is_pair mb p && ltb (call_in c p.value) 47) _ _
-    (λ e. (ltb-true _ _ (both (is_pair mb p) (ltb (call_in c p.value) 47) e).1, calls_low c ps))
+    chosen AllLow (is_pair Mb p && ltb (call_in c p.value) 47) _ _
+    (λ e. (ltb-true _ _ (both (is_pair Mb p) (ltb (call_in c p.value) 47) e).1, calls_low c ps))
     (λ e. calls_low c ps)
 
 before_few : (n : ℕ) → length (before_call n) ≤ 1
@@ -174,12 +176,12 @@ sections_few : (c : Conventions) (ps : List Pair) → length (calls_from c ps) +
 sections_few c [] = omega arith
 sections_few c (p ∷ ps) =
     let r = sections_few c ps in
-    by_cases (is_pair mb p)
+    by_cases (is_pair Mb p)
     (λ e.
-    let f : is_pair pc p ≡ false = rw (eqb-true p.command mb e) in
+    let f : is_pair Pc p ≡ false = rw (same_command p.command Mb e) in
     by_cases (ltb (call_in c p.value) 47) (λ t. rw (e, f, t) (omega arith)) (λ t. rw (e, f, t) (omega arith)))
     (λ e.
-    by_cases (is_pair pc p && ltb (card_in c (trimmed p.value)) 52) (λ t. rw (e, t) (omega arith)) (λ t. rw (e, t) (omega arith)))
+    by_cases (is_pair Pc p && ltb (card_in c (trimmed p.value)) 52) (λ t. rw (e, t) (omega arith)) (λ t. rw (e, t) (omega arith)))
 
 -- A board's lines, and one byte more, by its pairs.
 board_few : (c : Conventions) (ps : List Pair) → 1 + length (lines_text (lin_lines c (board_of c ps))) ≤ 450 + 12 * length ps
@@ -204,12 +206,12 @@ trimmed_few : (s : List ℕ) → length (trimmed s) ≤ length s
 trimmed_few s = omega (arith, trim_length s)
 
 -- A command that counts has two bytes.
-command_short : (t : List ℕ) → length t < 2 → command_named t ≡ 0
+command_short : (t : List ℕ) → length t < 2 → command_named t ≡ Other
 command_short [] h = refl
 command_short (b ∷ []) h = simp and-false
 command_short (b ∷ d ∷ bs) h = absurd (omega arith)
 
-command_long : (s : List ℕ) → eqb (command_of s) md ≡ true → 2 ≤ length s
+command_long : (s : List ℕ) → eqb (place_of (command_of s)) 3 ≡ true → 2 ≤ length s
 unfolding command_of
 command_long s e =
     by_cases (ltb (length (trimmed s)) 2)
@@ -218,23 +220,23 @@ command_long s e =
 
 -- How many bytes pairs have at least: their commands and the bars behind these. Only md is told apart.
 abbrev pair_weight : Pair → ℕ
-pair_weight p = cond (is_pair md p) 3 1
+pair_weight p = cond (is_pair Md p) 3 1
 
 abbrev weight_of : List Pair → ℕ
 weight_of [] = 0
 weight_of (p ∷ ps) = pair_weight p + weight_of ps
 
 weight_some : (p : Pair) → 1 ≤ pair_weight p
-weight_some p = chosen (λ (n : ℕ). 1 ≤ n) (is_pair md p) 3 1 (λ e. omega arith) (λ e. omega arith)
+weight_some p = chosen (λ (n : ℕ). 1 ≤ n) (is_pair Md p) 3 1 (λ e. omega arith) (λ e. omega arith)
 
 weight_long : (ps : List Pair) → length ps ≤ weight_of ps
 weight_long [] = omega arith
 weight_long (p ∷ ps) = omega (arith, weight_some p, weight_long ps)
 
-weight_deal : (ps : List Pair) → has_pair md ps ≡ true → 3 ≤ weight_of ps
+weight_deal : (ps : List Pair) → has_pair Md ps ≡ true → 3 ≤ weight_of ps
 weight_deal [] e = clash e
 weight_deal (p ∷ ps) e =
-    either (is_pair md p) (has_pair md ps) e (λ t. rw t (omega arith)) (λ t. omega (arith, weight_deal ps t))
+    either (is_pair Md p) (has_pair Md ps) e (λ t. rw t (omega arith)) (λ t. omega (arith, weight_deal ps t))
 
 -- Parts, each with its bar.
 abbrev parts_size : List (List ℕ) → ℕ
@@ -256,7 +258,7 @@ paired_few [] = omega arith
 paired_few (g ∷ []) = omega arith
 paired_few (g ∷ v ∷ gs) =
     let w : pair_weight (record { command = command_of g; value = v }) ≤ length g + 1 =
-    chosen (λ (n : ℕ). n ≤ length g + 1) (eqb (command_of g) md) 3 1 (λ e. omega (arith, command_long g e)) (λ e. omega arith) in
+    chosen (λ (n : ℕ). n ≤ length g + 1) (eqb (place_of (command_of g)) 3) 3 1 (λ e. omega (arith, command_long g e)) (λ e. omega arith) in
     omega (arith, w, paired_few gs)
 
 pairs_few : (s : List ℕ) → weight_of (pairs_of s) ≤ length s
@@ -277,7 +279,7 @@ split_weight : (ps : List Pair) → pieces_weight (split ps) ≡ weight_of ps
 split_weight [] = refl
 split_weight (p ∷ ps) =
     let r = split_weight ps in
-    chosen (λ (gs : List (List Pair)). pieces_weight gs ≡ pair_weight p + weight_of ps) (opens ps && not (is_pair heading p)) ((p ∷ []) ∷ split ps) (pair_before p (split ps))
+    chosen (λ (gs : List (List Pair)). pieces_weight gs ≡ pair_weight p + weight_of ps) (opens ps && not (is_pair Heading p)) ((p ∷ []) ∷ split ps) (pair_before p (split ps))
     (λ e. omega arith) (λ e. omega (arith, before_weight p (split ps)))
 
 -- The lines of boards, an empty line before each.
@@ -293,7 +295,7 @@ deals_most : (c : Conventions) (gs : List (List Pair)) → length (next_text c (
 deals_most c [] = omega arith
 deals_most c (g ∷ gs) =
     let r = deals_most c gs in
-    by_cases (has_pair md g)
+    by_cases (has_pair Md g)
     (λ e. rw e (omega (arith, next_size c g (with_deal gs), board_few c g, weight_long g, weight_deal g e)))
     (λ e. rw e (omega arith))
 
@@ -355,7 +357,7 @@ pub LinMost : (c : Conventions) (text : List ℕ) → length (lin_text c text) �
 unfolding lin_text lin_boards board_pieces
 LinMost c text =
     let P : List (List Pair) → Type 0 = λ gs. length (lin_page c (map (board_of c) gs)) ≤ 20 + 256 * length text in
-    chosen P (has_pair qx (pairs_of text)) (with_deal (split (pairs_of text))) (line_pieces (lines text))
+    chosen P (has_pair Qx (pairs_of text)) (with_deal (split (pairs_of text))) (line_pieces (lines text))
     (λ e.
     omega (
       arith,

@@ -1,48 +1,29 @@
 -- Laws of the pieces of a text: its lines, and its parts between the places where boards start.
 use Prim.Native.Nat.{ℕ, ◌+◌, ◌-◌, ◌≤◌, ◌<◌}
 use mathlib.Core.Path.{◌≡◌, refl, sym, ap, ◌∙◌}
-use mathlib.Core.Bool.{Bool, true, false, cond, ◌&&◌}
+use mathlib.Core.Bool.{Bool, true, false, ◌&&◌}
 use mathlib.Core.List.{List, [], ◌∷◌, ◌++◌, append_assoc, append-nil}
 use native.Mathlib.Omega.{arith}
 use lib.Dec.{eqb}
-use lib.ListN.{length, take, drop, length-drop}
+use lib.ListN.{length, take, drop}
 use lib.Seq.{drop-drop, take-add}
-use borrow.Author.Tests.{eq-eqb, ne_eqb, eqb-true}
-use Rattle.tables.specs.Text.{before, trimmed, lines}
-use Rattle.tables.proofs.Laws.{stop}
-use Rattle.tables.proofs.TextLaws.{lines_step}
+use borrow.Author.Tests.{ne_eqb}
+use Rattle.tables.specs.Text.{trimmed}
 use Rattle.lin.specs.declared.pairs.PairAt.{PairAt}
-use Rattle.lin.specs.Pairs.{Pair, pairs_of}
-use Rattle.lin.specs.PairSteps.{between, pair_at, Sealed, IsNext}
+use Rattle.lin.specs.declared.pairs.Pairs.{Pairs}
+use Rattle.lin.specs.declared.pairs.Command.TheVariants.{Qx, Heading}
+use Rattle.lin.specs.Pairs.{Pair, place_of, pairs_of}
+use Rattle.lin.specs.PairSteps.{between, pair_of, Sealed, IsNext}
 use Rattle.lin.specs.Pieces.{split, with_deal, line_pieces}
-use Rattle.lin.specs.PieceSteps.{is_some, split_from}
-use Rattle.lin.proofs.PairLaws.{nothing_paired}
+use Rattle.lin.specs.PieceSteps.{has_pairs, split_from}
+use Rattle.lin.proofs.PairLaws.{nothing_paired, same_command, other_command}
 use Rattle.lin.proofs.PieceLaws.{split_is}
 
 -- ---- lines
 
--- The pieces from a place on: the next line's, where it is not blank, then the others.
-module _ (text : List ℕ) (at n : ℕ) (l : List ℕ) (h : at < length text) (e : l ≡ trimmed (before 10 (drop at text))) (k : n ≡ length (before 10 (drop at text))) where
-  abbrev rest_of : List (List Pair)
-  rest_of = line_pieces (lines (drop (at + n + 1) text))
-
-  line_next : line_pieces (lines (drop at text)) ≡ cond (eqb (length l) 0) rest_of (pairs_of l ∷ rest_of)
-  line_next =
-      let s = drop at text in
-      let b = before 10 s in
-      let some : 0 < length s = omega (arith, length-drop at text) in
-      let sum : at + (length b + 1) ≡ at + n + 1 = omega (arith, k) in
-      let there : drop (length b + 1) s ≡ drop (at + n + 1) text = drop-drop (length b + 1) at text ∙ ap (λ (i : ℕ). drop i text) sum in
-      ap line_pieces (lines_step s some) ∙ rw (there, ← e)
-
-  pub line_some : (length l ≡ 0 → ⊥) → line_pieces (lines (drop at text)) ≡ pairs_of l ∷ rest_of
-  line_some z = line_next ∙ rw (ne_eqb (length l) 0 z)
-
-  pub line_blank : length l ≡ 0 → line_pieces (lines (drop at text)) ≡ rest_of
-  line_blank z = line_next ∙ rw (eq-eqb (length l) 0 z)
-
-pub lines_done : (text : List ℕ) (at : ℕ) → length text ≤ at → line_pieces (lines (drop at text)) ≡ []
-lines_done text at h = ap (λ (s : List ℕ). line_pieces (lines s)) (stop text at h)
+-- A line that is not blank is a piece.
+pub line_some : {ls ms : List (List ℕ)} {l t : List ℕ} → ls ≡ l ∷ ms → t ≡ trimmed l → 0 < length t → line_pieces ls ≡ pairs_of t ∷ line_pieces ms
+line_some {ls} {ms} {l} {t} e k h = rw (e, ← k, ne_eqb (length t) 0 (λ z. omega (arith, z, h)))
 
 -- ---- parts
 
@@ -67,11 +48,11 @@ sealed_join x u s t y =
     ap pairs_of (append_assoc x u y) ∙ s (u ++ y) ∙ ap (λ (ps : List Pair). pairs_of x ++ ps) (t y)
     ∙ sym (append_assoc (pairs_of x) (pairs_of u) (pairs_of y)) ∙ ap (λ (ps : List Pair). ps ++ pairs_of y) (sym (s u))
 
-some_last : (ps : List Pair) (p : Pair) → is_some (ps ++ p ∷ []) ≡ true
+some_last : (ps : List Pair) (p : Pair) → has_pairs (ps ++ p ∷ []) ≡ true
 some_last [] p = refl
 some_last (q ∷ ps) p = refl
 
-some_behind : (ps qs : List Pair) → is_some qs ≡ true → is_some (ps ++ qs) ≡ true
+some_behind : (ps qs : List Pair) → has_pairs qs ≡ true → has_pairs (ps ++ qs) ≡ true
 some_behind [] qs e = e
 some_behind (p ∷ ps) qs e = refl
 
@@ -82,7 +63,7 @@ pub record Places (text : List ℕ) (start run here : ℕ) : Type 0 where
   pub here_in : here ≤ length text + 1
   pub own_whole : pairs_of (drop start text) ≡ pairs_of (between text start run) ++ pairs_of (drop run text)
   pub run_whole : pairs_of (drop run text) ≡ pairs_of (between text run here) ++ pairs_of (drop here text)
-  pub own_some : start < run → is_some (pairs_of (between text start run)) ≡ true
+  pub own_some : start < run → has_pairs (pairs_of (between text start run)) ≡ true
   pub own_sealed : run ≤ length text → Sealed (between text start run)
   pub run_sealed : here ≤ length text → Sealed (between text run here)
 
@@ -109,9 +90,15 @@ left_first text = sym (split_is (pairs_of text)) ∙ rw (nothing_between text 0)
 pub left_last : (text : List ℕ) (start run here : ℕ) → Places text start run here → pairs_of (drop here text) ≡ [] → pieces_left text start run here ≡ pairs_of (drop start text) ∷ []
 left_last text start run here t e = rw (t.own_whole, t.run_whole, e, append-nil (pairs_of (between text run here)))
 
-module _ (text : List ℕ) (start run here : ℕ) (t : Places text start run here) (p : PairAt) (i : IsNext text here p) where
+module _ (start run : ℕ) (s : Pairs) (p : PairAt) (r : Pairs) (t : Places s.text.now start run s.at) (i : IsNext s p r) where
+  abbrev text : List ℕ
+  text = s.text.now
+
+  abbrev here : ℕ
+  here = s.at
+
   abbrev next : ℕ
-  next = p.end + 1
+  next = p.end
 
   abbrev own : List Pair
   own = pairs_of (between text start run)
@@ -119,14 +106,21 @@ module _ (text : List ℕ) (start run here : ℕ) (t : Places text start run her
   abbrev titles : List Pair
   titles = pairs_of (between text run here)
 
+  rest_is : pairs_of (drop here text) ≡ pair_of p ∷ pairs_of (drop next text)
+  rest_is = i.pairs_are ∙ rw (i.same_text, i.place)
+
+  -- What holds at the place behind the pair holds at r.
+  at_next : (P : List ℕ → ℕ → Type 0) → P text next → P r.text.now r.at
+  at_next P h = rw (i.same_text, i.place) h
+
   before_next : here ≤ length text
-  before_next = omega (arith, i.behind, i.ordered, i.inside)
+  before_next = omega (arith, i.behind, i.inside)
 
   run_to : run ≤ length text
   run_to = omega (arith, t.run_here, before_next)
 
   here_next : here ≤ next
-  here_next = omega (arith, i.behind, i.ordered)
+  here_next = omega (arith, i.behind)
 
   next_in : next ≤ length text + 1
   next_in = omega (arith, i.inside)
@@ -134,7 +128,7 @@ module _ (text : List ℕ) (start run here : ℕ) (t : Places text start run her
   pair_sealed : next ≤ length text → Sealed (between text here next)
   pair_sealed h = i.sealed (omega (arith, h))
 
-  run_more : pairs_of (between text run next) ≡ titles ++ pair_at text p ∷ []
+  run_more : pairs_of (between text run next) ≡ titles ++ pair_of p ∷ []
   run_more = ap pairs_of (between_more text run here next t.run_here here_next) ∙ t.run_sealed before_next (between text here next) ∙ ap (λ (ps : List Pair). titles ++ ps) i.alone
 
   run_more_sealed : next ≤ length text → Sealed (between text run next)
@@ -143,7 +137,7 @@ module _ (text : List ℕ) (start run here : ℕ) (t : Places text start run her
   run_next : run ≤ next
   run_next = omega (arith, t.run_here, here_next)
 
-  own_more : pairs_of (between text start next) ≡ own ++ (titles ++ pair_at text p ∷ [])
+  own_more : pairs_of (between text start next) ≡ own ++ (titles ++ pair_of p ∷ [])
   own_more = ap pairs_of (between_more text start run next t.start_run run_next) ∙ t.own_sealed run_to (between text run next) ∙ ap (λ (ps : List Pair). own ++ ps) run_more
 
   own_more_sealed : next ≤ length text → Sealed (between text start next)
@@ -151,17 +145,18 @@ module _ (text : List ℕ) (start run here : ℕ) (t : Places text start run her
 
   whole_more : pairs_of (drop run text) ≡ pairs_of (between text run next) ++ pairs_of (drop next text)
   whole_more =
-      t.run_whole ∙ ap (λ (ps : List Pair). titles ++ ps) i.pairs_are
-      ∙ sym (append_assoc titles (pair_at text p ∷ []) (pairs_of (drop next text))) ∙ ap (λ (ps : List Pair). ps ++ pairs_of (drop next text)) (sym run_more)
+      t.run_whole ∙ ap (λ (ps : List Pair). titles ++ ps) rest_is
+      ∙ sym (append_assoc titles (pair_of p ∷ []) (pairs_of (drop next text))) ∙ ap (λ (ps : List Pair). ps ++ pairs_of (drop next text)) (sym run_more)
 
   -- Nothing stands between a place and itself.
   whole_here : pairs_of (drop next text) ≡ pairs_of (between text next next) ++ pairs_of (drop next text)
   whole_here = rw (nothing_between text next)
 
   -- An mn or a pn.
-  pub places_title : Places text start run next
+  pub places_title : Places r.text.now start run r.at
   places_title =
-      record {
+      at_next (λ x n. Places x start run n)
+      (record {
         start_run = t.start_run;
         run_here = run_next;
         here_in = next_in;
@@ -170,54 +165,57 @@ module _ (text : List ℕ) (start run here : ℕ) (t : Places text start run her
         own_some = t.own_some;
         own_sealed = t.own_sealed;
         run_sealed = run_more_sealed;
-      }
+      })
 
-  pub left_title : p.command ≡ 2 → pieces_left text start run here ≡ pieces_left text start run next
-  left_title e = rw (i.pairs_are, eq-eqb p.command 2 e, run_more)
+  pub left_title : p.command ≡ Heading → pieces_left text start run here ≡ pieces_left r.text.now start run r.at
+  left_title e = at_next (λ x n. pieces_left text start run here ≡ pieces_left x start run n) (rw (run_more, rest_is, e))
 
   -- A qx behind a piece, with which the next piece starts.
-  pub places_qx : Places text run next next
+  pub places_qx : Places r.text.now run r.at r.at
   places_qx =
-      record {
+      at_next (λ x n. Places x run n n)
+      (record {
         start_run = run_next;
         run_here = omega arith;
         here_in = next_in;
         own_whole = whole_more;
         run_whole = whole_here;
-        own_some = λ h. rw run_more (some_last titles (pair_at text p));
+        own_some = λ h. rw run_more (some_last titles (pair_of p));
         own_sealed = run_more_sealed;
         run_sealed = λ h. sealed_none text next;
-      }
+      })
 
-  pub left_qx : p.command ≡ 1 → start < run → pieces_left text start run here ≡ own ∷ pieces_left text run next next
-  left_qx e l = rw (i.pairs_are, ne_eqb p.command 2 (λ z. omega (arith, e, z)), eq-eqb p.command 1 e, t.own_some l, run_more, nothing_between text next)
+  pub left_qx : p.command ≡ Qx → start < run → pieces_left text start run here ≡ own ∷ pieces_left r.text.now run r.at r.at
+  left_qx e l = at_next (λ x n. pieces_left text start run here ≡ own ∷ pieces_left x run n n) (rw (run_more, nothing_between text next, rest_is, e, t.own_some l))
 
   -- Any other pair.
-  pub places_other : Places text start next next
+  pub places_other : Places r.text.now start r.at r.at
   places_other =
-      record {
+      at_next (λ x n. Places x start n n)
+      (record {
         start_run = omega (arith, t.start_run, run_next);
         run_here = omega arith;
         here_in = next_in;
         own_whole =
             t.own_whole ∙ ap (λ (ps : List Pair). own ++ ps) (whole_more ∙ ap (λ (ps : List Pair). ps ++ pairs_of (drop next text)) run_more)
-            ∙ sym (append_assoc own (titles ++ pair_at text p ∷ []) (pairs_of (drop next text))) ∙ ap (λ (ps : List Pair). ps ++ pairs_of (drop next text)) (sym own_more);
+            ∙ sym (append_assoc own (titles ++ pair_of p ∷ []) (pairs_of (drop next text))) ∙ ap (λ (ps : List Pair). ps ++ pairs_of (drop next text)) (sym own_more);
         run_whole = whole_here;
-        own_some = λ h. rw own_more (some_behind own (titles ++ pair_at text p ∷ []) (some_last titles (pair_at text p)));
+        own_some = λ h. rw own_more (some_behind own (titles ++ pair_of p ∷ []) (some_last titles (pair_of p)));
         own_sealed = own_more_sealed;
         run_sealed = λ h. sealed_none text next;
-      }
+      })
 
-  pub left_other : (p.command ≡ 2 → ⊥) → (p.command ≡ 1 → start < run → ⊥) → pieces_left text start run here ≡ pieces_left text start next next
+  pub left_other : (p.command ≡ Heading → ⊥) → (p.command ≡ Qx → start < run → ⊥) → pieces_left text start run here ≡ pieces_left r.text.now start r.at r.at
   left_other e f =
-      rw (i.pairs_are, ne_eqb p.command 2 e, goes_on (eqb p.command 1) refl, own_more, nothing_between text next)
+      at_next (λ x n. pieces_left text start run here ≡ pieces_left x start n n)
+      (rw (rest_is, other_command p.command Heading e, goes_on (eqb (place_of p.command) 1) refl, own_more, nothing_between text next))
     where
       same_place : (start < run → ⊥) → run ≡ start
       same_place g = omega (arith, g, t.start_run)
 
       -- A qx here is the first pair of its piece.
-      goes_on : (q : Bool) → eqb p.command 1 ≡ q → (eqb p.command 1 && is_some own) ≡ false
+      goes_on : (q : Bool) → eqb (place_of p.command) 1 ≡ q → (eqb (place_of p.command) 1 && has_pairs own) ≡ false
       goes_on false z = rw z
       goes_on true z =
-          let same : run ≡ start = same_place (f (eqb-true p.command 1 z)) in
+          let same : run ≡ start = same_place (f (same_command p.command Qx z)) in
           rw (z, same, nothing_between text start)

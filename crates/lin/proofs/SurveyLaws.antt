@@ -5,14 +5,15 @@ use mathlib.Core.Bool.{Bool, true, false, cond, ◌&&◌, ◌||◌}
 use mathlib.Core.List.{List, [], ◌∷◌}
 use native.Mathlib.Omega.{arith}
 use lib.Dec.{ltb}
-use borrow.Author.Tests.{eqb-true, ltb-true}
+use borrow.Author.Tests.{ltb-true}
 use Rattle.tables.specs.declared.letters.Conventions.{Conventions}
 use Rattle.tables.specs.Text.{ascii, trimmed, single}
 use Rattle.tables.proofs.Laws.{by_cases}
 use Rattle.reader.specs.Words.{same_word}
 use Rattle.reader.proofs.Counts.{chosen}
 use Rattle.lin.specs.declared.survey.Survey.{Survey}
-use Rattle.lin.specs.Pairs.{Pair, is_pair, md, sv, mb, pc}
+use Rattle.lin.specs.declared.pairs.Command.TheVariants.{Md, Sv, Mb, Pc}
+use Rattle.lin.specs.Pairs.{Pair, is_pair}
 use Rattle.lin.specs.Dealing.{Dealing, no_dealing, dealer_of, dealing_in, dealing_from}
 use Rattle.lin.specs.DealingSteps.{told, told_in}
 use Rattle.lin.specs.declared.bidding.Contract.{Contract}
@@ -21,66 +22,67 @@ use Rattle.lin.specs.Playing.{card_in, cards_played}
 use Rattle.lin.specs.SurveySteps.{no_survey, survey_call, surveyed, survey_from}
 use Rattle.lin.specs.LinBoards.{board_of}
 use Rattle.lin.proofs.BoardTextLaws.{is_any, SurveyIs}
+use Rattle.lin.proofs.PairLaws.{same_command}
 
 -- ---- a pair
 
 -- A case for each command that the survey looks at, and one for the others.
 commands : {P : Type 0} (p : Pair)
-    → (is_pair md p ≡ true → is_pair sv p ≡ false → is_pair mb p ≡ false → is_pair pc p ≡ false → P)
-    → (is_pair md p ≡ false → is_pair sv p ≡ true → is_pair mb p ≡ false → is_pair pc p ≡ false → P)
-    → (is_pair md p ≡ false → is_pair sv p ≡ false → is_pair mb p ≡ true → is_pair pc p ≡ false → P)
-    → (is_pair md p ≡ false → is_pair sv p ≡ false → is_pair mb p ≡ false → is_pair pc p ≡ true → P)
-    → (is_pair md p ≡ false → is_pair sv p ≡ false → is_pair mb p ≡ false → is_pair pc p ≡ false → P)
+    → (is_pair Md p ≡ true → is_pair Sv p ≡ false → is_pair Mb p ≡ false → is_pair Pc p ≡ false → P)
+    → (is_pair Md p ≡ false → is_pair Sv p ≡ true → is_pair Mb p ≡ false → is_pair Pc p ≡ false → P)
+    → (is_pair Md p ≡ false → is_pair Sv p ≡ false → is_pair Mb p ≡ true → is_pair Pc p ≡ false → P)
+    → (is_pair Md p ≡ false → is_pair Sv p ≡ false → is_pair Mb p ≡ false → is_pair Pc p ≡ true → P)
+    → (is_pair Md p ≡ false → is_pair Sv p ≡ false → is_pair Mb p ≡ false → is_pair Pc p ≡ false → P)
     → P
 commands p f₁ f₂ f₃ f₄ f₅ =
-    by_cases (is_pair md p) (λ e. let k = eqb-true p.command md e in f₁ e (rw k) (rw k) (rw k))
+    by_cases (is_pair Md p) (λ e. let k = same_command p.command Md e in f₁ e (rw k) (rw k) (rw k))
     (λ e₁.
-    by_cases (is_pair sv p) (λ e. let k = eqb-true p.command sv e in f₂ e₁ e (rw k) (rw k))
+    by_cases (is_pair Sv p) (λ e. let k = same_command p.command Sv e in f₂ e₁ e (rw k) (rw k))
     (λ e₂.
-    by_cases (is_pair mb p) (λ e. let k = eqb-true p.command mb e in f₃ e₁ e₂ e (rw k))
-    (λ e₃. by_cases (is_pair pc p) (λ e. f₄ e₁ e₂ e₃ e) (λ e. f₅ e₁ e₂ e₃ e))))
+    by_cases (is_pair Mb p) (λ e. let k = same_command p.command Mb e in f₃ e₁ e₂ e (rw k))
+    (λ e₃. by_cases (is_pair Pc p) (λ e. f₄ e₁ e₂ e₃ e) (λ e. f₅ e₁ e₂ e₃ e))))
 
 or_none_lem : (b : Bool) → b ≡ (b || false)
 or_none_lem true = refl
 or_none_lem false = refl
 
 module _ (c : Conventions) (s : Survey) (p : Pair) where
-  deal_step : (surveyed c s p).deal ≡ cond (is_pair md p) (told_in c s.deal (trimmed p.value)) s.deal
+  deal_step : (surveyed c s p).deal ≡ cond (is_pair Md p) (told_in c s.deal (trimmed p.value)) s.deal
   unfolding surveyed survey_call
   deal_step =
       commands p (λ a b d e. rw a) (λ a b d e. rw (a, b))
       (λ a b d e. rw (a, b, d) (by_cases (ltb (call_in c p.value) 47) (λ t. rw t) (λ t. rw t)))
       (λ a b d e. rw (a, b, d, e)) (λ a b d e. rw (a, b, d, e))
 
-  vulnerability_step : (surveyed c s p).vulnerability ≡ cond (is_pair sv p) (vulnerability_in (trimmed p.value)) s.vulnerability
+  vulnerability_step : (surveyed c s p).vulnerability ≡ cond (is_pair Sv p) (vulnerability_in (trimmed p.value)) s.vulnerability
   unfolding surveyed survey_call
   vulnerability_step =
       commands p (λ a b d e. rw (a, b)) (λ a b d e. rw (a, b))
       (λ a b d e. rw (a, b, d) (by_cases (ltb (call_in c p.value) 47) (λ t. rw t) (λ t. rw t)))
       (λ a b d e. rw (a, b, d, e)) (λ a b d e. rw (a, b, d, e))
 
-  called_step : (surveyed c s p).called ≡ cond (is_pair mb p && ltb (call_in c p.value) 47) true s.called
+  called_step : (surveyed c s p).called ≡ cond (is_pair Mb p && ltb (call_in c p.value) 47) true s.called
   unfolding surveyed survey_call
   called_step =
       commands p (λ a b d e. rw (a, d)) (λ a b d e. rw (a, b, d))
       (λ a b d e. rw (a, b, d) (by_cases (ltb (call_in c p.value) 47) (λ t. rw t) (λ t. rw t)))
       (λ a b d e. rw (a, b, d, e)) (λ a b d e. rw (a, b, d, e))
 
-  seat_step : (surveyed c s p).seat ≡ cond (is_pair mb p && ltb (call_in c p.value) 47) (next_seat s.seat) s.seat
+  seat_step : (surveyed c s p).seat ≡ cond (is_pair Mb p && ltb (call_in c p.value) 47) (next_seat s.seat) s.seat
   unfolding surveyed survey_call
   seat_step =
       commands p (λ a b d e. rw (a, d)) (λ a b d e. rw (a, b, d))
       (λ a b d e. rw (a, b, d) (by_cases (ltb (call_in c p.value) 47) (λ t. rw t) (λ t. rw t)))
       (λ a b d e. rw (a, b, d, e)) (λ a b d e. rw (a, b, d, e))
 
-  contract_step : (surveyed c s p).contract ≡ cond (is_pair mb p && ltb (call_in c p.value) 47) (with_call s.seat s.contract (call_in c p.value)) s.contract
+  contract_step : (surveyed c s p).contract ≡ cond (is_pair Mb p && ltb (call_in c p.value) 47) (with_call s.seat s.contract (call_in c p.value)) s.contract
   unfolding surveyed survey_call
   contract_step =
       commands p (λ a b d e. rw (a, d)) (λ a b d e. rw (a, b, d))
       (λ a b d e. rw (a, b, d) (by_cases (ltb (call_in c p.value) 47) (λ t. rw t) (λ t. rw t)))
       (λ a b d e. rw (a, b, d, e)) (λ a b d e. rw (a, b, d, e))
 
-  played_step : (surveyed c s p).played ≡ (s.played || (is_pair pc p && ltb (card_in c (trimmed p.value)) 52))
+  played_step : (surveyed c s p).played ≡ (s.played || (is_pair Pc p && ltb (card_in c (trimmed p.value)) 52))
   unfolding surveyed survey_call
   played_step =
       commands p (λ a b d e. rw (a, e) (or_none_lem s.played)) (λ a b d e. rw (a, b, e) (or_none_lem s.played))
@@ -99,7 +101,7 @@ called_from c s [] = or_none_lem s.called
 called_from c s (p ∷ ps) =
     called_from c (surveyed c s p) ps
     ∙ (ap (λ (b : Bool). b || is_any (calls_from c ps)) (called_step c s p)
-    ∙ more (is_pair mb p && ltb (call_in c p.value) 47) s.called (call_in c p.value) (calls_from c ps))
+    ∙ more (is_pair Mb p && ltb (call_in c p.value) 47) s.called (call_in c p.value) (calls_from c ps))
   where
     more : (b d : Bool) (k : ℕ) (ks : List ℕ) → (cond b true d || is_any ks) ≡ (d || is_any (cond b (k ∷ ks) ks))
     more true true k ks = refl
@@ -110,7 +112,7 @@ contract_came_from : (c : Conventions) (s : Survey) (k : Contract) (ps : List Pa
     → (survey_from c s ps).contract ≡ contract_from s.seat k (calls_from c ps)
 contract_came_from c s k [] e = e
 contract_came_from c s k (p ∷ ps) e =
-    by_cases (is_pair mb p && ltb (call_in c p.value) 47)
+    by_cases (is_pair Mb p && ltb (call_in c p.value) 47)
     (λ t.
     contract_came_from c (surveyed c s p) (with_call s.seat k (call_in c p.value)) ps
     (contract_step c s p ∙ rw (t, e))
@@ -124,7 +126,7 @@ played_from c s [] = or_none_lem s.played
 played_from c s (p ∷ ps) =
     played_from c (surveyed c s p) ps
     ∙ (ap (λ (b : Bool). b || is_any (cards_played c ps)) (played_step c s p)
-    ∙ more (is_pair pc p && ltb (card_in c (trimmed p.value)) 52) s.played (card_in c (trimmed p.value)) (cards_played c ps))
+    ∙ more (is_pair Pc p && ltb (card_in c (trimmed p.value)) 52) s.played (card_in c (trimmed p.value)) (cards_played c ps))
   where
     more : (b d : Bool) (k : ℕ) (ks : List ℕ) → ((d || b) || is_any ks) ≡ (d || is_any (cond b (k ∷ ks) ks))
     more true true k ks = refl
@@ -136,8 +138,8 @@ module _ (c : Conventions) (told_in_lem : (d : Dealing) (v : List ℕ) → told_
   deal_from : (s : Survey) (d : Dealing) (ps : List Pair) → s.deal ≡ told d → (survey_from c s ps).deal ≡ told (dealing_from c d ps)
   deal_from s d [] e = e
   deal_from s d (p ∷ ps) e =
-      deal_from (surveyed c s p) (cond (is_pair md p) (dealing_in c d (trimmed p.value)) d) ps
-      (deal_step c s p ∙ by_cases (is_pair md p) (λ t. rw (t, e, told_in_lem d (trimmed p.value))) (λ t. rw t e))
+      deal_from (surveyed c s p) (cond (is_pair Md p) (dealing_in c d (trimmed p.value)) d) ps
+      (deal_step c s p ∙ by_cases (is_pair Md p) (λ t. rw (t, e, told_in_lem d (trimmed p.value))) (λ t. rw t e))
 
   -- THEOREM. What the survey of a board's pairs is.
   pub survey_is : (ps : List Pair) → SurveyIs c ps (survey_from c no_survey ps)
@@ -159,8 +161,8 @@ dealing_low c d (b ∷ bs) h = chosen (λ (x : Dealing). x.dealer < 4) (ltb (dea
 dealer_from : (c : Conventions) (d : Dealing) (ps : List Pair) → d.dealer < 4 → (dealing_from c d ps).dealer < 4
 dealer_from c d [] h = h
 dealer_from c d (p ∷ ps) h =
-    dealer_from c (cond (is_pair md p) (dealing_in c d (trimmed p.value)) d) ps
-    (chosen (λ (x : Dealing). x.dealer < 4) (is_pair md p) _ _ (λ e. dealing_low c d (trimmed p.value) h) (λ e. h))
+    dealer_from c (cond (is_pair Md p) (dealing_in c d (trimmed p.value)) d) ps
+    (chosen (λ (x : Dealing). x.dealer < 4) (is_pair Md p) _ _ (λ e. dealing_low c d (trimmed p.value) h) (λ e. h))
 
 sides_low : (t : List ℕ) → vulnerability_in t < 4
 unfolding vulnerability_in
@@ -174,8 +176,8 @@ sides_low t =
 sides_from : (v : ℕ) (ps : List Pair) → v < 4 → vulnerability_from v ps < 4
 sides_from v [] h = h
 sides_from v (p ∷ ps) h =
-    sides_from (cond (is_pair sv p) (vulnerability_in (trimmed p.value)) v) ps
-    (chosen (λ (k : ℕ). k < 4) (is_pair sv p) _ _ (λ e. sides_low (trimmed p.value)) (λ e. h))
+    sides_from (cond (is_pair Sv p) (vulnerability_in (trimmed p.value)) v) ps
+    (chosen (λ (k : ℕ). k < 4) (is_pair Sv p) _ _ (λ e. sides_low (trimmed p.value)) (λ e. h))
 
 -- Every board has a dealer and a vulnerability.
 pub dealer_low : (c : Conventions) (ps : List Pair) → (board_of c ps).dealing.dealer < 4

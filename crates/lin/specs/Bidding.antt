@@ -4,7 +4,8 @@ use Rattle.tables.specs.declared.letters.Conventions.{Conventions}
 use Rattle.tables.specs.Text.{ascii, trimmed}
 use Rattle.reader.specs.Words.{same_word, call_of, call_token}
 use Rattle.lin.specs.declared.bidding.Contract.{Contract}
-use Rattle.lin.specs.Pairs.{Pair, is_pair, sv, mb}
+use Rattle.lin.specs.declared.pairs.Command.TheVariants.{Sv, Mb}
+use Rattle.lin.specs.Pairs.{Pair, is_pair}
 
 -- ---- vulnerability
 
@@ -18,7 +19,7 @@ vulnerability_in t =
 -- The last sv, trimmed, counts; None (0) without one.
 abbrev pub vulnerability_from : ℕ → List Pair → ℕ
 vulnerability_from v [] = v
-vulnerability_from v (p ∷ ps) = vulnerability_from (cond (is_pair sv p) (vulnerability_in (trimmed p.value)) v) ps
+vulnerability_from v (p ∷ ps) = vulnerability_from (cond (is_pair Sv p) (vulnerability_in (trimmed p.value)) v) ps
 
 -- ---- calls
 
@@ -41,7 +42,7 @@ call_in c v = call_named c (unalerted v)
 -- The codes of the calls; a value that is no call is dropped and takes no seat.
 abbrev pub calls_from : Conventions → List Pair → List ℕ
 calls_from c [] = []
-calls_from c (p ∷ ps) = cond (is_pair mb p && ltb (call_in c p.value) 47) (call_in c p.value ∷ calls_from c ps) (calls_from c ps)
+calls_from c (p ∷ ps) = cond (is_pair Mb p && ltb (call_in c p.value) 47) (call_in c p.value ∷ calls_from c ps) (calls_from c ps)
 
 -- ---- the contract
 

@@ -49,9 +49,10 @@ lin_play_text c s declarer ps =
     cond (eqb s.contract.bid 0) []
     (cond s.played (played_text c (next_seat declarer) (trump_suit (strain s.contract.bid)) (cards_played c ps)) [])
 
-unfoldable pub survey_text : Conventions → Survey → List Pair → List ℕ
-survey_text c s ps =
-    lin_head_text c s.deal.dealer s.vulnerability s.deal.hands
+-- The hands are those of the survey, where they make a deal.
+unfoldable pub survey_text : Conventions → Survey → Hands → List Pair → List ℕ
+survey_text c s h ps =
+    lin_head_text c s.deal.dealer s.vulnerability h
     ++ (lin_result_text c (declarer_of s.deal.dealer s.contract (calls_from c ps)) s.contract
     ++ (cond s.called (lin_auction_text c s.deal.dealer (calls_from c ps)) []
     ++ lin_play_text c s (declarer_of s.deal.dealer s.contract (calls_from c ps)) ps))

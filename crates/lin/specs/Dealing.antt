@@ -6,7 +6,8 @@ use Rattle.tables.specs.Letters.{suit_of, rank_of, among, distinct}
 use Rattle.reader.specs.declared.deal.Hands.{Hands}
 use Rattle.reader.specs.Words.{card_number}
 use Rattle.reader.specs.Deals.{hand_bits}
-use Rattle.lin.specs.Pairs.{parts, Pair, is_pair, md}
+use Rattle.lin.specs.declared.pairs.Command.TheVariants.{Md}
+use Rattle.lin.specs.Pairs.{parts, Pair, is_pair}
 
 -- A dealer, and the cards of each hand in the order met: a card that is named twice stands twice.
 pub record Dealing : Type 0 where
@@ -70,7 +71,7 @@ dealing_in c d (b ∷ bs) = cond (ltb (dealer_of (single b bs)) 4) (dealt_by c (
 -- The last such md is in force.
 abbrev pub dealing_from : Conventions → Dealing → List Pair → Dealing
 dealing_from c d [] = d
-dealing_from c d (p ∷ ps) = dealing_from c (cond (is_pair md p) (dealing_in c d (trimmed p.value)) d) ps
+dealing_from c d (p ∷ ps) = dealing_from c (cond (is_pair Md p) (dealing_in c d (trimmed p.value)) d) ps
 
 -- ---- which deals can be written
 

@@ -1,10 +1,12 @@
 -- How the code goes from pair to pair.
-use Rattle.std.specs.Prelude.{ℕ, ◌+◌, ◌-◌, ◌≤◌, ◌<◌, ◌≡◌, Bool, cond, ◌&&◌, ◌||◌, List, [], ◌∷◌, ◌++◌, eqb, length, take, drop}
+use Rattle.std.specs.Prelude.{ℕ, ◌+◌, ◌-◌, ◌≤◌, ◌<◌, ◌≡◌, Bool, cond, ◌&&◌, ◌||◌, Option, Some, None, List, [], ◌∷◌, ◌++◌, eqb, length, take, drop}
+use Rattle.std.specs.Iterator.{Count, at_most}
 use Rattle.tables.specs.Letters.{capital}
 use Rattle.lin.specs.declared.pairs.PairAt.{PairAt}
-use Rattle.lin.specs.declared.pairs.NextPair.{NextPair}
-use Rattle.lin.specs.declared.pairs.NextPair.TheVariants.{Found, NoPair}
-use Rattle.lin.specs.Pairs.{qx, heading, md, sv, mb, pc, Pair, pairs_of}
+use Rattle.lin.specs.declared.pairs.Pairs.{Pairs}
+use Rattle.lin.specs.declared.pairs.Command.{Command}
+use Rattle.lin.specs.declared.pairs.Command.TheVariants.{Qx, Heading, Md, Sv, Mb, Pc, Other}
+use Rattle.lin.specs.Pairs.{Pair, pairs_of}
 
 -- ---- commands
 
@@ -13,14 +15,14 @@ unfoldable pub two_same : ℕ → ℕ → ℕ → ℕ → Bool
 two_same x y a b = eqb x (capital a) && eqb y (capital b)
 
 -- The command of two letters: QX is 81, 88; MN 77, 78 and PN 80, 78; MD 77, 68; SV 83, 86; MB 77, 66; PC 80, 67.
-unfoldable pub command_two : ℕ → ℕ → ℕ
+unfoldable pub command_two : ℕ → ℕ → Command
 command_two a b =
-    cond (two_same 81 88 a b) qx
-    (cond (two_same 77 78 a b || two_same 80 78 a b) heading
-    (cond (two_same 77 68 a b) md
-    (cond (two_same 83 86 a b) sv
-    (cond (two_same 77 66 a b) mb
-    (cond (two_same 80 67 a b) pc 0)))))
+    cond (two_same 81 88 a b) Qx
+    (cond (two_same 77 78 a b || two_same 80 78 a b) Heading
+    (cond (two_same 77 68 a b) Md
+    (cond (two_same 83 86 a b) Sv
+    (cond (two_same 77 66 a b) Mb
+    (cond (two_same 80 67 a b) Pc Other)))))
 
 -- ---- pairs
 
@@ -28,24 +30,32 @@ command_two a b =
 abbrev pub between : List ℕ → ℕ → ℕ → List ℕ
 between text start end = take (end - start) (drop start text)
 
--- A pair at its place.
-abbrev pub pair_at : List ℕ → PairAt → Pair
-pair_at text p = record { command = p.command; value = between text p.start p.end }
+-- A pair, as the code gives it.
+abbrev pub pair_of : PairAt → Pair
+pair_of p = record { command = p.command; value = p.value.now }
+
+-- The pairs that are left.
+abbrev pub pairs_left : Pairs → List Pair
+pairs_left s = pairs_of (drop s.at s.text.now)
 
 -- The pairs of a text that goes on behind x are those of x and those of what follows.
 abbrev pub Sealed : List ℕ → Type 0
 Sealed x = (y : List ℕ) → pairs_of (x ++ y) ≡ pairs_of x ++ pairs_of y
 
--- The pair p is the first of those from the place `at` on; the others stand behind the bar at its end.
-pub record IsNext (text : List ℕ) (at : ℕ) (p : PairAt) : Type 0 where
-  pub pairs_are : pairs_of (drop at text) ≡ pair_at text p ∷ pairs_of (drop (p.end + 1) text)
-  pub alone : pairs_of (between text at (p.end + 1)) ≡ pair_at text p ∷ []
-  pub sealed : p.end < length text → Sealed (between text at (p.end + 1))
-  pub behind : at < p.start
-  pub ordered : p.start ≤ p.end
-  pub inside : p.end ≤ length text
-  pub command_low : p.command ≤ 6
+-- The pair p is the first of those that are left; the others stand from the place behind it on.
+pub record IsNext (s : Pairs) (p : PairAt) (t : Pairs) : Type 0 where
+  pub pairs_are : pairs_left s ≡ pair_of p ∷ pairs_left t
+  pub alone : pairs_of (between s.text.now s.at p.end) ≡ pair_of p ∷ []
+  pub sealed : p.end ≤ length s.text.now → Sealed (between s.text.now s.at p.end)
+  pub same_text : t.text ≡ s.text
+  pub place : t.at ≡ p.end
+  pub behind : s.at + 1 < p.end
+  pub inside : p.end ≤ length s.text.now + 1
 
-abbrev pub NextIs : List ℕ → ℕ → NextPair → Type 0
-NextIs text at (Found p) = IsNext text at p
-NextIs text at NoPair = pairs_of (drop at text) ≡ []
+abbrev pub NextIs : Pairs → Option PairAt → Pairs → Type 0
+NextIs s (Some p) t = IsNext s p t
+NextIs s None t = pairs_left s ≡ []
+
+-- No more pairs come than bytes, and one.
+abbrev pub pairs_room : Pairs → Count
+pairs_room s = at_most (length s.text.now + 1 - s.at)

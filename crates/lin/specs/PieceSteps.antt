@@ -1,31 +1,56 @@
 -- How the code puts board after board.
-use Rattle.std.specs.Prelude.{ℕ, ◌+◌, ◌≤◌, ◌≡◌, Bool, true, false, cond, ◌&&◌, ◌||◌, not, List, [], ◌∷◌, ◌++◌, map, eqb, length}
+use Rattle.std.specs.Prelude.{ℕ, ◌+◌, ◌<◌, ◌≡◌, Bool, true, false, cond, ◌&&◌, ◌||◌, not, Option, Some, None, IfSome, is_some, List, [], ◌∷◌, ◌++◌, map, eqb, length}
 use Rattle.tables.specs.declared.letters.Conventions.{Conventions}
 use Rattle.reader.specs.declared.deal.Hands.{Hands}
-use Rattle.writer.specs.Puts.{Puts}
+use Rattle.tables.specs.declared.page.Page.{Page}
+use Rattle.tables.specs.Puts.{Puts}
 use Rattle.writer.specs.Pages.{built_in_header}
 use Rattle.writer.specs.Remarks.{lines_text}
+use Rattle.std.specs.Borrow.{Bor}
+use Rattle.std.specs.Iterator.{Count, at_most}
+use Rattle.tables.specs.Text.{lines}
+use Rattle.lin.specs.declared.pieces.Lines.{Lines}
 use Rattle.lin.specs.declared.pieces.Progress.{Progress}
-use Rattle.lin.specs.Pairs.{Pair, is_pair, has_pair, qx, heading, md}
+use Rattle.lin.specs.declared.pairs.Command.TheVariants.{Qx, Heading, Md}
+use Rattle.lin.specs.Pairs.{Pair, is_pair, has_pair}
 use Rattle.lin.specs.Dealing.{has_card, is_deal}
 use Rattle.lin.specs.LinBoards.{LinBoard, board_of, any_card, all_deals, lin_lines, lin_page}
 
+-- ---- lines
+
+-- The lines that are left.
+abbrev pub lines_left : Lines → List (List ℕ)
+lines_left s = lines s.rest.now
+
+-- The line l is the first of them; the others stand behind its LF.
+pub record IsLine (s : Lines) (l : Bor (List ℕ)) (t : Lines) : Type 0 where
+  pub lines_are : lines_left s ≡ l.now ∷ lines_left t
+  pub behind : length t.rest.now < length s.rest.now
+
+abbrev pub NextLine : Lines → Option (Bor (List ℕ)) → Lines → Type 0
+NextLine s (Some l) t = IsLine s l t
+NextLine s None t = lines_left s ≡ []
+
+-- No more lines come than bytes.
+abbrev pub lines_room : Lines → Count
+lines_room s = at_most (length s.rest.now)
+
 -- ---- pieces, pair by pair: own are the pairs of the piece so far, run the mn and pn behind them
 
-abbrev pub is_some : List Pair → Bool
-is_some [] = false
-is_some (p ∷ ps) = true
+abbrev pub has_pairs : List Pair → Bool
+has_pairs [] = false
+has_pairs (p ∷ ps) = true
 
 abbrev pub split_from : List Pair → List Pair → List Pair → List (List Pair)
 split_from own run [] = (own ++ run) ∷ []
 split_from own run (p ∷ ps) =
-    cond (is_pair heading p) (split_from own (run ++ p ∷ []) ps)
-    (cond (is_pair qx p && is_some own) (own ∷ split_from (run ++ p ∷ []) [] ps) (split_from (own ++ (run ++ p ∷ [])) [] ps))
+    cond (is_pair Heading p) (split_from own (run ++ p ∷ []) ps)
+    (cond (is_pair Qx p && has_pairs own) (own ∷ split_from (run ++ p ∷ []) [] ps) (split_from (own ++ (run ++ p ∷ [])) [] ps))
 
 -- ---- progress
 
 abbrev pub no_progress : Progress
-no_progress = record { at = 0; boards = 0; any = false; good = true }
+no_progress = record { boards = 0; any = false }
 
 -- What stands above a board: the built-in header, or an empty line (10).
 unfoldable pub above_text : Bool → List ℕ
@@ -38,34 +63,39 @@ any_bits h = not (eqb h.north 0) || (not (eqb h.east 0) || (not (eqb h.south 0) 
 abbrev pub part_text : Conventions → Bool → LinBoard → List ℕ
 part_text c first b = above_text first ++ lines_text (lin_lines c b)
 
--- One more board, where all so far make deals.
-pub record BoardPut (c : Conventions) (b : LinBoard) (page : List ℕ) (g : Progress) (page' : List ℕ) (r : Progress) : Type 0 where
-  pub good_is : r.good ≡ is_deal b.dealing
-  pub any_is : r.good ≡ true → r.any ≡ (g.any || has_card b.dealing)
-  pub boards_are : r.good ≡ true → r.boards ≡ g.boards + 1
-  pub puts : r.good ≡ true → Puts page g.at (part_text c (eqb g.boards 0) b) page' r.at
+-- A board that was put.
+pub record BoardPut (c : Conventions) (b : LinBoard) (p : Page) (g : Progress) (q : Page) (r : Progress) : Type 0 where
+  pub any_is : r.any ≡ (g.any || has_card b.dealing)
+  pub boards_are : r.boards ≡ g.boards + 1
+  pub puts : Puts p (part_text c (eqb g.boards 0) b) q
 
--- The board of the pairs ps.
-pub record Goes (c : Conventions) (ps : List Pair) (page : List ℕ) (g : Progress) (page' : List ℕ) (r : Progress) : Type 0 where
-  pub stays : g.good ≡ false → r.good ≡ false
-  pub goes : g.good ≡ true → BoardPut c (board_of c ps) page g page' r
-  pub kept : length page' ≡ length page
-  pub one_more : r.boards ≤ g.boards + 1
+-- The same lent bytes, whatever they hold.
+pub record SameLent (p q : Page) : Type 0 where
+  pub kept : length q.bytes.now ≡ length p.bytes.now
+  pub same : q.bytes.ghost_name ≡ p.bytes.ghost_name
+
+-- The board of the pairs ps: it is put where it makes a deal.
+pub record Goes (c : Conventions) (ps : List Pair) (p : Page) (g : Progress) (q : Page) (r : Option Progress) : Type 0 where
+  pub some_is : is_some r ≡ is_deal (board_of c ps).dealing
+  pub goes : IfSome r (λ h. BoardPut c (board_of c ps) p g q h)
+  pub lent : SameLent p q
 
 -- The same, where the pairs have an md; else nothing.
-pub record GoesIf (c : Conventions) (ps : List Pair) (page : List ℕ) (g : Progress) (page' : List ℕ) (r : Progress) : Type 0 where
-  pub skips : has_pair md ps ≡ false → (page' ≡ page) × (r ≡ g)
-  pub takes : has_pair md ps ≡ true → Goes c ps page g page' r
+pub record GoesIf (c : Conventions) (ps : List Pair) (p : Page) (g : Progress) (q : Page) (r : Option Progress) : Type 0 where
+  pub skips : has_pair Md ps ≡ false → (q ≡ p) × (r ≡ Some g)
+  pub takes : has_pair Md ps ≡ true → Goes c ps p g q r
 
 -- ---- all boards
 
--- Some boards were put on the page page₀.
-pub record Gone (c : Conventions) (bs : List LinBoard) (page₀ page : List ℕ) (g : Progress) : Type 0 where
-  pub good_is : g.good ≡ all_deals bs
-  pub any_is : g.good ≡ true → g.any ≡ any_card bs
-  pub boards_are : g.good ≡ true → g.boards ≡ length bs
-  pub puts : g.good ≡ true → Puts page₀ 0 (cond (eqb (length bs) 0) [] (lin_page c bs)) page g.at
-  pub kept : length page ≡ length page₀
+-- Some boards, which all make deals, were put on the page p₀.
+pub record Gone (c : Conventions) (bs : List LinBoard) (p₀ p : Page) (g : Progress) : Type 0 where
+  pub deals : all_deals bs ≡ true
+  pub any_is : g.any ≡ any_card bs
+  pub boards_are : g.boards ≡ length bs
+  pub puts : Puts p₀ (cond (eqb (length bs) 0) [] (lin_page c bs)) p
 
-abbrev pub GoesAll : Conventions → List (List Pair) → List ℕ → List ℕ → Progress → Type 0
-GoesAll c pieces page₀ page g = Gone c (map (board_of c) pieces) page₀ page g
+-- The boards of the pieces were put, where all make deals.
+pub record GoesAll (c : Conventions) (pieces : List (List Pair)) (p₀ p : Page) (r : Option Progress) : Type 0 where
+  pub some_is : is_some r ≡ all_deals (map (board_of c) pieces)
+  pub gone : IfSome r (λ g. Gone c (map (board_of c) pieces) p₀ p g)
+  pub lent : SameLent p₀ p

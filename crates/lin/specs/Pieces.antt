@@ -1,14 +1,15 @@
 -- Which pairs make a board.
 use Rattle.std.specs.Prelude.{ℕ, Bool, false, cond, ◌&&◌, ◌||◌, not, List, [], ◌∷◌, eqb, length}
 use Rattle.tables.specs.Text.{trimmed, lines}
-use Rattle.lin.specs.Pairs.{Pair, pairs_of, is_pair, has_pair, qx, heading, md}
+use Rattle.lin.specs.declared.pairs.Command.TheVariants.{Qx, Heading, Md}
+use Rattle.lin.specs.Pairs.{Pair, pairs_of, is_pair, has_pair}
 
 -- ---- a text with a qx
 
 -- Pairs that begin with a qx, or with mn and pn and then a qx.
 abbrev pub opens : List Pair → Bool
 opens [] = false
-opens (p ∷ ps) = is_pair qx p || (is_pair heading p && opens ps)
+opens (p ∷ ps) = is_pair Qx p || (is_pair Heading p && opens ps)
 
 abbrev pub pair_before : Pair → List (List Pair) → List (List Pair)
 pair_before p [] = (p ∷ []) ∷ []
@@ -18,12 +19,12 @@ pair_before p (q ∷ qs) = (p ∷ q) ∷ qs
 -- behind it begin with such a run and it is not of the run itself.
 abbrev pub split : List Pair → List (List Pair)
 split [] = []
-split (p ∷ ps) = cond (opens ps && not (is_pair heading p)) ((p ∷ []) ∷ split ps) (pair_before p (split ps))
+split (p ∷ ps) = cond (opens ps && not (is_pair Heading p)) ((p ∷ []) ∷ split ps) (pair_before p (split ps))
 
 -- Pieces without an md are no boards.
 abbrev pub with_deal : List (List Pair) → List (List Pair)
 with_deal [] = []
-with_deal (x ∷ xs) = cond (has_pair md x) (x ∷ with_deal xs) (with_deal xs)
+with_deal (x ∷ xs) = cond (has_pair Md x) (x ∷ with_deal xs) (with_deal xs)
 
 -- ---- a text without one
 
@@ -35,4 +36,4 @@ line_pieces (l ∷ ls) = cond (eqb (length (trimmed l)) 0) (line_pieces ls) (pai
 -- ---- the boards of a text, each as its pairs
 
 unfoldable pub board_pieces : List ℕ → List (List Pair)
-board_pieces text = cond (has_pair qx (pairs_of text)) (with_deal (split (pairs_of text))) (line_pieces (lines text))
+board_pieces text = cond (has_pair Qx (pairs_of text)) (with_deal (split (pairs_of text))) (line_pieces (lines text))

@@ -7,7 +7,8 @@ use Rattle.reader.specs.Words.{card_named, card_token}
 use Rattle.reader.specs.Play.{winner_of, slot_of}
 use Rattle.reader.specs.Plain.{PlainTrick}
 use Rattle.writer.specs.Sections.{spaced}
-use Rattle.lin.specs.Pairs.{Pair, is_pair, pc}
+use Rattle.lin.specs.declared.pairs.Command.TheVariants.{Pc}
+use Rattle.lin.specs.Pairs.{Pair, is_pair}
 
 -- ---- cards
 
@@ -18,7 +19,7 @@ card_in c t = cond (eqb (length t) 2) (card_named c t) 52
 -- The cards in the order of the text; a value is trimmed, and one that is no card is dropped.
 abbrev pub cards_played : Conventions → List Pair → List ℕ
 cards_played c [] = []
-cards_played c (p ∷ ps) = cond (is_pair pc p && ltb (card_in c (trimmed p.value)) 52) (card_in c (trimmed p.value) ∷ cards_played c ps) (cards_played c ps)
+cards_played c (p ∷ ps) = cond (is_pair Pc p && ltb (card_in c (trimmed p.value)) 52) (card_in c (trimmed p.value) ∷ cards_played c ps) (cards_played c ps)
 
 -- ---- tricks
 

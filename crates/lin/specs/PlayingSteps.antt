@@ -1,10 +1,17 @@
 -- How the code puts the lines of a play, card by card.
-use Rattle.std.specs.Prelude.{ℕ, ◌+◌, ◌≤◌, cond, List, [], ◌∷◌, ◌++◌, eqb}
+use Rattle.std.specs.Prelude.{ℕ, ◌+◌, ◌≤◌, cond, ◌&&◌, Option, Some, None, List, [], ◌∷◌, ◌++◌, eqb, ltb}
 use Rattle.tables.specs.declared.letters.Conventions.{Conventions}
+use Rattle.tables.specs.Text.{trimmed}
 use Rattle.reader.specs.Play.{no_slots, with_slot, winner_of, slot_of}
 use Rattle.reader.specs.TokenSteps.{Low}
 use Rattle.lin.specs.declared.playing.LinTrick.{LinTrick}
-use Rattle.lin.specs.Playing.{slot_at, slot_word}
+use Rattle.lin.specs.declared.pairs.Command.TheVariants.{Pc}
+use Rattle.lin.specs.Pairs.{Pair, is_pair}
+use Rattle.lin.specs.Playing.{card_in, slot_at, slot_word}
+
+-- The card of a pair, where it is one.
+unfoldable pub card_at : Conventions → Pair → Option ℕ
+card_at c p = cond (is_pair Pc p && ltb (card_in c (trimmed p.value)) 52) (Some (card_in c (trimmed p.value))) None
 
 pub record FineTrick (t : LinTrick) : Type 0 where
   pub leader_low : t.leader ≤ 4

@@ -1,16 +1,23 @@
 // The vulnerability (parse_sv), the calls, the contract and its declarer.
 ghost use Rattle.std.specs.Prelude.{◌≡◌, ◌≤◌, ◌<◌};
-ghost use Rattle.writer.specs.Puts.{Puts};
+ghost use Rattle.tables.specs.Puts.{Puts};
 ghost use Rattle.lin.specs.Bidding.{vulnerability_in, unalerted, call_in, calls_from, is_bid, strain, next_seat, with_call, names, first_to_name};
-ghost use Rattle.lin.specs.BiddingSteps.{last_text};
+ghost use Rattle.lin.specs.BiddingSteps.{call_at, last_text};
 ghost use Rattle.lin.specs.Pairs.{pairs_of};
+ghost use Rattle.lin.specs.PairSteps.{pair_of};
 
-use crate::pairs::{NextPair, next_pair, part};
+use crate::pairs::{Command, PairAt, pairs_in};
 use reader::words::{call_code, same_word};
 use tables::letters::Conventions;
+use tables::page::Page;
 use writer::tokens::put_call;
 
+const X: u8 = 36;
+
+const XX: u8 = 37;
+
 // n or ns is 1, e or ew 2, b, both or all 3, anything else 0.
+#[tactic(auto, unfolding(crate::specs::Bidding::vulnerability_in))]
 pub(crate) fn vulnerability_in(t: &[u8]) -> u8
     ensures { (result ≡ vulnerability_in t.now) × (result ≤ 3) }
 {
@@ -30,33 +37,46 @@ pub(crate) fn vulnerability_in(t: &[u8]) -> u8
 fn less_alerts(s: &[u8]) -> &[u8]
     ensures { result.now ≡ unalerted s.now }
 {
-    let mut e = s.len();
-    while e > 0 {
-        let last = e - 1;
-        if s[last] == 33 {
-            e = last;
-        } else {
-            return &s[..e];
+    let mut kept = s;
+    while let Some((last, front)) = kept.split_last() {
+        if *last != b'!' {
+            return kept;
         }
+        kept = front;
     }
-    &s[..0]
+    kept
 }
 
 // The code of a call, 47 where the value is none.
+#[tactic(auto, unfolding(crate::specs::Bidding::call_in, crate::specs::Bidding::call_named))]
 pub(crate) fn call_in(c: Conventions, value: &[u8]) -> u8
     ensures { (result ≡ call_in c value.now) × (result ≤ 47) }
 {
     let t = less_alerts(value);
     if same_word(b"D", t) {
-        return 36;
+        return X;
     }
     if same_word(b"R", t) {
-        return 37;
+        return XX;
     }
-    call_code(c, t)
+    call_code(c, t).unwrap_or(47)
 }
 
-// The last bid, 0 where there is none; the seat that made it, counted from the dealer; the last X (36) or XX (37) behind it, or 0.
+// The call of a pair, where it is one.
+pub(crate) fn call_at(c: Conventions, p: PairAt) -> Option<u8>
+    ensures { result ≡ call_at c (pair_of p.entry) }
+{
+    if p.command == Command::Mb {
+        let code = call_in(c, p.value);
+        if code < 47 {
+            return Some(code);
+        }
+    }
+    None
+}
+
+// The last bid, 0 where there is none; the seat that made it, counted from the dealer; the last X or XX behind it, or 0. An Option would be
+// no plainer: the plain board that the specs compare with has codes for none too, 4 for declarer and trump, to which each use would go back.
 #[derive(Clone, Copy)]
 pub struct Contract {
     pub bid: u8,
@@ -67,17 +87,17 @@ pub struct Contract {
 fn is_bid(code: u8) -> bool
     ensures { result ≡ is_bid code }
 {
-    (0 < code) & (code < 36)
+    matches!(code, 1..=35)
 }
 
 pub(crate) fn next_seat(seat: u8) -> u8
-    requires { seat ≤ 4 }
     ensures { (result ≡ next_seat seat) × (result ≤ 3) }
 {
-    (seat + 1) % 4
+    (seat % 4 + 1) % 4
 }
 
 // The contract after one more call, by a seat.
+#[tactic(auto, unfolding(crate::specs::Bidding::with_call))]
 pub(crate) fn with_call(seat: u8, k: Contract, code: u8) -> Contract
     ensures { result ≡ with_call seat k code }
 {
@@ -88,27 +108,24 @@ pub(crate) fn with_call(seat: u8, k: Contract, code: u8) -> Contract
             doubling: 0,
         };
     }
-    if ((code == 36) | (code == 37)) & (0 < k.bid) {
+    if ((code == X) | (code == XX)) & (0 < k.bid) {
         return Contract {
-            bid: k.bid,
-            bidder: k.bidder,
             doubling: code,
+            ..k
         };
     }
     k
 }
 
 // The strain of a bid; 0, as of clubs, without one.
-fn strain_of(bid: u8) -> u8
+pub(crate) fn strain_of(bid: u8) -> u8
     ensures { result ≡ strain bid }
 {
-    if bid == 0 {
-        return 0;
-    }
-    (bid - 1) % 5
+    bid.saturating_sub(1) % 5
 }
 
 // A bid of the contract's strain by its side.
+#[tactic(auto, unfolding(crate::specs::Bidding::names))]
 fn is_named(k: Contract, seat: u8, code: u8) -> bool
     ensures { result ≡ names k seat code }
 {
@@ -119,36 +136,30 @@ fn is_named(k: Contract, seat: u8, code: u8) -> bool
 pub(crate) fn first_to_name(c: Conventions, text: &[u8], k: Contract) -> u8
     ensures { (result ≡ first_to_name k 0 (calls_from c (pairs_of text.now))) × (result ≤ 4) }
 {
-    let mut at = 0;
     let mut seat: u8 = 0;
-    loop {
-        let NextPair::Found(p) = next_pair(text, at) else {
-            return 4;
+    for p in pairs_in(text) {
+        let Some(code) = call_at(c, p) else {
+            continue;
         };
-        at = p.end + 1;
-        if p.command == 5 {
-            let code = call_in(c, part(text, p.start, p.end));
-            if code < 47 {
-                if is_named(k, seat, code) {
-                    return seat;
-                }
-                seat = next_seat(seat);
-                continue;
-            }
+        if is_named(k, seat, code) {
+            return seat;
         }
+        seat = next_seat(seat);
     }
+    4
 }
 
 // A contract: the bid, then X or XX.
-pub(crate) fn put_contract(page: &mut [u8], at: usize, c: Conventions, k: Contract) -> usize
-    ensures { Puts page.old at (last_text c k) page.new result }
+#[tactic(auto, unfolding(crate::specs::BiddingSteps::last_text))]
+pub(crate) fn put_contract(page: &mut Page, c: Conventions, k: Contract)
+    ensures { Puts page.old (last_text c k) page.new }
 {
     if k.bid == 0 {
-        return at;
+        return;
     }
-    let a = put_call(page, at, c, k.bid as usize);
+    put_call(page, c, k.bid as usize);
     if k.doubling == 0 {
-        return a;
+        return;
     }
-    put_call(page, a, c, k.doubling as usize)
+    put_call(page, c, k.doubling as usize);
 }

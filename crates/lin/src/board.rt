@@ -1,134 +1,98 @@
 // A board's lines on the page.
 ghost use Rattle.std.specs.Prelude.{◌≡◌, [], cond, ◌≤◌, ◌<◌};
-ghost use Rattle.reader.specs.Words.{trump_suit};
-ghost use Rattle.writer.specs.Puts.{Puts};
+ghost use Rattle.tables.specs.Puts.{Puts};
 ghost use Rattle.writer.specs.Items.{tokens_text};
 ghost use Rattle.lin.specs.Pairs.{pairs_of};
-ghost use Rattle.lin.specs.Bidding.{calls_from, strain, declarer_of};
+ghost use Rattle.lin.specs.Bidding.{calls_from, declarer_of};
 ghost use Rattle.lin.specs.BoardSteps.{lin_head_text, lin_result_text, call_tokens, lin_auction_text, lin_play_text, survey_text};
 
-use crate::bidding::{Contract, call_in, first_to_name, next_seat, put_contract};
-use crate::pairs::{NextPair, next_pair, part};
+use crate::bidding::{Contract, call_at, first_to_name, next_seat, put_contract, strain_of};
+use crate::pairs::pairs_in;
 use crate::playing::put_tricks;
 use crate::survey::Survey;
 use reader::deal::Hands;
 use tables::letters::Conventions;
+use tables::page::Page;
 use writer::auction::{put_before, put_last};
 use writer::deal::put_deal;
-use writer::put::put_bytes;
 use writer::tokens::{put_call, put_seat, put_vulnerability};
 
 // From Event to Deal.
-fn put_head(
-    page: &mut [u8],
-    at: usize,
-    c: Conventions,
-    dealer: usize,
-    vulnerability: usize,
-    h: Hands,
-) -> usize
+fn put_head(page: &mut Page, c: Conventions, dealer: usize, vulnerability: usize, h: Hands)
     requires { dealer < 4 }
-    ensures { Puts page.old at (lin_head_text c dealer vulnerability h) page.new result }
+    ensures { Puts page.old (lin_head_text c dealer vulnerability h) page.new }
 {
-    let a = put_bytes(
-        page,
-        at,
+    page.put_text(
         b"[Event \"\"]\n[Site \"\"]\n[Date \"\"]\n[West \"\"]\n[North \"\"]\n[East \"\"]\n[South \"\"]\n[Dealer \"",
     );
-    let b = put_seat(page, a, c, dealer);
-    let d = put_bytes(page, b, b"\"]\n[Vulnerable \"");
-    let e = put_vulnerability(page, d, vulnerability);
-    let f = put_bytes(page, e, b"\"]\n[Deal \"");
-    put_deal(page, f, c, dealer, h)
+    put_seat(page, c, dealer);
+    page.put_text(b"\"]\n[Vulnerable \"");
+    put_vulnerability(page, vulnerability);
+    page.put_text(b"\"]\n[Deal \"");
+    put_deal(page, c, dealer, h);
 }
 
 // From the end of Deal to Result.
-fn put_result(page: &mut [u8], at: usize, c: Conventions, declarer: usize, k: Contract) -> usize
-    ensures { Puts page.old at (lin_result_text c declarer k) page.new result }
+fn put_result(page: &mut Page, c: Conventions, declarer: usize, k: Contract)
+    ensures { Puts page.old (lin_result_text c declarer k) page.new }
 {
-    let a = put_bytes(page, at, b"\"]\n[Scoring \"\"]\n[Declarer \"");
-    let b = put_seat(page, a, c, declarer);
-    let d = put_bytes(page, b, b"\"]\n[Contract \"");
-    let e = put_contract(page, d, c, k);
-    put_bytes(page, e, b"\"]\n[Result \"\"]\n")
+    page.put_text(b"\"]\n[Scoring \"\"]\n[Declarer \"");
+    put_seat(page, c, declarer);
+    page.put_text(b"\"]\n[Contract \"");
+    put_contract(page, c, k);
+    page.put_text(b"\"]\n[Result \"\"]\n");
 }
 
 // The calls, four a line.
-fn put_calls(c: Conventions, text: &[u8], page: &mut [u8], at: usize) -> usize
-    ensures { Puts page.old at (tokens_text 0 (call_tokens c (calls_from c (pairs_of text.now)))) page.new result }
+fn put_calls(page: &mut Page, c: Conventions, text: &[u8])
+    ensures { Puts page.old (tokens_text 0 (call_tokens c (calls_from c (pairs_of text.now)))) page.new }
 {
-    let mut k = at;
     let mut n = 0;
-    let mut here = 0;
-    loop {
-        let NextPair::Found(p) = next_pair(text, here) else {
-            return put_last(page, k, n);
+    for p in pairs_in(text) {
+        let Some(code) = call_at(c, p) else {
+            continue;
         };
-        here = p.end + 1;
-        if p.command == 5 {
-            let code = call_in(c, part(text, p.start, p.end));
-            if code < 47 {
-                let a = put_before(page, k, n);
-                k = put_call(page, a, c, code as usize);
-                n += 1;
-                continue;
-            }
-        }
+        put_before(page, n);
+        put_call(page, c, code as usize);
+        n += 1;
     }
+    put_last(page, n);
 }
 
 // The auction, where there are calls.
-fn put_auction(c: Conventions, text: &[u8], s: Survey, page: &mut [u8], at: usize) -> usize
-    ensures { Puts page.old at (cond s.called (lin_auction_text c s.deal.dealer (calls_from c (pairs_of text.now))) []) page.new result }
+fn put_auction(page: &mut Page, c: Conventions, text: &[u8], s: Survey)
+    ensures { Puts page.old (cond s.called (lin_auction_text c s.deal.dealer (calls_from c (pairs_of text.now))) []) page.new }
 {
     if s.called {
-        let d = s.deal;
-        let a = put_bytes(page, at, b"[Auction \"");
-        let b = put_seat(page, a, c, d.dealer);
-        let e = put_bytes(page, b, b"\"]\n");
-        return put_calls(c, text, page, e);
+        page.put_text(b"[Auction \"");
+        put_seat(page, c, s.deal.dealer);
+        page.put_text(b"\"]\n");
+        put_calls(page, c, text);
     }
-    at
-}
-
-// The trump suit of a bid, 4 for notrump.
-fn trump_of(bid: u8) -> usize
-    requires { 0 < bid }
-    ensures { result ≡ trump_suit (strain bid) }
-{
-    ((bid - 1) % 5) as usize
 }
 
 // The play, where there are a bid and cards.
-fn put_play(
-    c: Conventions,
-    text: &[u8],
-    s: Survey,
-    declarer: u8,
-    page: &mut [u8],
-    at: usize,
-) -> usize
-    requires { declarer ≤ 4 }
-    ensures { Puts page.old at (lin_play_text c s declarer (pairs_of text.now)) page.new result }
+fn put_play(page: &mut Page, c: Conventions, text: &[u8], s: Survey, declarer: u8)
+    ensures { Puts page.old (lin_play_text c s declarer (pairs_of text.now)) page.new }
 {
-    let k = s.contract;
-    if k.bid == 0 {
-        return at;
+    let bid = s.contract.bid;
+    if bid == 0 {
+        return;
     }
     if s.played {
         let lead = next_seat(declarer) as usize;
-        let a = put_bytes(page, at, b"[Play \"");
-        let b = put_seat(page, a, c, lead);
-        let e = put_bytes(page, b, b"\"]\n");
-        return put_tricks(c, text, lead, trump_of(k.bid), page, e);
+        page.put_text(b"[Play \"");
+        put_seat(page, c, lead);
+        page.put_text(b"\"]\n");
+        put_tricks(page, c, text, lead, strain_of(bid) as usize);
     }
-    at
 }
 
 // The declarer, 4 without a bid.
+#[tactic(auto, unfolding(crate::specs::Bidding::declarer_of))]
 fn declarer_of(c: Conventions, text: &[u8], dealer: usize, k: Contract) -> u8
     requires { dealer ≤ 3 }
-    ensures { (result ≡ declarer_of dealer k (calls_from c (pairs_of text.now))) × (result ≤ 4) }
+    ensures { result ≡ declarer_of dealer k (calls_from c (pairs_of text.now)) }
 {
     if k.bid == 0 {
         return 4;
@@ -136,17 +100,16 @@ fn declarer_of(c: Conventions, text: &[u8], dealer: usize, k: Contract) -> u8
     ((dealer as u8) + first_to_name(c, text, k)) % 4
 }
 
-// All lines of a board of which s is known, and whose hands make a deal.
-pub(crate) fn put_board(c: Conventions, text: &[u8], s: Survey, page: &mut [u8], at: usize) -> usize
+// All lines of a board of which s is known, and whose hands these are.
+pub(crate) fn put_board(page: &mut Page, c: Conventions, text: &[u8], s: Survey, hands: Hands)
     requires { s.deal.dealer ≤ 3 }
-    ensures { Puts page.old at (survey_text c s (pairs_of text.now)) page.new result }
+    ensures { Puts page.old (survey_text c s hands (pairs_of text.now)) page.new }
 {
-    let d = s.deal;
-    let hands = d.hands;
+    let dealer = s.deal.dealer;
     let k = s.contract;
-    let declarer = declarer_of(c, text, d.dealer, k);
-    let a = put_head(page, at, c, d.dealer, s.vulnerability as usize, hands);
-    let b = put_result(page, a, c, declarer as usize, k);
-    let e = put_auction(c, text, s, page, b);
-    put_play(c, text, s, declarer, page, e)
+    let declarer = declarer_of(c, text, dealer, k);
+    put_head(page, c, dealer, s.vulnerability as usize, hands);
+    put_result(page, c, declarer as usize, k);
+    put_auction(page, c, text, s);
+    put_play(page, c, text, s, declarer);
 }

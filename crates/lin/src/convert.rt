@@ -6,7 +6,7 @@ ghost use Rattle.lin.specs.ConversionSteps.{ConvertingEnded};
 
 use crate::pieces::{Progress, put_boards};
 use tables::letters::{Conventions, built_in};
-use tables::page::finish;
+use tables::page::{Page, finish};
 use tables::refused::Refused;
 use writer::write::clear;
 
@@ -52,21 +52,22 @@ impl Refused for LinRefusal {
     }
 }
 
-// What was put; the page is set to 0 where it is refused.
-fn end_converting(g: Progress, page: &mut [u8]) -> Result<Converted, LinRefusal>
-    ensures { ConvertingEnded g page.old result page.new }
+// The answer for what was put, n bytes; the page is set to 0 where it is a refusal.
+fn end_converting(put: Option<Progress>, n: usize, page: &mut [u8]) -> Result<Converted, LinRefusal>
+    ensures { ConvertingEnded put n page.old result page.new }
 {
-    if g.any & g.good {
-        let n = g.at;
-        if n <= page.len() {
-            finish(page, n);
-            return Ok(Converted {
-                bytes: n as u64,
-                boards: g.boards,
-            });
+    if let Some(g) = put {
+        if g.any {
+            if n <= page.len() {
+                let _ = finish(page, n);
+                return Ok(Converted {
+                    bytes: n as u64,
+                    boards: g.boards,
+                });
+            }
+            clear(page);
+            return Err(LinRefusal::PageFull(n as u64));
         }
-        clear(page);
-        return Err(LinRefusal::PageFull(n as u64));
     }
     clear(page);
     Err(LinRefusal::NoDeal)
@@ -85,8 +86,10 @@ pub fn lin_to_pbn_with(
         clear(page);
         return Err(LinRefusal::Overlong(n as u64));
     }
-    let g = put_boards(c, text, page);
-    end_converting(g, page)
+    let mut out = Page::new(page);
+    let put = put_boards(&mut out, c, text);
+    let size = out.at;
+    end_converting(put, size, page)
 }
 
 // Converts a text.

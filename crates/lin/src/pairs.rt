@@ -1,26 +1,40 @@
 // The pairs of a text, `command|value|`.
-ghost use Rattle.std.specs.Prelude.{◌≡◌, ◌≤◌};
+ghost use Rattle.std.specs.Prelude.{◌≡◌};
 ghost use Rattle.lin.specs.Pairs.{command_of, pairs_of, has_pair};
-ghost use Rattle.lin.specs.PairSteps.{two_same, command_two, NextIs, between};
+ghost use Rattle.lin.specs.PairSteps.{two_same, command_two, NextIs, pairs_room, pairs_left};
 
 use tables::letters::to_capital;
 use tables::text::{from, index_of, trim, upto};
 
-// A pair of a text: its command's number, and where its value starts and ends. The next pair starts behind the bar at its end.
+// The commands that count: Heading is mn or pn, Other any that does not count.
+#[derive(Clone, Copy, PartialEq, Eq)]
+pub enum Command {
+    Qx,
+    Heading,
+    Md,
+    Sv,
+    Mb,
+    Pc,
+    Other,
+}
+
+// A pair of a text: its command, its value as it stands, and the place behind it, where the next one starts.
 #[derive(Clone, Copy)]
-pub struct PairAt {
-    pub command: u8,
-    pub start: usize,
+pub(crate) struct PairAt<'a> {
+    pub command: Command,
+    pub value: &'a [u8],
     pub end: usize,
 }
 
+// The pairs of a text from a place on.
 #[derive(Clone, Copy)]
-pub enum NextPair {
-    Found(PairAt),
-    NoPair,
+pub(crate) struct Pairs<'a> {
+    pub text: &'a [u8],
+    pub at: usize,
 }
 
 // The letters a and b, in either case, are the word of the capitals x and y.
+#[tactic(auto, unfolding(crate::specs::PairSteps::two_same))]
 fn is_word(x: u8, y: u8, a: u8, b: u8) -> bool
     ensures { result ≡ two_same x y a b }
 {
@@ -28,81 +42,76 @@ fn is_word(x: u8, y: u8, a: u8, b: u8) -> bool
 }
 
 // The command of two letters.
-fn command_of_two(a: u8, b: u8) -> u8
-    ensures { (result ≡ command_two a b) × (result ≤ 6) }
+#[tactic(auto, unfolding(crate::specs::PairSteps::command_two))]
+fn command_of_two(a: u8, b: u8) -> Command
+    ensures { result ≡ command_two a b }
 {
-    if is_word(81, 88, a, b) {
-        return 1;
+    if is_word(b'Q', b'X', a, b) {
+        return Command::Qx;
     }
-    if is_word(77, 78, a, b) | is_word(80, 78, a, b) {
-        return 2;
+    if is_word(b'M', b'N', a, b) | is_word(b'P', b'N', a, b) {
+        return Command::Heading;
     }
-    if is_word(77, 68, a, b) {
-        return 3;
+    if is_word(b'M', b'D', a, b) {
+        return Command::Md;
     }
-    if is_word(83, 86, a, b) {
-        return 4;
+    if is_word(b'S', b'V', a, b) {
+        return Command::Sv;
     }
-    if is_word(77, 66, a, b) {
-        return 5;
+    if is_word(b'M', b'B', a, b) {
+        return Command::Mb;
     }
-    if is_word(80, 67, a, b) {
-        return 6;
+    if is_word(b'P', b'C', a, b) {
+        return Command::Pc;
     }
-    0
+    Command::Other
 }
 
-// The number of a command, 0 of one that does not count.
-fn command_of(s: &[u8]) -> u8
-    ensures { (result ≡ command_of s.now) × (result ≤ 6) }
+fn command_of(s: &[u8]) -> Command
+    ensures { result ≡ command_of s.now }
 {
     let t = trim(s);
     if t.len() == 2 {
         return command_of_two(t[0], t[1]);
     }
-    0
+    Command::Other
 }
 
-// The pair that starts at `at`.
-pub(crate) fn next_pair(text: &[u8], at: usize) -> NextPair
-    ensures { NextIs text.now at result }
-{
-    let rest = from(text, at);
-    let bar = index_of(rest, 124);
-    if bar < rest.len() {
-        let behind = from(rest, bar + 1);
-        let start = at + bar + 1;
-        let end = start + index_of(behind, 124);
-        let command = command_of(upto(rest, bar));
-        return NextPair::Found(PairAt {
-            command,
-            start,
-            end,
-        });
+impl<'a> Iterator for Pairs<'a> {
+    type Item = PairAt<'a>;
+
+    ghost next_gives = { NextIs };
+
+    ghost remaining = { pairs_room };
+
+    fn next(&mut self) -> Option<PairAt<'a>> {
+        let rest = from(self.text, self.at);
+        let bar = index_of(rest, b'|');
+        if bar < rest.len() {
+            let behind = from(rest, bar + 1);
+            let value = upto(behind, index_of(behind, b'|'));
+            let command = command_of(upto(rest, bar));
+            let end = self.at + bar + 1 + value.len() + 1;
+            self.at = end;
+            return Some(PairAt {
+                command,
+                value,
+                end,
+            });
+        }
+        None
     }
-    NextPair::NoPair
+}
+
+pub(crate) fn pairs_in(text: &[u8]) -> Pairs<'_>
+    ensures { (result.text.now ≡ text.now) × (result.at ≡ 0) }
+{
+    Pairs { text, at: 0 }
 }
 
 // Whether one of the pairs has the command k.
-pub(crate) fn has_pair(text: &[u8], k: u8) -> bool
+pub(crate) fn has_pair(text: &[u8], k: Command) -> bool
     ensures { result ≡ has_pair k (pairs_of text.now) }
 {
-    let mut at = 0;
-    loop {
-        let NextPair::Found(p) = next_pair(text, at) else {
-            return false;
-        };
-        if p.command == k {
-            return true;
-        }
-        at = p.end + 1;
-    }
-}
-
-// The bytes from start to end.
-pub(crate) fn part(text: &[u8], start: usize, end: usize) -> &[u8]
-    requires { start ≤ end }
-    ensures { result.now ≡ between text.now start end }
-{
-    upto(from(text, start), end - start)
+    pairs_in(text).any(|p| p.command == k)
 }

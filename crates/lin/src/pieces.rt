@@ -1,27 +1,24 @@
 // Which pairs make a board (parse_lin_file, split_at_boards), and the boards put one after the other.
 ghost use Rattle.std.specs.Prelude.{◌≡◌, ◌≤◌, ◌^◌};
 ghost use Rattle.tables.specs.Text.{lines};
-ghost use Rattle.writer.specs.Puts.{Puts};
+ghost use Rattle.tables.specs.Puts.{Puts};
 ghost use Rattle.lin.specs.Pairs.{pairs_of};
 ghost use Rattle.lin.specs.Pieces.{split, with_deal, line_pieces, board_pieces};
-ghost use Rattle.lin.specs.PieceSteps.{no_progress, above_text, any_bits, Goes, GoesIf, GoesAll};
+ghost use Rattle.lin.specs.PieceSteps.{NextLine, lines_room, no_progress, above_text, any_bits, Goes, GoesIf, GoesAll};
 
 use crate::board::put_board;
-use crate::pairs::{NextPair, has_pair, next_pair, part};
+use crate::pairs::{Command, has_pair, pairs_in};
 use crate::survey::survey_of;
 use reader::deal::Hands;
 use tables::letters::Conventions;
+use tables::page::Page;
 use tables::text::{from, index_of, trim, upto};
-use writer::put::{put_byte, put_bytes};
 
-// How far the page has come: the place behind what was put, the boards, whether one of them has a card, and whether all make deals. Once
-// one does not, nothing more is put.
+// How far the page has come: the boards, which all make deals, and whether one of them has a card.
 #[derive(Clone, Copy)]
 pub struct Progress {
-    pub at: usize,
     pub boards: u64,
     pub any: bool,
-    pub good: bool,
 }
 
 // Before the first board.
@@ -29,120 +26,123 @@ fn no_progress() -> Progress
     ensures { result ≡ no_progress }
 {
     Progress {
-        at: 0,
         boards: 0,
         any: false,
-        good: true,
     }
 }
 
 // The built-in header before the first board, an empty line before any other.
-fn put_above(page: &mut [u8], at: usize, first: bool) -> usize
-    ensures { Puts page.old at (above_text first) page.new result }
+#[tactic(auto, unfolding(crate::specs::PieceSteps::above_text, writer::specs::Pages::built_in_header))]
+fn put_above(page: &mut Page, first: bool)
+    ensures { Puts page.old (above_text first) page.new }
 {
     if first {
-        return put_bytes(page, at, b"% PBN 2.1\n% EXPORT\n\n");
+        page.put_text(b"% PBN 2.1\n% EXPORT\n\n");
+        return;
     }
-    put_byte(page, at, 10)
+    page.put_byte(10);
 }
 
+#[tactic(auto, unfolding(crate::specs::PieceSteps::any_bits))]
 fn has_cards(h: Hands) -> bool
     ensures { result ≡ any_bits h }
 {
     (h.north != 0) | ((h.east != 0) | ((h.south != 0) | (h.west != 0)))
 }
 
-// One more board, from the part of the text that is its own.
-fn put_piece(c: Conventions, text: &[u8], page: &mut [u8], g: Progress) -> Progress
+// One more board, from the part of the text that is its own; None where it makes no deal.
+fn put_piece(page: &mut Page, c: Conventions, text: &[u8], g: Progress) -> Option<Progress>
     requires { g.boards ≤ 2 ^ 63 }
     ensures { Goes c (pairs_of text.now) page.old g page.new result }
 {
-    if g.good {
-        let s = survey_of(c, text);
-        let d = s.deal;
-        if d.good {
-            let hands = d.hands;
-            let above = put_above(page, g.at, g.boards == 0);
-            let at = put_board(c, text, s, page, above);
-            return Progress {
-                at,
-                boards: g.boards + 1,
-                any: g.any | has_cards(hands),
-                good: true,
-            };
-        }
-        return Progress {
-            at: g.at,
-            boards: g.boards,
-            any: g.any,
-            good: false,
-        };
-    }
-    g
+    let s = survey_of(c, text);
+    let hands = s.deal.hands?;
+    put_above(page, g.boards == 0);
+    put_board(page, c, text, s, hands);
+    Some(Progress {
+        boards: g.boards + 1,
+        any: g.any | has_cards(hands),
+    })
 }
 
 // The same, if the part has an md.
-fn put_dealt(c: Conventions, text: &[u8], page: &mut [u8], g: Progress) -> Progress
+fn put_dealt(page: &mut Page, c: Conventions, text: &[u8], g: Progress) -> Option<Progress>
     requires { g.boards ≤ 2 ^ 63 }
     ensures { GoesIf c (pairs_of text.now) page.old g page.new result }
 {
-    if has_pair(text, 3) {
-        return put_piece(c, text, page, g);
+    if has_pair(text, Command::Md) {
+        return put_piece(page, c, text, g);
     }
-    g
+    Some(g)
+}
+
+// The lines of a text that are left, without their LFs.
+#[derive(Clone, Copy)]
+pub(crate) struct Lines<'a> {
+    pub rest: &'a [u8],
+}
+
+impl<'a> Iterator for Lines<'a> {
+    type Item = &'a [u8];
+
+    ghost next_gives = { NextLine };
+
+    ghost remaining = { lines_room };
+
+    fn next(&mut self) -> Option<&'a [u8]> {
+        if self.rest.len() > 0 {
+            let line = upto(self.rest, index_of(self.rest, b'\n'));
+            self.rest = from(self.rest, line.len() + 1);
+            return Some(line);
+        }
+        None
+    }
 }
 
 // The boards of a text without a qx: its lines.
-fn put_lines(c: Conventions, text: &[u8], page: &mut [u8]) -> Progress
+fn put_lines(page: &mut Page, c: Conventions, text: &[u8]) -> Option<Progress>
     ensures { GoesAll c (line_pieces (lines text.now)) page.old page.new result }
 {
     let mut g = no_progress();
-    let mut at = 0;
-    while at < text.len() {
-        let rest = from(text, at);
-        let n = index_of(rest, 10);
-        at = at + n + 1;
-        let line = trim(upto(rest, n));
+    for l in (Lines { rest: text }) {
+        let line = trim(l);
         if line.len() > 0 {
-            g = put_piece(c, line, page, g);
+            g = put_piece(page, c, line, g)?;
             continue;
         }
     }
-    g
+    Some(g)
 }
 
 // The boards of a text with a qx; run is the place behind the last pair that is no mn or pn.
-fn put_split(c: Conventions, text: &[u8], page: &mut [u8]) -> Progress
+fn put_split(page: &mut Page, c: Conventions, text: &[u8]) -> Option<Progress>
     ensures { GoesAll c (with_deal (split (pairs_of text.now))) page.old page.new result }
 {
     let mut g = no_progress();
     let mut start = 0;
     let mut run = 0;
-    let mut here = 0;
-    loop {
-        let NextPair::Found(p) = next_pair(text, here) else {
-            return put_dealt(c, from(text, start), page, g);
-        };
-        here = p.end + 1;
-        if p.command == 2 {
+    for p in pairs_in(text) {
+        if p.command == Command::Heading {
             continue;
         }
-        if (p.command == 1) & (start < run) {
-            g = put_dealt(c, part(text, start, run), page, g);
+        if (p.command == Command::Qx) & (start < run) {
+            g = put_dealt(page, c, upto(from(text, start), run - start), g)?;
             start = run;
-            run = here;
+            run = p.end;
             continue;
         }
-        run = here;
+        run = p.end;
     }
+    put_dealt(page, c, from(text, start), g)
 }
 
-// All boards of a text.
-pub(crate) fn put_boards(c: Conventions, text: &[u8], page: &mut [u8]) -> Progress
+// All boards of a text; None, and nothing told of the page, where one makes no deal.
+#[tactic(auto, unfolding(crate::specs::Pieces::board_pieces))]
+pub(crate) fn put_boards(page: &mut Page, c: Conventions, text: &[u8]) -> Option<Progress>
     ensures { GoesAll c (board_pieces text.now) page.old page.new result }
 {
-    if has_pair(text, 1) {
-        return put_split(c, text, page);
+    if has_pair(text, Command::Qx) {
+        return put_split(page, c, text);
     }
-    put_lines(c, text, page)
+    put_lines(page, c, text)
 }

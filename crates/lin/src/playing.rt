@@ -1,29 +1,45 @@
 // The cards (parse_card), their tricks, and the data lines of the play.
 ghost use Rattle.std.specs.Prelude.{◌≡◌, ◌≤◌};
-ghost use Rattle.writer.specs.Puts.{Puts};
+ghost use Rattle.tables.specs.Puts.{Puts};
 ghost use Rattle.lin.specs.Pairs.{pairs_of};
+ghost use Rattle.lin.specs.PairSteps.{pair_of};
 ghost use Rattle.lin.specs.Playing.{card_in, cards_played, slot_at, slot_word};
-ghost use Rattle.lin.specs.PlayingSteps.{word_text, trick_text, FineTrick, taken, empty_trick, next_trick, trick_texts, last_line};
+ghost use Rattle.lin.specs.PlayingSteps.{card_at, word_text, trick_text, FineTrick, taken, empty_trick, next_trick, trick_texts, last_line};
 
-use crate::pairs::{NextPair, next_pair, part};
+use crate::pairs::{Command, PairAt, pairs_in};
 use reader::play::{Slots, no_slots, slot_of, winner, with_slot};
 use reader::words::card_named;
 use tables::letters::Conventions;
+use tables::page::Page;
 use tables::text::trim;
-use writer::put::{put_byte, put_bytes};
 use writer::tokens::put_card;
 
 // A card: exactly a suit and a rank; 52 for any other text.
+#[tactic(auto, unfolding(crate::specs::Playing::card_in))]
 pub(crate) fn card_in(c: Conventions, t: &[u8]) -> u8
     ensures { (result ≡ card_in c t.now) × (result ≤ 52) }
 {
     if t.len() == 2 {
-        return card_named(c, t);
+        return card_named(c, t).unwrap_or(52);
     }
     52
 }
 
-// A trick of at most four cards: its leader, its cards, and how many they are.
+// The card of a pair, where it is one.
+pub(crate) fn card_at(c: Conventions, p: PairAt) -> Option<u8>
+    ensures { result ≡ card_at c (pair_of p.entry) }
+{
+    if p.command == Command::Pc {
+        let card = card_in(c, trim(p.value));
+        if card < 52 {
+            return Some(card);
+        }
+    }
+    None
+}
+
+// A trick of at most four cards: its leader, its cards, and how many they are. That it is fine stands in the contracts, and not in a ghost
+// field, since the specs make tricks too and would have to prove it at each.
 #[derive(Clone, Copy)]
 pub struct LinTrick {
     pub leader: usize,
@@ -31,6 +47,7 @@ pub struct LinTrick {
     pub count: usize,
 }
 
+#[tactic(auto, unfolding(crate::specs::Playing::slot_at))]
 fn slot_at(s: Slots, k: usize) -> usize
     ensures { result ≡ slot_at s k }
 {
@@ -43,48 +60,50 @@ fn slot_at(s: Slots, k: usize) -> usize
 }
 
 // A card, or `-`.
-fn put_slot(page: &mut [u8], at: usize, c: Conventions, k: usize) -> usize
-    ensures { Puts page.old at (slot_word c k) page.new result }
+#[tactic(auto, unfolding(crate::specs::Playing::slot_word))]
+fn put_slot(page: &mut Page, c: Conventions, k: usize)
+    ensures { Puts page.old (slot_word c k) page.new }
 {
     if k < 52 {
-        return put_card(page, at, c, k);
+        put_card(page, c, k);
+        return;
     }
-    put_bytes(page, at, b"-")
+    page.put_text(b"-");
 }
 
 // The word of the j-th seat from the opening leader on.
-fn put_word(page: &mut [u8], at: usize, c: Conventions, lead: usize, t: LinTrick, j: usize) -> usize
+fn put_word(page: &mut Page, c: Conventions, lead: usize, t: LinTrick, j: usize)
     requires { (lead ≤ 3) × (j ≤ 4) × FineTrick t }
-    ensures { Puts page.old at (word_text c lead t j) page.new result }
+    ensures { Puts page.old (word_text c lead t j) page.new }
 {
-    let s = t.slots;
-    put_slot(page, at, c, slot_at(s, slot_of(lead, j, t.leader)))
+    put_slot(page, c, slot_at(t.slots, slot_of(lead, j, t.leader)));
 }
 
 // A trick's line: four words by seat from the opening leader on.
-fn put_line(page: &mut [u8], at: usize, c: Conventions, lead: usize, t: LinTrick) -> usize
+fn put_line(page: &mut Page, c: Conventions, lead: usize, t: LinTrick)
     requires { (lead ≤ 3) × FineTrick t }
-    ensures { Puts page.old at (trick_text c lead t) page.new result }
+    ensures { Puts page.old (trick_text c lead t) page.new }
 {
-    let a = put_word(page, at, c, lead, t, 0);
-    let b = put_byte(page, a, 32);
-    let d = put_word(page, b, c, lead, t, 1);
-    let e = put_byte(page, d, 32);
-    let f = put_word(page, e, c, lead, t, 2);
-    let g = put_byte(page, f, 32);
-    let h = put_word(page, g, c, lead, t, 3);
-    put_byte(page, h, 10)
+    put_word(page, c, lead, t, 0);
+    page.put_byte(32);
+    put_word(page, c, lead, t, 1);
+    page.put_byte(32);
+    put_word(page, c, lead, t, 2);
+    page.put_byte(32);
+    put_word(page, c, lead, t, 3);
+    page.put_byte(10);
 }
 
 // The line of a last trick, where it has a card.
-fn put_rest(page: &mut [u8], at: usize, c: Conventions, lead: usize, t: LinTrick) -> usize
+#[tactic(auto, unfolding(crate::specs::PlayingSteps::last_line))]
+fn put_rest(page: &mut Page, c: Conventions, lead: usize, t: LinTrick)
     requires { (lead ≤ 3) × FineTrick t }
-    ensures { Puts page.old at (last_line c lead t) page.new result }
+    ensures { Puts page.old (last_line c lead t) page.new }
 {
     if t.count == 0 {
-        return at;
+        return;
     }
-    put_line(page, at, c, lead, t)
+    put_line(page, c, lead, t);
 }
 
 // One more card.
@@ -124,37 +143,22 @@ fn next_trick(trump: usize, t: LinTrick) -> LinTrick
 }
 
 // The lines of the tricks; lead is the opening leader.
-pub(crate) fn put_tricks(
-    c: Conventions,
-    text: &[u8],
-    lead: usize,
-    trump: usize,
-    page: &mut [u8],
-    at: usize,
-) -> usize
+pub(crate) fn put_tricks(page: &mut Page, c: Conventions, text: &[u8], lead: usize, trump: usize)
     requires { lead ≤ 3 }
-    ensures { Puts page.old at (trick_texts c lead trump (empty_trick lead) (cards_played c (pairs_of text.now))) page.new result }
+    ensures { Puts page.old (trick_texts c lead trump (empty_trick lead) (cards_played c (pairs_of text.now))) page.new }
 {
-    let mut k = at;
-    let mut here = 0;
     let mut t = new_trick(lead);
-    loop {
-        let NextPair::Found(p) = next_pair(text, here) else {
-            return put_rest(page, k, c, lead, t);
+    for p in pairs_in(text) {
+        let Some(card) = card_at(c, p) else {
+            continue;
         };
-        here = p.end + 1;
-        if p.command == 6 {
-            let card = card_in(c, trim(part(text, p.start, p.end)));
-            if card < 52 {
-                let u = take_card(t, card);
-                if u.count == 4 {
-                    k = put_line(page, k, c, lead, u);
-                    t = next_trick(trump, u);
-                    continue;
-                }
-                t = u;
-                continue;
-            }
+        let u = take_card(t, card);
+        if u.count == 4 {
+            put_line(page, c, lead, u);
+            t = next_trick(trump, u);
+            continue;
         }
+        t = u;
     }
+    put_rest(page, c, lead, t);
 }

@@ -6,6 +6,7 @@ use native.Mathlib.Omega.{arith}
 use lib.Dec.{ltb}
 use lib.ListN.{length, take, drop, replicate}
 use lib.Seq.{drop-drop, take_at, drop_at}
+use Rattle.std.specs.Simd.{first_chunks}
 use borrow.Author.Tests.{ltb-false}
 use Rattle.std.specs.Prelude.{Ok, is_ok}
 use Rattle.tables.specs.declared.letters.Conventions.{Conventions}
@@ -47,6 +48,12 @@ cards_take zero n box h = refl
 cards_take (suc k) zero box h = absurd (omega arith)
 cards_take (suc k) (suc n) box h = rw (cards_take k n (drop 64 box) (omega arith))
 
+-- The first n of the blocks of 64 words.
+pub chunks_take : (n m : ℕ) (box : List ℕ) → n ≤ m → take n (first_chunks 64 m box) ≡ cards_in n box
+chunks_take zero m box h = refl
+chunks_take (suc n) zero box h = absurd (omega arith)
+chunks_take (suc n) (suc m) box h = rw (chunks_take n m (drop 64 box) (omega arith))
+
 -- The cards from index k on.
 pub cards_drop : (k n : ℕ) (box : List ℕ) → k ≤ n → drop k (cards_in n box) ≡ cards_in (n - k) (drop (64 * k) box)
 cards_drop zero n box h =
@@ -57,13 +64,6 @@ cards_drop (suc k) (suc n) box h =
     let e : 64 + 64 * k ≡ 64 * suc k = omega arith in
     let f : suc n - suc k ≡ n - k = omega arith in
     cards_drop k n (drop 64 box) (omega arith) ∙ rw (drop-drop (64 * k) 64 box, e, f)
-
--- The card at index k and those behind it.
-pub card_step : (n k : ℕ) (box : List ℕ) → k < n → cards_in (n - k) (drop (64 * k) box) ≡ card_here k box ∷ cards_in (n - (k + 1)) (drop (64 * (k + 1)) box)
-card_step n k box h =
-    let e : n - k ≡ suc (n - (k + 1)) = omega arith in
-    let f : 64 * k + 64 ≡ 64 * (k + 1) = omega arith in
-    rw (e, drop-drop 64 (64 * k) box, f)
 
 -- n cards, split at the k-th.
 pub cards_split : (n k : ℕ) (box : List ℕ) → k < n → cards_in n box ≡ cards_in k box ++ (card_here k box ∷ cards_in (n - suc k) (drop (64 * suc k) box))

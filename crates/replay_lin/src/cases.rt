@@ -1,10 +1,10 @@
 // A case of the recorded answers, taken apart. main.rt has the form of a case.
-ghost use Rattle.std.specs.Prelude.{◌≤◌, length};
+ghost use Rattle.std.specs.Prelude.{◌≤◌, ◌<◌, length, OnSome};
 
-use tables::text::{byte_at, from};
+use recorded::bytes::Bytes;
 
 // What converting answers. After a refusal nothing is written and no board told, without one nothing is carried.
-#[derive(Clone, Copy)]
+#[derive(Clone, Copy, PartialEq, Eq)]
 pub struct Told {
     pub refusal: u64,
     pub carried: u64,
@@ -12,95 +12,43 @@ pub struct Told {
     pub written: u64,
 }
 
-// The lengths of the text, of the lent page and of what is written.
+// `page` is a length.
 #[derive(Clone, Copy)]
-pub struct Lengths {
-    pub text: usize,
-    pub page: usize,
-    pub written: usize,
-}
-
-// A case of size 0 is none.
-#[derive(Clone, Copy)]
-pub struct Case {
+pub struct Case<'a> {
     pub group: u8,
-    pub lengths: Lengths,
+    pub text: &'a [u8],
+    pub page: usize,
     pub told: Told,
-    pub size: usize,
+    pub written: &'a [u8],
+    ghost page_small: { page ≤ 16384 },
 }
 
-fn no_case() -> Case
-    ensures { (result.size ≤ 0) × (result.lengths.page ≤ 16384) }
-{
-    Case {
-        group: 0,
-        lengths: Lengths {
-            text: 0,
-            page: 0,
-            written: 0,
-        },
-        told: Told {
-            refusal: 0,
-            carried: 0,
-            boards: 0,
-            written: 0,
-        },
-        size: 0,
-    }
-}
-
-fn wide(b: u8) -> usize
-    ensures { result ≤ 255 }
-{
-    b as usize
-}
-
-fn two_bytes(s: &[u8]) -> usize
-    ensures { result ≤ 65535 }
-{
-    wide(byte_at(s, 0)) + 256 * wide(byte_at(s, 1))
-}
-
-fn told_of(s: &[u8]) -> Told {
-    Told {
-        refusal: wide(byte_at(s, 0)) as u64,
-        carried: two_bytes(from(s, 1)) as u64,
-        boards: two_bytes(from(s, 3)) as u64,
-        written: two_bytes(from(s, 5)) as u64,
-    }
-}
-
-fn lengths_of(s: &[u8]) -> Lengths
-    ensures { (result.text ≤ 65535) × (result.page ≤ 65535) × (result.written ≤ 65535) }
-{
-    let text = two_bytes(from(s, 1));
-    let page = two_bytes(from(s, 3 + text));
-    let written = two_bytes(from(s, 10 + text));
-    Lengths {
-        text,
-        page,
-        written,
-    }
-}
-
-// The case that s starts with.
-pub fn case_of(s: &[u8]) -> Case
-    ensures { (result.size ≤ length s.now) × (result.lengths.page ≤ 16384) }
-{
-    let group = byte_at(s, 0);
-    let lengths = lengths_of(s);
-    let size = 12 + lengths.text + lengths.written;
-    let told = told_of(from(s, 5 + lengths.text));
-    if size > s.len() {
-        return no_case();
-    }
-    if lengths.page > 16384 {
-        return no_case();
-    }
-    Case {
-        group,
-        lengths,
-        told,
-        size,
+impl<'a> Case<'a> {
+    // The next case.
+    pub fn take(cases: &mut Bytes<'a>) -> Option<Case<'a>>
+        ensures { OnSome result (length cases.new.rest.now < length cases.old.rest.now) }
+    {
+        let group = cases.byte()?;
+        let text = cases.part()?;
+        let page = cases.two_bytes()?;
+        let refusal = u64::from(cases.byte()?);
+        let carried = cases.two_bytes()? as u64;
+        let boards = cases.two_bytes()? as u64;
+        let written = cases.part()?;
+        if page > 16384 {
+            return None;
+        }
+        Some(Case {
+            group,
+            text,
+            page,
+            told: Told {
+                refusal,
+                carried,
+                boards,
+                written: written.len() as u64,
+            },
+            written,
+        })
     }
 }

@@ -6,46 +6,26 @@
 mod cases; // a case taken apart
 mod replay; // a case replayed and compared
 
-use crate::replay::{End, Replayed, replay};
-use std::io::Read;
-use std::{fs, io};
-
-fn print_line(rt: &impl Print, name: &str, n: u64) -> io::Result<()> {
-    println!(rt; "{name}{n}")
-}
-
-fn print_place(rt: &impl Print, what: &str, at: u64) -> io::Result<()> {
-    println!(rt; "{what} at byte {at}")
-}
-
-fn print_end(rt: &impl Print, end: End, compared: u64) -> io::Result<()> {
-    match end {
-        End::Same => println!(rt; "{compared} compared, 0 different"),
-        End::Different(at) => print_place(rt, "different", at),
-        End::NoCase(at) => print_place(rt, "no whole case", at),
-    }
-}
-
-fn print_replayed(rt: &impl Print, r: Replayed) -> io::Result<()> {
-    print_line(rt, "listed: ", r.counts.listed)?;
-    print_line(rt, "refused: ", r.counts.refused)?;
-    print_line(rt, "page too short: ", r.counts.full)?;
-    print_end(rt, r.end, r.compared)
-}
-
-// The whole file is read: as many bytes as may be read may be a part only.
-fn replay_file<R: Print + AllocGlobal>(rt: &R, file: impl Read + Drop) -> io::Result<()> {
-    let mut cases = Vec::new(rt.alloc());
-    file.take(65536).read_to_end(&mut cases)?;
-    if cases.len() == 65536 {
-        return println!(rt; "cases: too long");
-    }
-    print_replayed(rt, replay(&cases))
-}
+use crate::replay::Counts;
+use recorded::cases::replay_all;
+use recorded::report::read_file;
+use std::io;
 
 fn main(rt: HostRuntime) -> io::Result<()> {
-    match fs::open(&rt, "cases") {
-        Ok(file) => replay_file(&rt, file),
-        Err(_) => println!(rt; "cases: not opened"),
+    let Some(cases) = read_file(&rt, "cases", 65536)? else {
+        return Ok(());
+    };
+    let mut counts = Counts {
+        listed: 0,
+        refused: 0,
+        full: 0,
+    };
+    let replayed = replay_all(&mut counts, &cases);
+    println!(rt; "listed: {}", counts.listed)?;
+    println!(rt; "refused: {}", counts.refused)?;
+    println!(rt; "page too short: {}", counts.full)?;
+    match replayed.end {
+        Ok(()) => println!(rt; "{replayed}"),
+        Err(stop) => println!(rt; "{stop}"),
     }
 }

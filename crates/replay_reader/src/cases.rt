@@ -1,10 +1,10 @@
 // A case of the recorded answers, taken apart. main.rt has the form of a case.
-ghost use Rattle.std.specs.Prelude.{◌≤◌, length};
+ghost use Rattle.std.specs.Prelude.{◌≤◌, ◌<◌, length, OnSome};
 
-use tables::text::{byte_at, from};
+use recorded::bytes::Bytes;
 
 // What a reading answers. After a refusal there are no boards and no entries, without one nothing is carried.
-#[derive(Clone, Copy)]
+#[derive(Clone, Copy, PartialEq, Eq)]
 pub struct Told {
     pub refusal: u64,
     pub carried: u64,
@@ -17,109 +17,48 @@ pub struct Told {
 pub struct Lent {
     pub cards: usize,
     pub entries: usize,
+    ghost cards_small: { cards ≤ 8192 },
+    ghost entries_small: { entries ≤ 8192 },
 }
 
-// The lengths of the text, of the cards' codes and of the entries' codes.
+// The codes give the lent words as they stand after the call.
 #[derive(Clone, Copy)]
-pub struct Lengths {
-    pub text: usize,
-    pub cards: usize,
-    pub entries: usize,
-}
-
-// A case of size 0 is none.
-#[derive(Clone, Copy)]
-pub struct Case {
+pub struct Case<'a> {
     pub group: u8,
-    pub lengths: Lengths,
+    pub text: &'a [u8],
     pub lent: Lent,
     pub told: Told,
-    pub size: usize,
+    pub card_codes: &'a [u8],
+    pub entry_codes: &'a [u8],
 }
 
-fn no_case() -> Case
-    ensures { (result.size ≤ 0) × (result.lent.cards ≤ 8192) × (result.lent.entries ≤ 8192) }
-{
-    Case {
-        group: 0,
-        lengths: Lengths {
-            text: 0,
-            cards: 0,
-            entries: 0,
-        },
-        lent: Lent {
-            cards: 0,
-            entries: 0,
-        },
-        told: Told {
-            refusal: 0,
-            carried: 0,
-            boards: 0,
-            entries: 0,
-        },
-        size: 0,
-    }
-}
-
-fn wide(b: u8) -> usize
-    ensures { result ≤ 255 }
-{
-    b as usize
-}
-
-pub fn two_bytes(s: &[u8]) -> usize
-    ensures { result ≤ 65535 }
-{
-    wide(byte_at(s, 0)) + 256 * wide(byte_at(s, 1))
-}
-
-fn told_of(s: &[u8]) -> Told {
-    Told {
-        refusal: wide(byte_at(s, 0)) as u64,
-        carried: two_bytes(from(s, 1)) as u64,
-        boards: two_bytes(from(s, 3)) as u64,
-        entries: two_bytes(from(s, 5)) as u64,
-    }
-}
-
-fn lengths_of(s: &[u8]) -> Lengths
-    ensures { (result.text ≤ 65535) × (result.cards ≤ 65535) × (result.entries ≤ 65535) }
-{
-    let text = two_bytes(from(s, 1));
-    let t = from(s, 14 + text);
-    let cards = two_bytes(t);
-    let entries = two_bytes(from(t, 2 + cards));
-    Lengths {
-        text,
-        cards,
-        entries,
-    }
-}
-
-// The case that s starts with.
-pub fn case_of(s: &[u8]) -> Case
-    ensures { (result.size ≤ length s.now) × (result.lent.cards ≤ 8192) × (result.lent.entries ≤ 8192) }
-{
-    let group = byte_at(s, 0);
-    let lengths = lengths_of(s);
-    let size = 18 + lengths.text + lengths.cards + lengths.entries;
-    let t = from(s, 3 + lengths.text);
-    let cards = two_bytes(t);
-    let entries = two_bytes(from(t, 2));
-    if size > s.len() {
-        return no_case();
-    }
-    if cards > 8192 {
-        return no_case();
-    }
-    if entries > 8192 {
-        return no_case();
-    }
-    Case {
-        group,
-        lengths,
-        lent: Lent { cards, entries },
-        told: told_of(from(t, 4)),
-        size,
+impl<'a> Case<'a> {
+    // The next case.
+    pub fn take(cases: &mut Bytes<'a>) -> Option<Case<'a>>
+        ensures { OnSome result (length cases.new.rest.now < length cases.old.rest.now) }
+    {
+        let group = cases.byte()?;
+        let text = cases.part()?;
+        let cards = cases.two_bytes()?;
+        let entries = cases.two_bytes()?;
+        let told = Told {
+            refusal: u64::from(cases.byte()?),
+            carried: cases.two_bytes()? as u64,
+            boards: cases.two_bytes()? as u64,
+            entries: cases.two_bytes()? as u64,
+        };
+        let card_codes = cases.part()?;
+        let entry_codes = cases.part()?;
+        if (cards > 8192) | (entries > 8192) {
+            return None;
+        }
+        Some(Case {
+            group,
+            text,
+            lent: Lent { cards, entries },
+            told,
+            card_codes,
+            entry_codes,
+        })
     }
 }

@@ -15,66 +15,41 @@ mod cases; // a case taken apart
 mod codes; // words compared with their codes
 mod replay; // a case replayed and compared
 
-use crate::replay::{Counts, End, Replayed, replay};
-use std::io::Read;
-use std::{fs, io};
+use crate::replay::Counts;
+use recorded::cases::replay_all;
+use recorded::report::{print_counts, read_file};
+use std::io;
 
-fn print_line(rt: &impl Print, name: &str, n: u64) -> io::Result<()> {
-    println!(rt; "{name}{n}")
-}
+const GROUPS: [&str; 5] = [
+    "chosen texts",
+    "editions of several boards",
+    "lent sizes",
+    "sampled texts",
+    "damaged texts",
+];
 
-fn print_groups(rt: &impl Print, n: [u64; 6]) -> io::Result<()> {
-    print_line(rt, "chosen texts: ", n[1])?;
-    print_line(rt, "editions of several boards: ", n[2])?;
-    print_line(rt, "lent sizes: ", n[3])?;
-    print_line(rt, "sampled texts: ", n[4])?;
-    print_line(rt, "damaged texts: ", n[5])
-}
-
-fn print_answers(rt: &impl Print, n: [u64; 4]) -> io::Result<()> {
-    print_line(rt, "taken: ", n[0])?;
-    print_line(rt, "refused, box full: ", n[2])?;
-    print_line(rt, "refused, list full: ", n[3])
-}
-
-fn print_counts(rt: &impl Print, c: Counts) -> io::Result<()> {
-    print_groups(rt, c.groups)?;
-    print_answers(rt, c.answers)?;
-    print_line(rt, "boards: ", c.boards)?;
-    print_line(rt, "entries: ", c.entries)?;
-    print_line(rt, "words compared: ", c.words)
-}
-
-fn print_place(rt: &impl Print, what: &str, compared: u64, at: u64) -> io::Result<()> {
-    println!(rt; "{compared} compared, then {what} at byte {at}")
-}
-
-fn print_end(rt: &impl Print, end: End, compared: u64) -> io::Result<()> {
-    match end {
-        End::Same => println!(rt; "{compared} compared, 0 different"),
-        End::Different(at) => print_place(rt, "one different", compared, at),
-        End::NoCase(at) => print_place(rt, "no whole case", compared, at),
-    }
-}
-
-fn print_replayed(rt: &impl Print, r: Replayed) -> io::Result<()> {
-    print_counts(rt, r.counts)?;
-    print_end(rt, r.end, r.compared)
-}
-
-// The whole file is read: as many bytes as may be read may be a part only.
-fn replay_file<R: Print + AllocGlobal>(rt: &R, file: impl Read + Drop) -> io::Result<()> {
-    let mut answers = Vec::new(rt.alloc());
-    file.take(400001).read_to_end(&mut answers)?;
-    if answers.len() == 400001 {
-        return println!(rt; "answers: too long");
-    }
-    print_replayed(rt, replay(&answers))
+fn print_replayed(rt: &impl Print, counts: &Counts) -> io::Result<()> {
+    print_counts(rt, &GROUPS, &counts.groups[1..])?;
+    println!(rt; "taken: {}", counts.answers[0])?;
+    println!(rt; "refused, box full: {}", counts.answers[2])?;
+    println!(rt; "refused, list full: {}", counts.answers[3])?;
+    println!(rt; "boards: {}", counts.boards)?;
+    println!(rt; "entries: {}", counts.entries)?;
+    println!(rt; "words compared: {}", counts.words)
 }
 
 fn main(rt: HostRuntime) -> io::Result<()> {
-    match fs::open(&rt, "answers") {
-        Ok(file) => replay_file(&rt, file),
-        Err(_) => println!(rt; "answers: not opened"),
-    }
+    let Some(answers) = read_file(&rt, "answers", 400001)? else {
+        return Ok(());
+    };
+    let mut counts = Counts {
+        groups: [0; 6],
+        answers: [0; 4],
+        boards: 0,
+        entries: 0,
+        words: 0,
+    };
+    let replayed = replay_all(&mut counts, &answers);
+    print_replayed(&rt, &counts)?;
+    println!(rt; "{replayed}")
 }

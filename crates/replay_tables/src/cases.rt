@@ -3,87 +3,81 @@
 //   2 the input's length, then the input
 //   2 the page's length · 1 the refusal · 4 the carried number
 //   2 the output's length, then the output
-ghost use Rattle.std.specs.Prelude.{◌≤◌, length};
+ghost use Rattle.std.specs.Prelude.{◌≤◌, ◌<◌, length, OnSome};
 
-use tables::text::{byte_at, from};
-
-// `input`, `page` and `output` are lengths. A case of size 0 is none.
-#[derive(Clone, Copy)]
-pub struct Case {
-    pub kind: u8,
-    pub input: usize,
-    pub page: usize,
-    pub refusal: u64,
-    pub carried: u64,
-    pub output: usize,
-    pub size: usize,
-}
-
-fn no_case() -> Case
-    ensures { (result.size ≤ 0) × (result.page ≤ 512) }
-{
-    Case {
-        kind: 0,
-        input: 0,
-        page: 0,
-        refusal: 0,
-        carried: 0,
-        output: 0,
-        size: 0,
-    }
-}
-
-fn wide(b: u8) -> usize
-    ensures { result ≤ 255 }
-{
-    b as usize
-}
-
-fn two_bytes(s: &[u8]) -> usize
-    ensures { result ≤ 65535 }
-{
-    wide(byte_at(s, 0)) + 256 * wide(byte_at(s, 1))
-}
-
-fn four_bytes(s: &[u8]) -> u64 {
-    (two_bytes(s) + 65536 * two_bytes(from(s, 2))) as u64
-}
+use recorded::bytes::Bytes;
 
 // A writer is given a table, and a reader answers with one.
-fn is_kind(kind: u8, input: usize, output: usize) -> bool {
-    match kind {
-        1..=3 => input == 20,
-        4..=5 => output == 20,
-        _ => false,
+#[derive(Clone, Copy, PartialEq, Eq)]
+pub enum Kind {
+    DigitsWritten,
+    HeaderWritten,
+    RowsWritten,
+    DigitsRead,
+    RowsRead,
+}
+
+impl Kind {
+    fn from_byte(b: u8) -> Option<Kind> {
+        match b {
+            1 => Some(Kind::DigitsWritten),
+            2 => Some(Kind::HeaderWritten),
+            3 => Some(Kind::RowsWritten),
+            4 => Some(Kind::DigitsRead),
+            5 => Some(Kind::RowsRead),
+            _ => None,
+        }
+    }
+
+    pub fn is_read(self) -> bool {
+        (self == Kind::DigitsRead) | (self == Kind::RowsRead)
     }
 }
 
-// The case that s starts with.
-pub fn case_of(s: &[u8]) -> Case
-    ensures { (result.size ≤ length s.now) × (result.page ≤ 512) }
-{
-    let kind = byte_at(s, 0);
-    let input = two_bytes(from(s, 1));
-    let t = from(s, 3 + input);
-    let page = two_bytes(t);
-    let output = two_bytes(from(t, 7));
-    let size = 12 + input + output;
-    if size > s.len() {
-        return no_case();
-    }
-    if page > 512 {
-        return no_case();
-    }
-    if !is_kind(kind, input, output) {
-        return no_case();
-    }
-    Case {
-        kind,
-        input,
-        page,
-        refusal: wide(byte_at(t, 2)) as u64,
-        carried: four_bytes(from(t, 3)),
-        output,
-        size,
+// What a function of tables answered: the refusal's number, 0 for none, the number that it carries, and how many bytes it gave.
+#[derive(Clone, Copy, PartialEq, Eq)]
+pub struct Told {
+    pub refusal: u64,
+    pub carried: u64,
+    pub bytes: usize,
+}
+
+// `page` is a length.
+#[derive(Clone, Copy)]
+pub struct Case<'a> {
+    pub kind: Kind,
+    pub input: &'a [u8],
+    pub page: usize,
+    pub told: Told,
+    pub output: &'a [u8],
+    ghost page_small: { page ≤ 512 },
+}
+
+impl<'a> Case<'a> {
+    // The next case.
+    pub fn take(cases: &mut Bytes<'a>) -> Option<Case<'a>>
+        ensures { OnSome result (length cases.new.rest.now < length cases.old.rest.now) }
+    {
+        let kind = Kind::from_byte(cases.byte()?)?;
+        let input = cases.part()?;
+        let page = cases.two_bytes()?;
+        let refusal = u64::from(cases.byte()?);
+        let carried = cases.four_bytes()? as u64;
+        let output = cases.part()?;
+        let table = if kind.is_read() { output } else { input };
+        if (table.len() != 20) | (page > 512) {
+            return None;
+        }
+        Some(Case {
+            kind,
+            input,
+            page,
+            told: Told {
+                refusal,
+                carried,
+                bytes: output.len(),
+            },
+            output,
+        })
     }
 }

@@ -1,6 +1,7 @@
 pub mod Laws
 pub mod TextLaws
 pub mod PageLaws
+pub mod PutsLaws
 pub mod NumberLaws
 pub mod LetterLaws
 pub mod TableLaws

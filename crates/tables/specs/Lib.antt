@@ -4,5 +4,6 @@ pub mod Numbers
 pub mod NumberSteps
 pub mod Page
 pub mod PageSteps
+pub mod Puts
 pub mod Letters
 pub mod Tables

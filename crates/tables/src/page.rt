@@ -2,16 +2,13 @@
 ghost use Rattle.std.specs.Prelude.{◌≡◌, ◌∷◌, [], ◌+◌, ◌-◌, ◌≤◌, ◌<◌, ◌%◌, length, replicate, drop};
 ghost use Rattle.tables.specs.Numbers.{decimal};
 ghost use Rattle.tables.specs.Page.{right};
+ghost use Rattle.tables.specs.Puts.{Puts};
 ghost use Rattle.tables.specs.PageSteps.{Put, PageEnded, Digits, cleared};
 
 use crate::refusal::Refusal;
 
-// The answer of a writer: the bytes written, or a refusal, which leaves the page all zero.
-#[derive(Clone, Copy)]
-pub enum Written {
-    Bytes(u64),
-    Refused(Refusal),
-}
+// Places are counted so far; no text here comes near.
+const PLACES: usize = 549755813888;
 
 // Puts b at the place at, where the page reaches so far.
 pub fn put_byte(page: &mut [u8], at: usize, b: u8) -> usize
@@ -118,6 +115,63 @@ pub(crate) fn put_right(page: &mut [u8], at: usize, w: usize, n: u32) -> usize
     put_tail(page, a, &buf, k)
 }
 
+// A lent page, and the place behind the text that was put on it. Text is counted past the page's end, and put as far as the page reaches.
+#[derive(Drop)]
+pub struct Page<'a> {
+    pub bytes: &'a mut [u8],
+    pub at: usize,
+}
+
+impl<'a> Page<'a> {
+    // The page with nothing put on it.
+    pub fn new(bytes: &'a mut [u8]) -> Page<'a>
+        ensures same { result.bytes.ghost_name ≡ bytes.entry.ghost_name }
+        ensures bytes { result.bytes.now ≡ bytes.old }
+        ensures start { result.at ≡ 0 }
+    {
+        Page { bytes, at: 0 }
+    }
+
+    // Puts b.
+    pub fn put_byte(&mut self, b: u8)
+        ensures { Puts self.old (b ∷ []) self.new }
+    {
+        if self.at < PLACES {
+            self.at = put_byte(self.bytes, self.at, b);
+        }
+    }
+
+    // Puts s.
+    pub fn put_text(&mut self, s: &[u8])
+        ensures { Puts self.old s.now self.new }
+    {
+        if self.at <= PLACES {
+            if s.len() <= PLACES - self.at {
+                self.at = put_text(self.bytes, self.at, s);
+            }
+        }
+    }
+
+    // Puts n in decimal.
+    pub fn put_decimal(&mut self, n: u32)
+        ensures { Puts self.old (decimal n) self.new }
+    {
+        if self.at <= PLACES {
+            self.at = put_decimal(self.bytes, self.at, n);
+        }
+    }
+
+    // Puts n to the right in w places.
+    pub(crate) fn put_right(&mut self, w: usize, n: u32)
+        requires { w ≤ 256 }
+        ensures { Puts self.old (right w (decimal n)) self.new }
+    {
+        if self.at <= PLACES {
+            self.at = put_right(self.bytes, self.at, w, n);
+        }
+    }
+}
+
 // Sets every byte from n on to 0.
 fn zero_from(page: &mut [u8], n: usize)
     ensures { page.new ≡ cleared page.old n }
@@ -129,14 +183,14 @@ fn zero_from(page: &mut [u8], n: usize)
     }
 }
 
-// After n bytes were put: zeros behind them, or nothing but zeros where they did not fit.
-pub fn finish(page: &mut [u8], n: usize) -> Written
+// After n bytes were put: how many they are, with zeros behind them; a refusal where they did not fit, with nothing but zeros.
+pub fn finish(page: &mut [u8], n: usize) -> Result<u64, Refusal>
     ensures { PageEnded n page.old page.new result }
 {
     if n <= page.len() {
         zero_from(page, n);
-        return Written::Bytes(n as u64);
+        return Ok(n as u64);
     }
     zero_from(page, 0);
-    Written::Refused(Refusal::PageFull(n as u64))
+    Err(Refusal::PageFull(n as u64))
 }

@@ -6,12 +6,11 @@ use mathlib.Core.Option.{Option, none, some}
 use lib.ListN.{drop}
 use Rattle.tables.specs.declared.letters.Conventions.{Conventions}
 use Rattle.reader.specs.Plain.{Item, TagPair, PlainAuction, PlainBoard, tags_in, remarks_in, block_value}
-use Rattle.writer.specs.declared.remarks.Sought.TheVariants.{Leading, Unwritten}
 use Rattle.writer.specs.Sections.{note_values}
 use Rattle.writer.specs.Tags.{head_tags, early_extras, deal_tags, late_extras, play_tags, written_tags}
 use Rattle.writer.specs.Remarks.{directives_of, blocks_of, those, is_leading, tag_unwritten, directive_lines, block_lines, tags_lines, leading_lines, body_lines, lines_text}
 use Rattle.writer.specs.PresentSteps.{present_of}
-use Rattle.writer.specs.Items.{sought_text, full_text, group_text, notes_text}
+use Rattle.writer.specs.Items.{Leading, Unwritten, sought_text, full_text, group_text, notes_text}
 use Rattle.writer.proofs.GroupLines.{first_lines, auction_tag, auction_group, GroupLines}
 use Rattle.writer.proofs.RemarkTexts.{MarkedItems, leading_tells, lost_tells, directives_in, blocks_in, DirectivesText, BlocksText}
 use Rattle.writer.proofs.GroupTexts.{lines_join, first_text, auction_text_lem}

@@ -1,48 +1,52 @@
 -- Laws of the steps of finishing: the answers are checked, the page is put and ended.
-use Prim.Native.Nat.{ℕ, ◌+◌, ◌*◌, ◌/◌, ◌%◌, ◌≤◌, ◌<◌}
+use Prim.Native.Nat.{ℕ, ◌*◌, ◌/◌, ◌%◌, ◌≤◌, ◌<◌}
 use mathlib.Core.Path.{◌≡◌, refl, sym, ap, ◌∙◌}
 use mathlib.Core.Bool.{true, false, cond}
-use mathlib.Core.List.{List}
-use native.Mathlib.Nat.{add-zero}
+use mathlib.Core.List.{List, [], ◌∷◌}
 use native.Mathlib.Omega.{arith}
-use lib.Dec.{eqb, leb}
+use lib.Dec.{eqb, leb, ltb}
 use lib.ListN.{length, drop, get_or}
-use borrow.Author.Tests.{lt-ltb, le-ltb, le-leb, lt-leb, eq-eqb, ne_eqb}
+use borrow.Author.Tests.{ltb-false, lt-ltb, le-ltb, le-leb, lt-leb, eq-eqb, ne_eqb}
+use Rattle.std.proofs.Common.{Option, None, Some}
+use Rattle.std.proofs.lemmas.List.Recursion.{is_position_or_len}
+use Rattle.std.specs.List.{position_or_len}
+use Rattle.std.specs.Option.{MatchOption}
 use Rattle.std.specs.Result.{result_and}
 use Rattle.std.specs.Prelude.{Result, Ok, Err, is_ok}
 use Rattle.tables.specs.declared.letters.Conventions.{Conventions}
-use Rattle.tables.specs.declared.page.Written.{Written}
-use Rattle.tables.specs.declared.page.Written.TheVariants.{Bytes}
-use Rattle.tables.specs.declared.page.Written.TheVariants as paged
 use Rattle.tables.specs.declared.refusal.Refusal.TheVariants as refusal
 use Rattle.tables.specs.Page.{page_of}
 use Rattle.tables.specs.PageSteps.{PageEnded as PageFinished}
 use Rattle.tables.proofs.PageLaws.{finished}
-use Rattle.tables.proofs.Laws.{step, stop, by_cases}
+use Rattle.tables.proofs.Laws.{by_cases}
 use Rattle.reader.specs.Store.{zeros}
 use Rattle.planning.specs.PlanSteps.{cards_in, BoxesKept}
 use Rattle.planning.specs.Plans.{Boxes}
 use Rattle.planning.proofs.BoxLaws.{four}
 use Rattle.writer.specs.declared.finish.FinishRefusal.{FinishRefusal}
 use Rattle.writer.specs.declared.finish.FinishRefusal.TheVariants.{Answers, Impossible, PageFull}
-use Rattle.writer.specs.Puts.{Puts}
 use Rattle.writer.specs.BoardTexts.{page_held}
 use Rattle.writer.specs.Writings.{page_after}
+use Rattle.writer.specs.WritingSteps.{PagePut}
 use Rattle.writer.specs.Finishings.{first_above, finished_on, checked_of}
 use Rattle.writer.specs.GivenCards.{marked, given_cleared, changed_all, given_box, tabled_page, Gave, FinishEnded, FinishPut, BoardsFinished}
 use Rattle.writer.proofs.ChangedCards.{marked_long, cleared_long, changed_length}
+use Rattle.tables.specs.declared.refusal.Refusal.{Refusal}
 
 -- ---- the first byte above 13
 
-pub above_here : (bs : List ℕ) (i : ℕ) → i < length bs → 13 < get_or bs i 0 → i + first_above (drop i bs) ≡ i
-above_here bs i h t = rw (step bs i h, lt-ltb 13 (get_or bs i 0) t) (add-zero i)
+above_most : (bs : List ℕ) → first_above bs ≤ length bs
+above_most [] = omega arith
+above_most (b ∷ bs) = by_cases (ltb 13 b) (λ t. rw t (omega arith)) (λ t. rw t (omega (arith, above_most bs)))
 
-pub above_next : (bs : List ℕ) (i : ℕ) → i < length bs → get_or bs i 0 ≤ 13
-    → i + first_above (drop i bs) ≡ i + 1 + first_above (drop (i + 1) bs)
-above_next bs i h t = rw (step bs i h, le-ltb 13 (get_or bs i 0) t) (omega arith)
-
-pub above_none : (bs : List ℕ) (i : ℕ) → length bs ≤ i → i + first_above (drop i bs) ≡ i
-above_none bs i h = rw (stop bs i h) (add-zero i)
+-- It is what `position` finds.
+pub above_found : (bs : List ℕ) (r : Option ℕ) → r ≡ cond (ltb (position_or_len (ltb 13) bs) (length bs)) (Some (position_or_len (ltb 13) bs)) None
+    → MatchOption r (length bs ≡ first_above bs) (λ i. i ≡ first_above bs)
+above_found bs r e =
+    let q = is_position_or_len first_above (ltb 13) refl (λ x xs. ap (cond (ltb 13 x) 0) (omega arith)) bs in
+    by_cases (ltb (position_or_len (ltb 13) bs) (length bs))
+    (λ t. rw (e, t, q))
+    (λ t. rw (e, t) (omega (arith, above_most bs, q, ltb-false _ _ t)))
 
 -- ---- the answers checked
 
@@ -65,7 +69,7 @@ module _ (solve : ℕ) (answers : List ℕ) where
 
 -- ---- the page ended
 
-pub ended_well : {n : ℕ} {boxes : Boxes} {page page' : List ℕ} {w : Written} → n ≤ length page → PageFinished n page page' w
+pub ended_well : {n : ℕ} {boxes : Boxes} {page page' : List ℕ} {w : Result ℕ Refusal} → n ≤ length page → PageFinished n page page' w
     → FinishEnded n boxes page (Ok n) boxes page'
 ended_well {n} {boxes} {page} h f =
     let q = le-leb n (length page) h in
@@ -84,7 +88,7 @@ ended_full {n} {boxes} {boxes'} {page} h z =
 -- ---- the page put
 
 pub put_done : {c : Conventions} {new cards cards₁ cards₂ entries page page' : List ℕ} {n r : ℕ} → cards₁ ≡ changed_all marked n cards
-    → Puts page 0 (page_held c new cards₁ entries n) page' r → cards₂ ≡ changed_all given_cleared n cards₁
+    → PagePut page (page_held c new cards₁ entries n) page' r → cards₂ ≡ changed_all given_cleared n cards₁
     → FinishPut c new n cards entries page r cards₂ page'
 put_done {n = n} e p f = record { put = rw e at p; cards_after = f ∙ ap (changed_all given_cleared n) e }
 
@@ -106,7 +110,7 @@ module _ {c : Conventions} {new : List ℕ} {m n : ℕ} {oc oe nc ne answers nc�
   boards_right {page} {page₁} {page₂} {nc₂} {k} {r} {boxes'} t p d =
       let boxes = four oc oe nc ne in
       let bs = tabled_page c new m n boxes answers in
-      let put : Puts page 0 bs page₁ k = rw g.cards_after at p.put in
+      let put : PagePut page bs page₁ k = rw g.cards_after at p.put in
       let cards : nc₂ ≡ changed_all given_cleared n (changed_all marked n (given_box m n boxes answers)) =
       p.cards_after ∙ ap (λ (l : List ℕ). changed_all given_cleared n (changed_all marked n l)) g.cards_after in
       let well : is_ok r ≡ leb k (length page₁) = ap is_ok d.answer ∙ finished_is k (length page₁) in
@@ -120,7 +124,7 @@ module _ {c : Conventions} {new : List ℕ} {m n : ℕ} {oc oe nc ne answers nc�
         boxes_left = rw (well, ← cards) d.boxes_left;
         page_left = λ few.
             let ek : k ≡ length bs = omega (arith, (put.put (omega arith)).next) in
-            let ended : PageFinished k page₁ page₂ (cond (leb k (length page₁)) (Bytes k) (paged.Refused (refusal.PageFull k))) =
+            let ended : PageFinished k page₁ page₂ (cond (leb k (length page₁)) (Ok k) (Err (refusal.PageFull k))) =
             record { told = refl; page_left = d.page_left } in
             (finished (put.put (omega arith)) ended).page_left ∙ page_is bs (length page) ∙ rw (well, ek, lp);
       }

@@ -9,12 +9,11 @@ use Rattle.tables.specs.declared.letters.Conventions.{Conventions}
 use Rattle.tables.specs.Text.{ascii}
 use Rattle.reader.specs.Tag.{tag_text}
 use Rattle.reader.specs.Plain.{Item, TagPair, PlainAuction, tags_in}
-use Rattle.writer.specs.declared.remarks.Sought.TheVariants.{Under}
 use Rattle.writer.specs.Sections.{note_values}
 use Rattle.writer.specs.Tags.{WrittenTag}
 use Rattle.writer.specs.PresentSteps.{is_any}
 use Rattle.writer.specs.Remarks.{WrittenLine, data_line, those, is_under, directive_lines, block_lines, line_text, lines_text}
-use Rattle.writer.specs.Items.{sought_by, sought_text, after_text, tag_line_text, data_text, full_text, group_text, note_takes, notes_text, has_remarks}
+use Rattle.writer.specs.Items.{Under, sought_by, sought_text, after_text, tag_line_text, data_text, full_text, group_text, note_takes, notes_text, has_remarks}
 use Rattle.writer.proofs.GroupLines.{first_lines, takes_anchored, notes_lines, auction_tag, auction_group}
 use Rattle.writer.proofs.RemarkTexts.{MarkedItems, under_tells, takes_tells, directives_in, blocks_in, DirectivesText, BlocksText, remarks_none, after_none}
 

@@ -15,14 +15,13 @@ use Rattle.tables.proofs.Laws.{by_cases}
 use Rattle.reader.specs.Plain.{Item, PlainAuction, PlainPlay, tags_in, calls_in, tricks_in}
 use Rattle.reader.specs.Tag.{tag_text}
 use Rattle.reader.specs.Editions.{cards_of}
-use Rattle.writer.specs.declared.remarks.Sought.TheVariants.{Leading, Unwritten}
 use Rattle.writer.specs.Sections.{note_values}
 use Rattle.writer.specs.Tags.{WrittenTag, tag_of, if_there, dealer_tags, seat_text, result_text, deal_value, first_value, head_tags, table_tags, deal_tags, early_extras, late_extras, play_tags}
 use Rattle.writer.specs.Remarks.{WrittenLine, tag_line, data_line, directive_line, block_line, lines_text, line_text, leading_lines}
 use Rattle.writer.specs.Pages.{own_play, body_text, page_header, first_part, next_part, next_parts, page_text, written_text}
 use Rattle.writer.specs.PresentSteps.{is_there, is_any, has_notes, present_of}
 use Rattle.writer.specs.Held.{card_word, card_part, items_at, value_held, board_items, items_up_to, section_items, auction_held, play_held, values_held, board_held, boards_held}
-use Rattle.writer.specs.Items.{sought_by, is_first, sought_text, tag_line_text, tagged_text, extras_text, full_text, group_text, scoring_at, deal_place, has_remarks, result_in}
+use Rattle.writer.specs.Items.{Leading, Unwritten, sought_by, is_first, sought_text, tag_line_text, tagged_text, extras_text, full_text, group_text, scoring_at, deal_place, has_remarks, result_in}
 use Rattle.writer.specs.BoardTexts.{scanned_items, card_value, optional_text, title_text, players_text, dealer_text, head_text, deal_held, contract_text, table_text, analysis_text, note_tags, bidding_text, cards_text, present_held, scan_of, early, front_text, unwritten_text, back_text, lead_held, body_held, header_held, next_held, parts_held, page_held}
 use Rattle.writer.proofs.RemarkTexts.{remarks_none, after_none}
 use Rattle.writer.proofs.GroupTexts.{groups_join, group_none, notes_none}

@@ -10,11 +10,9 @@ use lib.Dec.{eqb, ltb}
 use lib.ListN.{length, take, drop, length-append}
 use lib.Seq.{take_at, drop_at, sets-eq}
 use borrow.Author.Tests.{ne_eqb, eqb-true, eqb-false, ltb-true, ltb-false, lt-ltb, le-ltb}
-use Rattle.tables.specs.declared.numbers.Number.{Number}
-use Rattle.tables.specs.declared.numbers.Number.TheVariants.{Value, Bad}
 use Rattle.tables.specs.Text.{ascii, is_white, trimmed, differs, before}
 use Rattle.tables.specs.Letters.{every}
-use Rattle.tables.specs.Numbers.{digits, number_of, decimal}
+use Rattle.tables.specs.Numbers.{Number, digits, number_of, decimal}
 use Rattle.tables.proofs.PageLaws.{decimal_few}
 use Rattle.tables.proofs.TextLaws.{take_front}
 use Rattle.tables.proofs.Laws.{by_cases, clash}
@@ -26,7 +24,9 @@ use Rattle.reader.proofs.WordTokens.{front_until}
 use Rattle.writer.specs.Sections.{after_colon, is_number, note_in}
 use Rattle.writer.specs.Held.{entry_word, place_bytes}
 use Rattle.writer.specs.Items.{has_value, or_none, note_number, note_number_at, note_text}
-use Rattle.writer.specs.Puts.{Puts}
+use Rattle.tables.specs.declared.page.Page.{Page}
+use Rattle.tables.specs.Puts.{Puts}
+use Rattle.std.specs.Prelude.{Some, None}
 
 -- ---- what a note's value holds
 
@@ -52,8 +52,8 @@ colon_none (b ∷ bs) h =
 
 -- A number that was read is n exactly where it is given as n.
 number_is : (x : Number) (n : ℕ) → n < 256 → is_number n x ≡ eqb (or_none x) n
-number_is Bad n h = sym (ne_eqb 256 n (λ w. omega (arith, w)))
-number_is (Value v) n h = refl
+number_is None n h = sym (ne_eqb 256 n (λ w. omega (arith, w)))
+number_is (Some v) n h = refl
 
 -- Note has the number 17.
 pub note_name_lem : (name : List ℕ) → eqb (tag_number name) 17 ≡ same (ascii "Note") name
@@ -204,13 +204,13 @@ module _ (text entries v own behind : List ℕ) (n place i k : ℕ) (h : n ≤ 2
   note_none l = sym (ap (same v) note_whole ∙ note_differs v behind n h (omega arith))
 
 -- A number put on a page of ten bytes stands there.
-pub decimal_put : (page page' : List ℕ) (n k : ℕ) → length page ≡ 10 → Puts page 0 (decimal n) page' k → take k page' ≡ decimal n
-decimal_put page page' n k l p =
+pub decimal_put : (n : ℕ) {p q : Page} {bytes : List ℕ} → Puts p (decimal n) q → p.at ≡ 0 → length p.bytes.now ≡ 10 → bytes ≡ q.bytes.now → take q.at bytes ≡ decimal n
+decimal_put n {p} {q} {bytes} a z l f =
     let m = decimal_few n in
-    let q = p.put (omega arith) in
-    let s = sets-eq (decimal n) page 0 (omega arith) in
-    let z : k ≡ length (decimal n) = q.next ∙ zero-add (length (decimal n)) in
-    rw (q.after, s, z) (take_at (decimal n) (drop (0 + length (decimal n)) page) (length (decimal n)) refl)
+    let t = rw z at (a.put (omega (arith, z))) in
+    let s = sets-eq (decimal n) p.bytes.now 0 (omega arith) in
+    let k : q.at ≡ length (decimal n) = t.next ∙ zero-add (length (decimal n)) in
+    rw (f, t.after, s, k) (take_at (decimal n) (drop (0 + length (decimal n)) p.bytes.now) (length (decimal n)) refl)
 
 -- ---- values in a row
 

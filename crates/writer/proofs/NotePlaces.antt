@@ -1,7 +1,7 @@
 -- The notes of an auction by their places: that they are all its notes by rising number, and which directives each takes.
 use Prim.Native.Nat.{ℕ, zero, suc, ◌+◌, ◌-◌, ◌≤◌, ◌<◌}
 use mathlib.Core.Path.{◌≡◌, refl, sym, ap, ◌∙◌}
-use mathlib.Core.Bool.{Bool, true, false, cond, ◌&&◌, ◌||◌, not, and-false, and-true, or-false}
+use mathlib.Core.Bool.{Bool, true, false, cond, ◌&&◌, ◌||◌, not, and-false, and-true, or-false, or-true}
 use mathlib.Core.List.{List, [], ◌∷◌, ◌++◌, append-nil, append_assoc}
 use mathlib.Core.Option.{Option, none, some}
 use native.Mathlib.Nat.{zero-add}
@@ -17,11 +17,10 @@ use Rattle.tables.proofs.Laws.{by_cases, neither, either, clash}
 use Rattle.reader.specs.Words.{same}
 use Rattle.reader.specs.Plain.{Item, TagPair, first_bytes}
 use Rattle.reader.proofs.WordLaws.{same_is}
-use Rattle.writer.specs.declared.remarks.Sought.TheVariants.{Under}
 use Rattle.writer.specs.Sections.{note_in, later, note_at, note_value, notes_from, note_values}
 use Rattle.writer.specs.Held.{entry_word, place_bytes}
 use Rattle.writer.specs.PresentSteps.{is_there, is_any}
-use Rattle.writer.specs.Items.{remarks_text, sought_text, has_value, note_takes, notes_text, tags_at, note_number, note_number_at, note_places, note_text, placed_note, note_of, takes_value, takes_tag, full_note, full_notes, all_notes}
+use Rattle.writer.specs.Items.{Under, remarks_text, sought_text, has_value, note_takes, notes_text, tags_at, note_number, note_number_at, note_places, note_text, placed_note, note_of, takes_value, takes_tag, full_note, full_notes, all_notes}
 use Rattle.writer.proofs.NoteLaws.{behind_colon, note_in_lem, note_256, number_back, holds_append}
 
 -- ---- numbers
@@ -176,19 +175,20 @@ module _ (text entries : List ℕ) where
       (λ q. q ∙ sym (ap is_any (none_between 256 0 (tags_at text entries e n) (λ m u v. has_none e n m q (omega arith)))))
 
   -- The search for one, entry by entry.
-  pub has_here : (e left : ℕ) → 0 < left → note_number_at text entries e < 256 → has_note text entries e left ≡ true
-  has_here e zero h l = absurd (omega arith)
-  has_here e (suc n) h l = rw (lt-ltb (note_number_at text entries e) 256 l)
+  pub has_here : (e n : ℕ) → e < n → note_number_at text entries e < 256 → has_note text entries e (n - e) ≡ true
+  has_here e n h l =
+      let z : n - e ≡ suc (n - (e + 1)) = omega arith in
+      rw (z, lt-ltb (note_number_at text entries e) 256 l)
 
-  pub has_on : (e left : ℕ) → 0 < left → 256 ≤ note_number_at text entries e → has_note text entries e left ≡ has_note text entries (e + 1) (left - 1)
-  has_on e zero h l = absurd (omega arith)
-  has_on e (suc n) h l =
-      let z : suc n - 1 ≡ n = omega arith in
+  pub has_on : (e n : ℕ) → e < n → 256 ≤ note_number_at text entries e → has_note text entries e (n - e) ≡ has_note text entries (e + 1) (n - (e + 1))
+  has_on e n h l =
+      let z : n - e ≡ suc (n - (e + 1)) = omega arith in
       rw (z, le-ltb (note_number_at text entries e) 256 l)
 
-  pub has_over : (e left : ℕ) → left ≤ 0 → has_note text entries e left ≡ false
-  has_over e zero h = refl
-  has_over e (suc n) h = absurd (omega arith)
+  pub has_over : (e n : ℕ) → n ≤ e → has_note text entries e (n - e) ≡ false
+  has_over e n h =
+      let z : n - e ≡ 0 = omega arith in
+      rw z
 
   -- ---- places
 
@@ -197,14 +197,16 @@ module _ (text entries : List ℕ) where
   placed_notes places zero n = []
   placed_notes places (suc k) n = placed_note text entries places n ++ placed_notes places k (n + 1)
 
-  pub places_on : (places : List ℕ) (e left : ℕ) → 0 < left
-      → note_places text entries places e left ≡ note_places text entries (set places (note_number_at text entries e) (e + 1)) (e + 1) (left - 1)
-  places_on places e zero h = absurd (omega arith)
-  places_on places e (suc n) h = let z : suc n - 1 ≡ n = omega arith in rw z
+  pub places_on : (places : List ℕ) (e n : ℕ) → e < n
+      → note_places text entries places e (n - e) ≡ note_places text entries (set places (note_number_at text entries e) (e + 1)) (e + 1) (n - (e + 1))
+  places_on places e n h =
+      let z : n - e ≡ suc (n - (e + 1)) = omega arith in
+      rw z
 
-  pub places_over : (places : List ℕ) (e left : ℕ) → left ≤ 0 → note_places text entries places e left ≡ places
-  places_over places e zero h = refl
-  places_over places e (suc n) h = absurd (omega arith)
+  pub places_over : (places : List ℕ) (e n : ℕ) → n ≤ e → note_places text entries places e (n - e) ≡ places
+  places_over places e n h =
+      let z : n - e ≡ 0 = omega arith in
+      rw z
 
   -- The text of the note m by its place.
   abbrev placed_text : List ℕ → ℕ → Option (List ℕ)
@@ -291,32 +293,31 @@ module _ (text entries : List ℕ) where
         (λ x. rw x (ne_eqb (note_number v) n (λ w. clash (sym e ∙ (ap (λ (m : ℕ). has_value v (placed_note text entries places m)) (sym w) ∙ x)))))
         (λ x. rw x (ne_eqb 256 n (λ w. omega (arith, w))))))
 
-    -- As it is found: its number, the place of that note, whether the value is that note's.
-    module _ (v : List ℕ) (n place : ℕ) (a : n ≡ note_number v) (b : place ≡ get_or places n 0) where
-      pub of_none : place ≡ 0 → 256 ≡ note_of text entries places v
-      unfolding note_of
-      of_none z = rw (← a, ← b, z)
+    -- A Note of a value without a number, and of the number m, which is written with this value or not.
+    pub taken_none : (v : List ℕ) (n : ℕ) (first : Bool) → n < 256 → note_number v ≡ 256 → first ≡ takes_value text entries places n first v
+    unfolding takes_value note_of
+    taken_none v n first h e = rw e (either (has_value v (placed_note text entries places 256)))
+      where
+        either : (b : Bool) → first ≡ (eqb (cond b 256 256) n || (first && leb 256 (cond b 256 256)))
+        either true = rw (ne_eqb 256 n (λ z. omega (arith, z)), and-true)
+        either false = rw (ne_eqb 256 n (λ z. omega (arith, z)), and-true)
 
-      pub of_note : (x : Bool) → (place ≡ 0 → ⊥) → x ≡ same v (note_text text entries n place) → cond x n 256 ≡ note_of text entries places v
-      unfolding note_of
-      of_note x z e = rw (← a, ← b, ne_eqb place 0 z, or-false, e)
+    pub taken_own : (v : List ℕ) (n m : ℕ) (first w : Bool) → n < 256 → note_number v ≡ m → w ≡ has_value v (placed_note text entries places m) → m ≡ n → (first || w) ≡ takes_value text entries places n first v
+    unfolding takes_value note_of
+    taken_own v n m first w h e q d = rw (e, ← q, d) (either w)
+      where
+        either : (b : Bool) → (first || b) ≡ (eqb (cond b n 256) n || (first && leb 256 (cond b n 256)))
+        either true = rw (eq-eqb n n refl, or-true)
+        either false = rw (ne_eqb 256 n (λ z. omega (arith, z)), and-true, or-false)
 
-    pub taken_first : (v : List ℕ) (n m : ℕ) → m ≡ note_of text entries places v → (eqb m n || leb 256 m) ≡ takes_value text entries places n true v
-    unfolding takes_value
-    taken_first v n m e = rw e
-
-    pub taken_own : (v : List ℕ) (n m : ℕ) → m ≡ note_of text entries places v → eqb m n ≡ takes_value text entries places n false v
-    unfolding takes_value
-    taken_own v n m e = rw (e, or-false)
-
-    -- Another number is not its own.
-    pub taken_other : (v : List ℕ) (n k : ℕ) → n < 256 → k ≡ note_number v → (k ≡ n → ⊥) → false ≡ takes_value text entries places n false v
-    unfolding takes_value
-    taken_other v n k h e d =
-        sym (rw (or-false, of_one v n h)
-        (by_cases (has_value v (placed_note text entries places n))
-        (λ x. absurd (d (e ∙ holds_one v n h x)))
-        (λ x. x)))
+    pub taken_other : (v : List ℕ) (n m : ℕ) (first w : Bool) → n < 256 → m < 256 → note_number v ≡ m → w ≡ has_value v (placed_note text entries places m) → (m ≡ n → ⊥)
+        → (first && not w) ≡ takes_value text entries places n first v
+    unfolding takes_value note_of
+    taken_other v n m first w h l e q d = rw (e, ← q) (either w)
+      where
+        either : (b : Bool) → (first && not b) ≡ (eqb (cond b m 256) n || (first && leb 256 (cond b m 256)))
+        either true = rw (ne_eqb m n d, lt-leb 256 m l)
+        either false = rw (ne_eqb 256 n (λ z. omega (arith, z)))
 
     of_some : (v : List ℕ) (k n : ℕ) → n + k ≤ 256 → has_value v (placed_notes places k n) ≡ (leb n (note_of text entries places v) && ltb (note_of text entries places v) (n + k))
     of_some v zero n h =

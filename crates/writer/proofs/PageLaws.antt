@@ -9,23 +9,25 @@ use lib.ListN.{length, length-append}
 use borrow.Author.Tests.{eqb-true, eqb-false}
 use Rattle.tables.specs.declared.letters.Conventions.{Conventions}
 use Rattle.tables.proofs.Laws.{by_cases}
-use Rattle.writer.specs.Puts.{Puts}
-use Rattle.writer.specs.Held.{entry_word, items_at}
+use Rattle.tables.specs.declared.page.Page.{Page}
+use Rattle.tables.specs.Puts.{Puts}
+use Rattle.tables.proofs.PutsLaws.{puts_then}
+use Rattle.writer.specs.declared.items.Items.{Items}
+use Rattle.writer.specs.Held.{entry_word}
 use Rattle.writer.specs.Pages.{built_in_header}
-use Rattle.writer.specs.Items.{has_remarks}
+use Rattle.writer.specs.Items.{items_from, has_remarks}
 use Rattle.writer.specs.BoardTexts.{header_held, next_held, parts_held}
-use Rattle.writer.proofs.PutLaws.{puts_then}
 use Rattle.writer.proofs.RemarkLaws.{items_step, item_kind}
 
 -- ---- whether there are remarks
 
-module _ (text entries : List ℕ) (e left : ℕ) (h : 0 < left) where
-  pub scan_met : (eqb (entry_word entries e 0) 3 || eqb (entry_word entries e 0) 4) ≡ true → has_remarks (items_at text entries e left) ≡ true
-  scan_met q = rw (items_step text entries e left h, item_kind, q)
+module _ (is : Items) (e : ℕ) (h : e < is.first + is.count) where
+  pub scan_met : (eqb (entry_word is.entries.now e 0) 3 || eqb (entry_word is.entries.now e 0) 4) ≡ true → has_remarks (items_from is e) ≡ true
+  scan_met q = rw (items_step is e h, item_kind, q)
 
-  pub scan_pass : (eqb (entry_word entries e 0) 3 || eqb (entry_word entries e 0) 4) ≡ false
-      → has_remarks (items_at text entries e left) ≡ has_remarks (items_at text entries (e + 1) (left - 1))
-  scan_pass q = rw (items_step text entries e left h, item_kind, q)
+  pub scan_pass : (eqb (entry_word is.entries.now e 0) 3 || eqb (entry_word is.entries.now e 0) 4) ≡ false
+      → has_remarks (items_from is e) ≡ has_remarks (items_from is (e + 1))
+  scan_pass q = rw (items_step is e h, item_kind, q)
 
 -- ---- the header
 
@@ -34,36 +36,38 @@ none_long [] e = refl
 none_long (x ∷ xs) e = absurd (omega arith)
 
 -- No directive was put: the built-in header is.
-pub header_built : {p : List ℕ} {at : ℕ} {lead p' : List ℕ} {d : ℕ} {p'' : List ℕ} {r : ℕ} → Puts p at lead p' d → d ≡ at → Puts p' d built_in_header p'' r → Puts p at (header_held lead) p'' r
+pub header_built : {p : Page} {lead : List ℕ} {q r : Page} → Puts p lead q → q.at ≡ p.at → Puts q built_in_header r → Puts p (header_held lead) r
 unfolding header_held
-header_built {p} {at} {lead} {p'} {d} {p''} {r} a e b =
+header_built {p} {lead} {q} {r} a e b =
     by_cases (eqb (length lead) 0)
-    (λ q.
-    let z = none_long lead (eqb-true (length lead) 0 q) in
-    rw q (puts_then (rw z at a) b))
-    (λ q. rw q (record {
-      put = λ h. absurd (too_long h q);
+    (λ t.
+    let z = none_long lead (eqb-true (length lead) 0 t) in
+    rw t (puts_then (rw z at a) b))
+    (λ t. rw t (record {
+      put = λ h. absurd (too_long h t);
       kept = b.kept ∙ a.kept;
+      same = b.same ∙ a.same;
     }))
   where
-    too_long : at + length (lead ++ 10 ∷ []) ≤ 549755813888 → eqb (length lead) 0 ≡ false → ⊥
-    too_long h q =
-        let n : at + (length lead + 1) ≤ 549755813888 = rw length-append at h in
+    too_long : p.at + length (lead ++ 10 ∷ []) ≤ 549755813888 → eqb (length lead) 0 ≡ false → ⊥
+    too_long h t =
+        let n : p.at + (length lead + 1) ≤ 549755813888 = rw length-append at h in
         let x = a.put (omega arith) in
-        eqb-false (length lead) 0 q (omega (arith, x.next, e))
+        eqb-false (length lead) 0 t (omega (arith, x.next, e))
 
 -- Directives were put: an empty line follows them.
-pub header_own : {p : List ℕ} {at : ℕ} {lead p' : List ℕ} {d : ℕ} {p'' : List ℕ} {r : ℕ} → Puts p at lead p' d → (d ≡ at → ⊥) → Puts p' d (10 ∷ []) p'' r → Puts p at (header_held lead) p'' r
+pub header_own : {p : Page} {lead : List ℕ} {q r : Page} → Puts p lead q → (q.at ≡ p.at → ⊥) → Puts q (10 ∷ []) r → Puts p (header_held lead) r
 unfolding header_held
-header_own {p} {at} {lead} {p'} {d} {p''} {r} a e b =
+header_own {p} {lead} {q} {r} a e b =
     by_cases (eqb (length lead) 0)
-    (λ q. rw q (record {
-      put = λ h. absurd (none_put h (eqb-true (length lead) 0 q));
+    (λ t. rw t (record {
+      put = λ h. absurd (none_put h (eqb-true (length lead) 0 t));
       kept = b.kept ∙ a.kept;
+      same = b.same ∙ a.same;
     }))
-    (λ q. rw q (puts_then a b))
+    (λ t. rw t (puts_then a b))
   where
-    none_put : at + length built_in_header ≤ 549755813888 → length lead ≡ 0 → ⊥
+    none_put : p.at + length built_in_header ≤ 549755813888 → length lead ≡ 0 → ⊥
     none_put h z =
         let x = a.put (omega arith) in
         e (omega (arith, x.next))

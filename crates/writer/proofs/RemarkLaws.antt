@@ -11,20 +11,30 @@ use lib.Seq.{drop-cons}
 use borrow.Author.Tests.{eqb-true, ne_eqb}
 use Rattle.tables.proofs.Laws.{by_cases}
 use Rattle.reader.specs.Plain.{TagPair, first_bytes, starts_line, without_returns}
+use Rattle.writer.specs.declared.items.Items.{Items}
 use Rattle.writer.specs.Held.{entry_word, place_bytes, item_at, items_at}
-use Rattle.writer.specs.Items.{remark_text, remarks_text}
+use Rattle.writer.specs.Items.{items_of, items_from, ItemsFrom, remark_text, remarks_text}
 
 -- ---- entries in a row
 
-pub items_step : (text entries : List ℕ) (e left : ℕ) → 0 < left → items_at text entries e left ≡ item_at text entries e ∷ items_at text entries (e + 1) (left - 1)
-items_step text entries e zero h = absurd (omega arith)
-items_step text entries e (suc n) h =
-    let q : suc n - 1 ≡ n = omega arith in
+pub items_step : (is : Items) (e : ℕ) → e < is.first + is.count → items_from is e ≡ item_at is.text.now is.entries.now e ∷ items_from is (e + 1)
+items_step is e h =
+    let q : is.first + is.count - e ≡ suc (is.first + is.count - (e + 1)) = omega arith in
     rw q
 
-pub items_none : (text entries : List ℕ) (e left : ℕ) → left ≤ 0 → items_at text entries e left ≡ []
-items_none text entries e zero h = refl
-items_none text entries e (suc n) h = absurd (omega arith)
+pub items_none : (is : Items) (e : ℕ) → is.first + is.count ≤ e → items_from is e ≡ []
+items_none is e h =
+    let q : is.first + is.count - e ≡ 0 = omega arith in
+    rw q
+
+pub items_all : (is : Items) → items_from is is.first ≡ items_of is
+items_all is =
+    let q : is.first + is.count - is.first ≡ is.count = omega arith in
+    rw q
+
+-- Those that were made of others.
+pub items_made : {js : Items} {first n : ℕ} {is : Items} → ItemsFrom js first n is → items_of is ≡ items_at js.text.now js.entries.now first n
+items_made m = rw (m.same_text, m.same_entries, m.first_is, m.count_is)
 
 pub item_kind : (text entries : List ℕ) (e : ℕ) → (item_at text entries e).kind ≡ entry_word entries e 0
 unfolding item_at
@@ -38,16 +48,16 @@ item_bytes text entries e k q h =
     rw z
 
 -- The bytes of the first of them.
-pub first_none : (text entries : List ℕ) (e left : ℕ) → left ≡ 0 → first_bytes (items_at text entries e left) ≡ []
-first_none text entries e left h = rw h
+pub first_none : (is : Items) (e : ℕ) → is.first + is.count ≤ e → first_bytes (items_from is e) ≡ []
+first_none is e h = rw (items_none is e h)
 
-pub first_trick : (text entries : List ℕ) (e left : ℕ) → (left ≡ 0 → ⊥) → entry_word entries e 0 ≡ 8 → first_bytes (items_at text entries e left) ≡ []
+pub first_trick : (is : Items) (e : ℕ) → e < is.first + is.count → entry_word is.entries.now e 0 ≡ 8 → first_bytes (items_from is e) ≡ []
 unfolding item_at
-first_trick text entries e left h q = rw (items_step text entries e left (omega arith), q)
+first_trick is e h q = rw (items_step is e h, q)
 
-pub first_value_lem : (text entries : List ℕ) (e left : ℕ) → (left ≡ 0 → ⊥) → (entry_word entries e 0 ≡ 8 → ⊥) → first_bytes (items_at text entries e left) ≡ place_bytes text entries e
+pub first_value_lem : (is : Items) (e : ℕ) → e < is.first + is.count → (entry_word is.entries.now e 0 ≡ 8 → ⊥) → first_bytes (items_from is e) ≡ place_bytes is.text.now is.entries.now e
 unfolding item_at
-first_value_lem text entries e left h q = rw (items_step text entries e left (omega arith), ne_eqb (entry_word entries e 0) 8 q)
+first_value_lem is e h q = rw (items_step is e h, ne_eqb (entry_word is.entries.now e 0) 8 q)
 
 -- ---- a block's value
 
@@ -69,28 +79,28 @@ returns_kept s i h e = returns_step s i h ∙ rw e
 
 -- ---- remarks
 
-module _ (p : TagPair → Bool) (under : Bool) (k : ℕ) (text entries : List ℕ) (e left : ℕ) (h : 0 < left) where
+module _ (p : TagPair → Bool) (under : Bool) (k : ℕ) (is : Items) (e : ℕ) (h : e < is.first + is.count) where
   -- A tag: the test is asked of it.
-  pub remarks_tag : entry_word entries e 0 ≡ 1
-      → remarks_text p under k (items_at text entries e left)
-      ≡ remarks_text p (p (record { name = place_bytes text entries e; value = first_bytes (items_at text entries (e + 1) (left - 1)) })) k (items_at text entries (e + 1) (left - 1))
-  remarks_tag q = rw (items_step text entries e left h, item_kind, q, item_bytes text entries e 1 q (omega arith))
+  pub remarks_tag : entry_word is.entries.now e 0 ≡ 1
+      → remarks_text p under k (items_from is e)
+      ≡ remarks_text p (p (record { name = place_bytes is.text.now is.entries.now e; value = first_bytes (items_from is (e + 1)) })) k (items_from is (e + 1))
+  remarks_tag q = rw (items_step is e h, item_kind, q, item_bytes is.text.now is.entries.now e 1 q (omega arith))
 
   -- A remark that is sought.
-  pub remarks_put : (entry_word entries e 0 ≡ 1 → ⊥) → k ≤ 4 → (eqb (entry_word entries e 0) k && under) ≡ true
-      → remarks_text p under k (items_at text entries e left) ≡ remark_text k (place_bytes text entries e) ++ remarks_text p under k (items_at text entries (e + 1) (left - 1))
+  pub remarks_put : (entry_word is.entries.now e 0 ≡ 1 → ⊥) → k ≤ 4 → (eqb (entry_word is.entries.now e 0) k && under) ≡ true
+      → remarks_text p under k (items_from is e) ≡ remark_text k (place_bytes is.text.now is.entries.now e) ++ remarks_text p under k (items_from is (e + 1))
   remarks_put n f q =
-      by_cases (eqb (entry_word entries e 0) k)
-      (λ t. rw (items_step text entries e left h, item_kind, ne_eqb _ _ n, q, item_bytes text entries e k (eqb_is t) (omega arith)))
+      by_cases (eqb (entry_word is.entries.now e 0) k)
+      (λ t. rw (items_step is e h, item_kind, ne_eqb _ _ n, q, item_bytes is.text.now is.entries.now e k (eqb_is t) (omega arith)))
       (λ t. absurd (no (rw t at q)))
     where
-      eqb_is : eqb (entry_word entries e 0) k ≡ true → entry_word entries e 0 ≡ k
+      eqb_is : eqb (entry_word is.entries.now e 0) k ≡ true → entry_word is.entries.now e 0 ≡ k
       eqb_is t = eqb-true _ _ t
 
       no : ◌≡◌ {A = Bool} false true → ⊥
       no z = let w : ◌≡◌ {A = ℕ} 0 1 = cc in omega arith
 
   -- Any other entry.
-  pub remarks_pass : (entry_word entries e 0 ≡ 1 → ⊥) → (eqb (entry_word entries e 0) k && under) ≡ false
-      → remarks_text p under k (items_at text entries e left) ≡ remarks_text p under k (items_at text entries (e + 1) (left - 1))
-  remarks_pass n q = rw (items_step text entries e left h, item_kind, ne_eqb _ _ n, q)
+  pub remarks_pass : (entry_word is.entries.now e 0 ≡ 1 → ⊥) → (eqb (entry_word is.entries.now e 0) k && under) ≡ false
+      → remarks_text p under k (items_from is e) ≡ remarks_text p under k (items_from is (e + 1))
+  remarks_pass n q = rw (items_step is e h, item_kind, ne_eqb _ _ n, q)

@@ -18,11 +18,10 @@ use Rattle.reader.specs.Boards.{record_out}
 use Rattle.reader.specs.Plain.{Item, item_of, items_of, TagPair, Remark, PlainBoard, first_bytes, tags_in, remarks_in, without_returns, block_value, AnchoredEntries as AnchoredEntries, free, next}
 use Rattle.reader.proofs.WordLaws.{same_self}
 use Rattle.reader.proofs.PlainAnchors.{TagsBefore}
-use Rattle.writer.specs.declared.remarks.Sought.TheVariants.{Leading, Under, Unwritten}
 use Rattle.writer.specs.Tags.{named, written_tags}
 use Rattle.writer.specs.Remarks.{Anchored, anchor_of, anchored_from, those, is_leading, is_under, tag_unwritten, WrittenLine, directive_line, block_line, directive_lines, block_lines, line_text, lines_text}
 use Rattle.writer.specs.PresentSteps.{present_of}
-use Rattle.writer.specs.Items.{sought_by, is_first, remark_text, remarks_text, after_text, note_takes, is_remark, has_remarks}
+use Rattle.writer.specs.Items.{Leading, Under, Unwritten, sought_by, is_first, remark_text, remarks_text, after_text, note_takes, is_remark, has_remarks}
 use Rattle.writer.proofs.GroupLines.{takes_anchored}
 use Rattle.writer.proofs.NamesOnce.{Written}
 

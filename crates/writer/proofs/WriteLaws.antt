@@ -10,12 +10,11 @@ use borrow.Author.Tests.{le-leb, lt-leb}
 use native.Mathlib.Nat.{sub-zero}
 use Rattle.std.specs.Prelude.{Ok, Err, is_ok, Result}
 use Rattle.tables.specs.declared.letters.Conventions.{Conventions}
-use Rattle.tables.specs.declared.page.Written.{Written as PageWritten}
-use Rattle.tables.specs.declared.page.Written.TheVariants.{Bytes}
-use Rattle.tables.specs.declared.page.Written.TheVariants as paged
+use Rattle.tables.specs.declared.page.Page.{Page}
 use Rattle.tables.specs.declared.refusal.Refusal.TheVariants as refusal
 use Rattle.tables.specs.Page.{page_of}
 use Rattle.tables.specs.PageSteps.{PageEnded}
+use Rattle.tables.specs.Puts.{Puts}
 use Rattle.tables.proofs.PageLaws.{finished}
 use Rattle.tables.proofs.Laws.{by_cases, clash}
 use Rattle.reader.specs.declared.edition.Counts.{Counts}
@@ -24,14 +23,14 @@ use Rattle.reader.specs.Store.{zeros}
 use Rattle.reader.specs.Editions.{reading_of, cards_of, entries_of, IsRead}
 use Rattle.writer.specs.declared.write.WriteRefusal.{WriteRefusal}
 use Rattle.writer.specs.declared.write.WriteRefusal.TheVariants.{Edition, PageFull}
-use Rattle.writer.specs.Puts.{Puts}
 use Rattle.writer.specs.Pages.{written_text}
 use Rattle.writer.specs.BoardTexts.{page_held}
 use Rattle.writer.specs.Writings.{page_answer, written_by, writing_of, page_after, IsWritten}
-use Rattle.writer.specs.WritingSteps.{WritingEnded}
+use Rattle.writer.specs.WritingSteps.{PagePut, WritingEnded}
 use Rattle.writer.proofs.HeldBoards.{taken_holds}
 use Rattle.writer.proofs.HeldPages.{PageHeld}
 use Rattle.writer.proofs.Sizes.{BytesFew}
+use Rattle.tables.specs.declared.refusal.Refusal.{Refusal}
 
 abbrev boards_in : Result Counts ReadRefusal → ℕ
 boards_in (Ok n) = n.boards
@@ -51,6 +50,10 @@ taken_boards c text lc le n i =
     (λ v. clash (sym (ap is_ok (rw (t, u, v) at i))))
     (λ v. ap boards_in (rw (t, u, v) at i))))
 
+-- What was put from the start of lent bytes is put on them.
+pub page_put : {p q : Page} {bytes bytes' bs : List ℕ} → Puts p bs q → p.at ≡ 0 → p.bytes.now ≡ bytes → bytes' ≡ q.bytes.now → PagePut bytes bs bytes' q.at
+page_put a z e f = rw (← e, f) (record { put = λ h. rw z at (a.put (omega (arith, z))); kept = a.kept })
+
 -- What a page of bs comes to, by the answer.
 page_out : (bs : List ℕ) (m : ℕ) → page_of bs m ≡ page_after (is_ok (page_answer (length bs) m)) bs m
 unfolding page_of
@@ -62,7 +65,7 @@ out_is n m = by_cases (leb n m) (λ q. rw q) (λ q. rw q)
 -- The edition was taken, its text put and the page ended.
 pub written_taken : {c : Conventions} {text cards entries page cards₁ entries₁ page₁ cards₂ entries₂ page₂ : List ℕ} {k : Counts} {n : ℕ} {r : Result ℕ WriteRefusal}
     → IsRead c text cards entries (Ok k) cards₁ entries₁
-    → Puts page 0 (page_held c text cards₁ entries₁ k.boards) page₁ n
+    → PagePut page (page_held c text cards₁ entries₁ k.boards) page₁ n
     → WritingEnded n cards₁ entries₁ page₁ r cards₂ entries₂ page₂
     → length cards₁ ≡ length cards → length entries₁ ≡ length entries
     → IsWritten c text cards entries page r cards₂ entries₂ page₂
@@ -71,12 +74,12 @@ written_taken {c} {text} {cards} {entries} {page} {cards₁} {entries₁} {page�
     let t = taken_holds i in
     let nb = taken_boards c text (length cards) (length entries) k i.answer in
     let w = rw nb at p in
-    let text_put : Puts page 0 (written_text c text) page₁ n = rw (PageHeld c text cards₁ entries₁ t) at w in
+    let text_put : PagePut page (written_text c text) page₁ n = rw (PageHeld c text cards₁ entries₁ t) at w in
     let few = BytesFew c text t.short in
     let put = text_put.put (omega arith) in
     let en : n ≡ length (written_text c text) = omega (arith, put.next) in
     let el = text_put.kept in
-    let ended : PageEnded n page₁ page₂ (cond (leb n (length page₁)) (Bytes n) (paged.Refused (refusal.PageFull n))) = record { told = refl; page_left = d.page_left } in
+    let ended : PageEnded n page₁ page₂ (cond (leb n (length page₁)) (Ok n) (Err (refusal.PageFull n))) = record { told = refl; page_left = d.page_left } in
     let out : r ≡ page_answer (length (written_text c text)) (length page) = rw (← en, ← el) d.answer in
     let lent : is_ok r ≡ leb n (length page₁) = ap is_ok d.answer ∙ out_is n (length page₁) in
     record {
@@ -101,13 +104,13 @@ written_refused {c} {text} {cards} {entries} {page} i z =
     }
 
 -- A page of which nothing is kept.
-pub cleared_none : (page page' : List ℕ) (r : PageWritten) → PageEnded 0 page page' r → page' ≡ zeros page
+pub cleared_none : (page page' : List ℕ) (r : Result ℕ Refusal) → PageEnded 0 page page' r → page' ≡ zeros page
 cleared_none page page' r f =
     let z : leb 0 (length page) ≡ true = le-leb 0 (length page) (omega arith) in
     rw z at f.page_left ∙ ap (λ (k : ℕ). replicate k 0) (sub-zero (length page))
 
 -- The answer for n bytes that fit, and for more.
-pub ended_in : {n : ℕ} {cards entries page page' : List ℕ} {w : PageWritten} → n ≤ length page → PageEnded n page page' w → WritingEnded n cards entries page (Ok n) cards entries page'
+pub ended_in : {n : ℕ} {cards entries page page' : List ℕ} {w : Result ℕ Refusal} → n ≤ length page → PageEnded n page page' w → WritingEnded n cards entries page (Ok n) cards entries page'
 ended_in {n} {cards} {entries} {page} h f =
     let q = le-leb n (length page) h in
     record { answer = rw q; page_left = f.page_left; cards_after = rw q; entries_after = rw q }

@@ -1,5 +1,5 @@
 -- What the functions that write a board put, group by group; is are the entries whose remarks follow the tags.
-use Rattle.std.specs.Prelude.{ℕ, zero, suc, ◌+◌, ◌-◌, cond, ◌&&◌, not, length, List, [], ◌∷◌, ◌++◌, eqb, ltb}
+use Rattle.std.specs.Prelude.{ℕ, zero, suc, ◌+◌, ◌-◌, ◌≡◌, cond, ◌&&◌, not, length, List, [], ◌∷◌, ◌++◌, eqb, ltb}
 use Rattle.std.proofs.Math.Option.{Option, none, some}
 use Rattle.tables.specs.declared.letters.Conventions.{Conventions}
 use Rattle.tables.specs.Text.{ascii}
@@ -7,14 +7,14 @@ use Rattle.tables.specs.Tables.{digits_text}
 use Rattle.reader.specs.Words.{vulnerability_token}
 use Rattle.reader.specs.Deals.{hands_of_words, deal_text}
 use Rattle.reader.specs.Plain.{Item}
+use Rattle.writer.specs.declared.held.Board.{Board}
 use Rattle.writer.specs.declared.present.Present.{Present}
-use Rattle.writer.specs.declared.remarks.Sought.TheVariants.{Leading, Unwritten}
 use Rattle.writer.specs.Sections.{note_values}
 use Rattle.writer.specs.PresentSteps.{is_any}
 use Rattle.writer.specs.Pages.{built_in_header}
 use Rattle.writer.specs.Tags.{or_empty, seat_text, result_text, first_seat}
 use Rattle.writer.specs.Held.{card_word, card_part, items_at, board_items, section_items, value_held}
-use Rattle.writer.specs.Items.{has_remarks, sought_text, after_text, tag_line_text, tagged_text, extras_text, result_in, auction_text, play_text, notes_text, tags_at, scoring_at, deal_place}
+use Rattle.writer.specs.Items.{Leading, Unwritten, items_of, has_remarks, sought_text, after_text, tag_line_text, tagged_text, extras_text, result_in, auction_text, play_text, notes_text, tags_at, scoring_at, deal_place}
 
 -- The entries from first on, scan of them.
 abbrev pub scanned_items : List ℕ → List ℕ → List ℕ → ℕ → ℕ → List Item
@@ -23,6 +23,16 @@ scanned_items text cards entries b scan = items_at text entries (card_word cards
 -- The value of the word i of the card b.
 abbrev pub card_value : List ℕ → List ℕ → List ℕ → ℕ → ℕ → Option (List ℕ)
 card_value text cards entries b i = value_held text entries (card_word cards b i)
+
+-- The same of a board that is being written; a text of its group of tags.
+abbrev pub word_of : Board → ℕ → ℕ
+word_of b i = card_word b.cards.now b.index i
+
+abbrev pub value_of : Board → ℕ → Option (List ℕ)
+value_of b i = card_value b.remarks.text.now b.cards.now b.remarks.entries.now b.index i
+
+abbrev pub of_board : (List ℕ → List ℕ → List ℕ → ℕ → List Item → List ℕ) → Board → List ℕ
+of_board text_of b = text_of b.remarks.text.now b.cards.now b.remarks.entries.now b.index (items_of b.remarks)
 
 abbrev pub optional_text : List ℕ → Option (List ℕ) → List Item → List ℕ
 optional_text n none is = []
@@ -122,6 +132,9 @@ present_held text cards entries b =
 unfoldable pub scan_of : List ℕ → List ℕ → List ℕ → ℕ → ℕ
 scan_of text cards entries b = cond (has_remarks (board_items text cards entries b)) (card_word cards b 1) 0
 
+abbrev pub present_in : Board → Present
+present_in b = present_held b.remarks.text.now b.cards.now b.remarks.entries.now b.index
+
 abbrev pub early : List ℕ → List ℕ → List ℕ → ℕ → ℕ
 early text cards entries b = deal_place text entries (card_word cards b 0) (card_word cards b 1)
 
@@ -153,6 +166,14 @@ unfoldable pub body_held : Conventions → List ℕ → List ℕ → List ℕ �
 body_held c text cards entries b =
     front_text c text cards entries b (scanned_items text cards entries b (scan_of text cards entries b))
     ++ back_text c text cards entries b (scanned_items text cards entries b (scan_of text cards entries b))
+
+-- The board of the card at an index, as it is written.
+pub record BoardHeld (text cards entries : List ℕ) (index : ℕ) (b : Board) : Type 0 where
+  pub same_text : b.remarks.text.now ≡ text
+  pub same_cards : b.cards.now ≡ cards
+  pub same_entries : b.remarks.entries.now ≡ entries
+  pub index_is : b.index ≡ index
+  pub remarks_are : items_of b.remarks ≡ scanned_items text cards entries index (scan_of text cards entries index)
 
 -- ---- the page
 

@@ -12,11 +12,11 @@ use Rattle.planning.specs.States.{BoardPlan, board_plans}
 use Rattle.planning.specs.Slips.{totals_of}
 use Rattle.planning.specs.Plans.{Boxes}
 use Rattle.writer.specs.declared.finish.FinishRefusal.{FinishRefusal}
-use Rattle.writer.specs.Puts.{Puts}
 use Rattle.writer.specs.Held.{card_part}
 use Rattle.writer.specs.BoardTexts.{page_held}
 use Rattle.writer.specs.Given.{answer_at, table_of}
 use Rattle.writer.specs.Writings.{page_after}
+use Rattle.writer.specs.WritingSteps.{PagePut}
 use Rattle.writer.specs.Finishings.{finished_on, answered_by}
 
 -- A card with other cells, words 18 to 37; with another kind of table, word 38.
@@ -80,7 +80,7 @@ pub record FinishEnded (n : ℕ) (boxes : Boxes) (page : List ℕ) (r : Result �
 
 -- The page of n boards was put, their given tables marked; then these were taken away.
 pub record FinishPut (c : Conventions) (new : List ℕ) (n : ℕ) (cards entries page : List ℕ) (r : ℕ) (cards' page' : List ℕ) : Type 0 where
-  pub put : Puts page 0 (page_held c new (changed_all marked n cards) entries n) page' r
+  pub put : PagePut page (page_held c new (changed_all marked n cards) entries n) page' r
   pub cards_after : cards' ≡ changed_all given_cleared n (changed_all marked n cards)
 
 -- The boards of the new edition, of n cards, the old one having m.
@@ -107,7 +107,7 @@ cleared_boxes m n boxes answers =
       new_entries = boxes.new_entries;
     }
 
--- The new edition, of n boards, is finished, the old one having m: the answer, the boxes and the page. Puts counts no further than 2 ^ 39
+-- The new edition, of n boards, is finished, the old one having m: the answer, the boxes and the page. A page is counted no further than 2 ^ 39
 -- bytes, so that the answer and the page are promised up to there.
 pub record BoardsFinished (c : Conventions) (new : List ℕ) (m n : ℕ) (boxes : Boxes) (answers page : List ℕ) (r : Result ℕ FinishRefusal)
     (boxes' : Boxes) (page' : List ℕ) : Type 0 where

@@ -1,19 +1,38 @@
 -- What the functions of writing put, said of the entries of a board as they stand in a row.
-use Rattle.std.specs.Prelude.{ℕ, zero, suc, ◌+◌, ◌-◌, ◌/◌, ◌%◌, Bool, true, false, cond, ◌&&◌, ◌||◌, not, List, [], ◌∷◌, ◌++◌, eqb, ltb, leb, length, drop, set, get_or}
-use Rattle.tables.specs.declared.numbers.Number.{Number}
-use Rattle.tables.specs.declared.numbers.Number.TheVariants.{Value, Bad}
+use Rattle.std.specs.Prelude.{ℕ, zero, suc, ◌+◌, ◌-◌, ◌/◌, ◌%◌, ◌≡◌, Bool, true, false, cond, ◌&&◌, ◌||◌, not, List, [], ◌∷◌, ◌++◌, eqb, ltb, leb, length, drop, set, get_or, Some, None}
 use Rattle.tables.specs.declared.letters.Conventions.{Conventions}
 use Rattle.reader.specs.declared.board.Identity.{Identity}
 use Rattle.reader.specs.Words.{same, call_token, card_token}
 use Rattle.reader.specs.Names.{tag_number, note_name}
 use Rattle.reader.specs.Plain.{Item, TagPair, first_bytes, without_returns}
-use Rattle.writer.specs.declared.remarks.Sought.{Sought}
-use Rattle.writer.specs.declared.remarks.Sought.TheVariants.{Leading, Under, Unwritten}
+use Rattle.writer.specs.declared.present.Present.{Present}
 use Rattle.tables.specs.Text.{ascii, trimmed, before}
-use Rattle.tables.specs.Numbers.{number_of, decimal}
+use Rattle.tables.specs.Numbers.{Number, number_of, decimal}
 use Rattle.writer.specs.Tags.{WrittenTag}
 use Rattle.writer.specs.PresentSteps.{is_tag_written, is_any}
+use Rattle.writer.specs.declared.items.Items.{Items}
+use Rattle.writer.specs.declared.notes.Notes.{Notes}
 use Rattle.writer.specs.Held.{entry_word, place_bytes, items_at}
+
+-- ---- entries in a row
+
+-- The entries that are meant; those from the entry e on.
+abbrev pub items_of : Items → List Item
+items_of is = items_at is.text.now is.entries.now is.first is.count
+
+abbrev pub items_from : Items → ℕ → List Item
+items_from is e = items_at is.text.now is.entries.now e (is.first + is.count - e)
+
+-- The tag at the entry e, the next entry having its value.
+abbrev pub tag_at : Items → ℕ → TagPair
+tag_at is e = record { name = place_bytes is.text.now is.entries.now e; value = first_bytes (items_from is (e + 1)) }
+
+-- Of the same text as js, n entries from first on.
+pub record ItemsFrom (js : Items) (first n : ℕ) (is : Items) : Type 0 where
+  pub same_text : is.text.now ≡ js.text.now
+  pub same_entries : is.entries.now ≡ js.entries.now
+  pub first_is : is.first ≡ first
+  pub count_is : is.count ≡ n
 
 -- ---- names
 
@@ -24,7 +43,12 @@ name_index n (i ∷ is) = cond (eqb i.kind 1 && same n i.bytes) 0 (suc (name_ind
 
 -- ---- directives and blocks
 
--- The names whose remarks are sought: none, those before every tag; the name n; those that are not written.
+-- The remarks that are sought: those before every tag; those under the name n; those whose tag is not written.
+pub data Sought : Type 0 where
+  Leading : Sought
+  Under : Sought
+  Unwritten : Present → Sought
+
 abbrev pub sought_by : Sought → List ℕ → List ℕ → Bool
 sought_by Leading n m = false
 sought_by Under n m = same n m
@@ -205,10 +229,14 @@ deal_place text entries first count =
 
 -- ---- notes
 
+-- What is said of the notes of an auction: the text and the entries, and the places of their values.
+abbrev pub of_notes : {A : Type 0} → (List ℕ → List ℕ → List ℕ → A) → Notes → A
+of_notes f ns = f ns.items.text.now ns.items.entries.now ns.places
+
 -- A number that was read, 256 where it is none.
 abbrev pub or_none : Number → ℕ
-or_none Bad = 256
-or_none (Value v) = v
+or_none None = 256
+or_none (Some v) = v
 
 -- The number of a note's value, 256 where it has no colon (58) or no number before it.
 unfoldable pub note_number : List ℕ → ℕ

@@ -3,7 +3,6 @@ pub mod Tags
 pub mod Remarks
 pub mod Pages
 pub mod Held
-pub mod Puts
 pub mod PresentSteps
 pub mod Items
 pub mod BoardTexts

@@ -1,32 +1,33 @@
 // The value of a Deal tag.
 ghost use Rattle.std.specs.Prelude.{◌≡◌, ◌+◌, ◌<◌};
 ghost use Rattle.reader.specs.Deals.{from_words, hands_of_words, back, clockwise, suit_text, hand_text, hands_text, deal_text};
-ghost use Rattle.writer.specs.Puts.{Puts};
-ghost use Rattle.writer.specs.Held.{card_word, card_part};
+ghost use Rattle.tables.specs.Puts.{Puts};
+ghost use Rattle.writer.specs.Held.{card_part};
+ghost use Rattle.writer.specs.BoardTexts.{word_of};
 
-use crate::held::card_word;
-use crate::put::put_byte;
+use crate::held::Board;
 use reader::deal::{Hands, holds};
 use tables::letters::{Conventions, rank_letter, seat_letter};
+use tables::page::Page;
 
-// The hand in the words i and i + 1 of the card b.
-fn hand_at(cards: &[u32], b: usize, i: usize) -> u64
+// The hand in the words i and i + 1 of a board's card.
+fn hand_at(board: &Board, i: usize) -> u64
     requires { i < 63 }
-    ensures { result ≡ from_words (card_word cards.now b i) (card_word cards.now b (i + 1)) }
+    ensures { result ≡ from_words (word_of board.now i) (word_of board.now (i + 1)) }
 {
-    let low = card_word(cards, b, i);
-    let high = card_word(cards, b, i + 1);
+    let low = board.word(i);
+    let high = board.word(i + 1);
     (high as u64) * 4294967296 + (low as u64)
 }
 
-// The hands of the card b: words 10 to 17.
-pub(crate) fn hands_at(cards: &[u32], b: usize) -> Hands
-    ensures { result ≡ hands_of_words (card_part cards.now b 10 8) }
+// The hands of a board: words 10 to 17.
+pub(crate) fn hands_at(board: &Board) -> Hands
+    ensures { result ≡ hands_of_words (card_part board.now.cards.now board.now.index 10 8) }
 {
-    let north = hand_at(cards, b, 10);
-    let east = hand_at(cards, b, 12);
-    let south = hand_at(cards, b, 14);
-    let west = hand_at(cards, b, 16);
+    let north = hand_at(board, 10);
+    let east = hand_at(board, 12);
+    let south = hand_at(board, 14);
+    let west = hand_at(board, 16);
     Hands {
         north,
         east,
@@ -67,58 +68,54 @@ fn from_seat(h: Hands, seat: usize) -> Hands
 }
 
 // The ranks of the suit s in x, from high to low.
-fn put_suit(page: &mut [u8], at: usize, c: Conventions, s: u8, x: u64) -> usize
+fn put_suit(page: &mut Page, c: Conventions, s: u8, x: u64)
     requires { s < 4 }
-    ensures { Puts page.old at (suit_text c s x) page.new result }
+    ensures { Puts page.old (suit_text c s x) page.new }
 {
-    let mut k = at;
-    let mut r: u8 = 13;
-    while r > 0 {
-        let rank = r - 1;
-        r = rank;
+    for k in 0..13u8 {
+        let rank = 12 - k;
         if holds(x, 13 * s + rank) {
-            k = put_byte(page, k, rank_letter(c, rank));
-            continue;
+            page.put_byte(rank_letter(c, rank));
         }
     }
-    k
 }
 
 // A dash for no card, else four suits, spades first.
-fn put_hand(page: &mut [u8], at: usize, c: Conventions, x: u64) -> usize
-    ensures { Puts page.old at (hand_text c x) page.new result }
+fn put_hand(page: &mut Page, c: Conventions, x: u64)
+    ensures { Puts page.old (hand_text c x) page.new }
 {
     if x == 0 {
-        return put_byte(page, at, 45);
+        page.put_byte(45);
+        return;
     }
-    let d = put_suit(page, at, c, 3, x);
-    let e = put_byte(page, d, 46);
-    let f = put_suit(page, e, c, 2, x);
-    let g = put_byte(page, f, 46);
-    let h = put_suit(page, g, c, 1, x);
-    let i = put_byte(page, h, 46);
-    put_suit(page, i, c, 0, x)
+    put_suit(page, c, 3, x);
+    page.put_byte(46);
+    put_suit(page, c, 2, x);
+    page.put_byte(46);
+    put_suit(page, c, 1, x);
+    page.put_byte(46);
+    put_suit(page, c, 0, x);
 }
 
 // Four hands with a blank between them.
-fn put_hands(page: &mut [u8], at: usize, c: Conventions, h: Hands) -> usize
-    ensures { Puts page.old at (hands_text c h) page.new result }
+fn put_hands(page: &mut Page, c: Conventions, h: Hands)
+    ensures { Puts page.old (hands_text c h) page.new }
 {
-    let d = put_hand(page, at, c, h.north);
-    let e = put_byte(page, d, 32);
-    let f = put_hand(page, e, c, h.east);
-    let g = put_byte(page, f, 32);
-    let i = put_hand(page, g, c, h.south);
-    let j = put_byte(page, i, 32);
-    put_hand(page, j, c, h.west)
+    put_hand(page, c, h.north);
+    page.put_byte(32);
+    put_hand(page, c, h.east);
+    page.put_byte(32);
+    put_hand(page, c, h.south);
+    page.put_byte(32);
+    put_hand(page, c, h.west);
 }
 
 // A deal from a seat on.
-pub fn put_deal(page: &mut [u8], at: usize, c: Conventions, seat: usize, h: Hands) -> usize
+pub fn put_deal(page: &mut Page, c: Conventions, seat: usize, h: Hands)
     requires { seat < 4 }
-    ensures { Puts page.old at (deal_text c seat h) page.new result }
+    ensures { Puts page.old (deal_text c seat h) page.new }
 {
-    let d = put_byte(page, at, seat_letter(c, seat as u8));
-    let e = put_byte(page, d, 58);
-    put_hands(page, e, c, from_seat(h, seat))
+    page.put_byte(seat_letter(c, seat as u8));
+    page.put_byte(58);
+    put_hands(page, c, from_seat(h, seat));
 }

@@ -7,9 +7,8 @@ ghost use Rattle.writer.specs.GivenCards.{marked, given_cleared, changed_at, cha
 ghost use Rattle.writer.specs.Finishings.{finish_number, finish_carries, finish_edition, first_above, checked_of, IsFinished};
 
 use crate::give::give_tables;
-use crate::page::put_page;
-use crate::write::clear;
-use planning::cards::{has_table, is_whole};
+use crate::write::{clear, put_edition};
+use planning::cards::{card_here, has_table, is_whole};
 use planning::editions::{
     Editions, EditionsRefusal, edition_refused, editions_carried, editions_number, read_both,
 };
@@ -66,8 +65,9 @@ fn mark_card(cards: &mut [u32], k: usize)
     requires { 64 * k + 64 ≤ length cards.old }
     ensures { cards.new ≡ changed_at marked k cards.old }
 {
-    let whole = is_whole(cards, k);
-    let tabled = has_table(cards, k);
+    let card = card_here(cards, k);
+    let whole = is_whole(card);
+    let tabled = has_table(card);
     if whole & !tabled {
         cards[64 * k + 38] = 3;
     }
@@ -78,10 +78,8 @@ fn mark_given(cards: &mut [u32], boards: usize)
     requires { 64 * boards ≤ length cards.old }
     ensures { cards.new ≡ changed_all marked boards cards.old }
 {
-    let mut k = 0;
-    while k < boards {
+    for k in 0..boards {
         mark_card(cards, k);
-        k += 1;
     }
 }
 
@@ -101,10 +99,8 @@ fn clear_given(cards: &mut [u32], boards: usize)
     requires { 64 * boards ≤ length cards.old }
     ensures { cards.new ≡ changed_all given_cleared boards cards.old }
 {
-    let mut k = 0;
-    while k < boards {
+    for k in 0..boards {
         clear_card(cards, k);
-        k += 1;
     }
 }
 
@@ -112,14 +108,10 @@ fn clear_given(cards: &mut [u32], boards: usize)
 fn first_above(answers: &[u8]) -> usize
     ensures { result ≡ first_above answers.now }
 {
-    let mut i = 0;
-    while i < answers.len() {
-        if answers[i] > 13 {
-            return i;
-        }
-        i += 1;
+    match answers.iter().position(|b| *b > 13) {
+        Some(i) => i,
+        None => answers.len(),
     }
-    i
 }
 
 // Lets answers through that are 20 bytes for each board to solve, none above 13.
@@ -172,7 +164,7 @@ fn end_finishing(
         page.new }
 {
     if n <= page.len() {
-        tables::page::finish(page, n);
+        let _ = tables::page::finish(page, n);
         return Ok(n as u64);
     }
     zero_all(old_cards, old_entries, new_cards, new_entries, page);
@@ -192,7 +184,7 @@ fn put_finished(
     ensures { FinishPut c new.now boards cards.old entries.now page.old result cards.new page.new }
 {
     mark_given(cards, boards);
-    let n = put_page(new, cards, entries, c, boards, page);
+    let n = put_edition(new, cards, entries, c, boards, page);
     clear_given(cards, boards);
     n
 }

@@ -1,12 +1,14 @@
 // The cells that each board of the new edition gets: its own, its source board's, or an answer.
 ghost use Rattle.std.specs.Prelude.{◌≡◌, ◌+◌, ◌*◌, ◌≤◌, ◌<◌, ◌^◌, length};
 ghost use Rattle.std.proofs.lemmas.List.Edits.{sets};
+ghost use Rattle.planning.specs.Cards.{card_here};
 ghost use Rattle.planning.specs.PlanSteps.{cards_in, tally};
+ghost use Rattle.planning.specs.States.{state_of};
 ghost use Rattle.writer.specs.Given.{answer_at};
 ghost use Rattle.writer.specs.GivenCards.{cells_at, source_cells, Gave};
 
-use crate::board::less;
-use planning::state::{BoardState, state_number, state_of};
+use planning::cards::cards_in;
+use planning::state::{BoardState, state_of};
 use reader::store::copy_in;
 
 // The cells of the card at index k; zeros where there is no such card.
@@ -23,12 +25,6 @@ fn cells_at(cards: &[u32], k: usize) -> [u32; 20]
     cells
 }
 
-fn tricks(b: u8) -> u32
-    ensures { result ≡ b }
-{
-    b as u32
-}
-
 // The 20 answers for a slip; zeros where there are none.
 fn answer_cells(answers: &[u8], slip: usize) -> [u32; 20]
     ensures { result ≡ answer_at answers.now slip }
@@ -38,10 +34,8 @@ fn answer_cells(answers: &[u8], slip: usize) -> [u32; 20]
         return cells;
     }
     let at = 20 * slip;
-    let mut i = 0;
-    while i < 20 {
-        cells[i] = tricks(answers[at + i]);
-        i += 1;
+    for i in 0..20 {
+        cells[i] = answers[at + i] as u32;
     }
     cells
 }
@@ -60,9 +54,9 @@ fn source_cells(
     match s {
         BoardState::Blank => cells_at(new_cards, k),
         BoardState::Own => cells_at(new_cards, k),
-        BoardState::Old(j) => cells_at(old_cards, less(j as usize, 1)),
-        BoardState::Near(j) => cells_at(new_cards, less(j as usize, 1)),
-        BoardState::Twin(j) => cells_at(new_cards, less(j as usize, 1)),
+        BoardState::Old(j) => cells_at(old_cards, (j as usize).saturating_sub(1)),
+        BoardState::Near(j) => cells_at(new_cards, (j as usize).saturating_sub(1)),
+        BoardState::Twin(j) => cells_at(new_cards, (j as usize).saturating_sub(1)),
         BoardState::Solve => answer_cells(answers, slip),
     }
 }
@@ -80,10 +74,24 @@ fn slip_after(slip: usize, s: BoardState) -> usize
     requires { slip ≤ 2 ^ 60 }
     ensures { result ≡ tally 5 s slip }
 {
-    if state_number(s) == 5 {
+    if s.is_solve() {
         return slip + 1;
     }
     slip
+}
+
+// The state of the board at index k of the new edition.
+fn state_here(
+    old_cards: &[u32],
+    olds: usize,
+    new_cards: &[u32],
+    news: usize,
+    k: usize,
+) -> BoardState
+    requires { (64 * olds ≤ length old_cards.now) × (64 * news ≤ length new_cards.now) × (k < news) }
+    ensures { result ≡ state_of (cards_in olds old_cards.now) (cards_in news new_cards.now) (cards_in k new_cards.now) (card_here k new_cards.now) }
+{
+    state_of(cards_in(old_cards, olds), cards_in(new_cards, news), k)
 }
 
 // Gives every board of the new edition its cells, and answers how many are to be solved.
@@ -98,13 +106,11 @@ pub(crate) fn give_tables(
     ensures { Gave (cards_in olds old_cards.now) (cards_in news new_cards.old) new_cards.old news answers.now result new_cards.new }
 {
     let mut slip = 0;
-    let mut k = 0;
-    while k < news {
-        let s = state_of(old_cards, olds, new_cards, news, k);
+    for k in 0..news {
+        let s = state_here(old_cards, olds, new_cards, news, k);
         let cells = source_cells(old_cards, new_cards, k, s, answers, slip);
         put_cells(new_cards, k, cells);
         slip = slip_after(slip, s);
-        k += 1;
     }
     slip
 }

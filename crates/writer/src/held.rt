@@ -1,42 +1,137 @@
-// What was just read: the words of cards and entries, and the bytes that they name.
-ghost use Rattle.std.specs.Prelude.{◌≡◌, ◌<◌, ◌+◌, ◌*◌, get_or};
-ghost use Rattle.writer.specs.Held.{entry_word, card_word, place_bytes};
+// A board as the words that were just read hold it.
+ghost use Rattle.std.specs.Prelude.{◌≡◌, ◌+◌, ◌-◌, ◌<◌, ◌≤◌, MatchOption};
+ghost use Rattle.std.proofs.Math.Option.{none, some};
+ghost use Rattle.writer.specs.Held.{card_word};
+ghost use Rattle.writer.specs.Items.{items_of, has_remarks, ItemsFrom};
+ghost use Rattle.writer.specs.BoardTexts.{word_of, value_of, BoardHeld};
 
-use tables::text::{from, upto};
+use crate::items::{BLOCK, DIRECTIVE, Items};
 
-fn wide(w: u32) -> usize
-    ensures { (result ≡ w) × (result < 4294967296) }
-{
-    w as usize
-}
-
-// The word j of the entry e.
-pub(crate) fn entry_word(entries: &[u32], e: usize, j: usize) -> usize
-    requires { j < 4 }
-    ensures { (result ≡ entry_word entries.now e j) × (result < 4294967296) }
-{
-    if e < entries.len() / 4 {
-        return wide(entries[4 * e + j]);
-    }
-    0
+// The board whose card stands at an index; its remarks are among its entries, or among none of them where there is no remark.
+#[derive(Clone, Copy)]
+pub struct Board<'a> {
+    pub cards: &'a [u32],
+    pub index: usize,
+    pub remarks: Items<'a>,
 }
 
 // The word i of the card k.
-pub(crate) fn card_word(cards: &[u32], k: usize, i: usize) -> usize
+fn card_word(cards: &[u32], k: usize, i: usize) -> usize
     requires { i < 64 }
     ensures { (result ≡ card_word cards.now k i) × (result < 4294967296) }
 {
     if k < cards.len() / 64 {
-        return wide(cards[64 * k + i]);
+        return cards[64 * k + i] as usize;
     }
     0
 }
 
-// The bytes of the text at the place of the entry e.
-pub(crate) fn bytes_at<'a>(text: &'a [u8], entries: &[u32], e: usize) -> &'a [u8]
-    ensures { result.now ≡ place_bytes text.now entries.now e }
+// Whether a directive or a block is among them.
+fn has_remarks(items: &Items) -> bool
+    ensures { result ≡ has_remarks (items_of items.now) }
 {
-    let a = entry_word(entries, e, 1);
-    let n = entry_word(entries, e, 2);
-    upto(from(text, a), n)
+    for e in items.first..items.end() {
+        let kind = items.kind_at(e);
+        if (kind == DIRECTIVE) | (kind == BLOCK) {
+            return true;
+        }
+    }
+    false
+}
+
+impl<'a> Board<'a> {
+    // The board of the card at an index.
+    pub(crate) fn new(
+        text: &'a [u8],
+        cards: &'a [u32],
+        entries: &'a [u32],
+        index: usize,
+    ) -> Board<'a>
+        ensures { BoardHeld text.now cards.now entries.now index result }
+    {
+        let first = card_word(cards, index, 0);
+        let count = card_word(cards, index, 1);
+        let items = Items {
+            text,
+            entries,
+            first,
+            count,
+        };
+        if has_remarks(&items) {
+            return Board {
+                cards,
+                index,
+                remarks: items,
+            };
+        }
+        Board {
+            cards,
+            index,
+            remarks: items.before(first),
+        }
+    }
+
+    // The word i of its card.
+    pub(crate) fn word(&self, i: usize) -> usize
+        requires { i < 64 }
+        ensures { (result ≡ word_of self.now i) × (result < 4294967296) }
+    {
+        card_word(self.cards, self.index, i)
+    }
+
+    // The value that the word i names: an entry plus 1, 0 for none.
+    pub(crate) fn value(&self, i: usize) -> Option<&'a [u8]>
+        requires { i < 64 }
+        ensures { MatchOption result (value_of self.now i ≡ none) (λ v. value_of self.now i ≡ some v.now) }
+    {
+        let w = self.word(i);
+        if w == 0 {
+            return None;
+        }
+        Some(self.remarks.bytes_at(w - 1))
+    }
+
+    // Its entries.
+    pub(crate) fn items(&self) -> Items<'a>
+        ensures { ItemsFrom self.now.remarks (word_of self.now 0) (word_of self.now 1) result }
+    {
+        Items {
+            text: self.remarks.text,
+            entries: self.remarks.entries,
+            first: self.word(0),
+            count: self.word(1),
+        }
+    }
+
+    // The entries of the section that the word i names, an entry plus 1, 0 for none; the next word says how many there are.
+    pub(crate) fn section(&self, i: usize) -> Option<Items<'a>>
+        requires { i < 63 }
+        ensures { MatchOption result (word_of self.now i ≡ 0)
+            (λ is. (word_of self.now i ≡ 0 → ⊥) × ItemsFrom self.now.remarks (word_of self.now i - 1) (word_of self.now (i + 1)) is × (is.first < 4294967296)) }
+    {
+        let w = self.word(i);
+        if w == 0 {
+            return None;
+        }
+        Some(Items {
+            text: self.remarks.text,
+            entries: self.remarks.entries,
+            first: w - 1,
+            count: self.word(i + 1),
+        })
+    }
+
+    // Its entries from an entry on.
+    pub(crate) fn items_from(&self, first: usize) -> Items<'a>
+        requires { first ≤ 4294967296 }
+        ensures { ItemsFrom self.now.remarks first (word_of self.now 0 + word_of self.now 1 - first) result }
+    {
+        let end = self.word(0) + self.word(1);
+        Items {
+            text: self.remarks.text,
+            entries: self.remarks.entries,
+            first,
+            count: end.saturating_sub(first),
+        }
+    }
 }

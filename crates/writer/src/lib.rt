@@ -6,13 +6,13 @@ pub mod board; // the tags of a board
 pub mod deal; // the value of a Deal tag
 pub mod finish; // the new edition finished, every whole board with a table
 pub mod give; // the cells that each board of the new edition gets
-pub mod held; // words of cards and entries, and the bytes that they name
+pub mod held; // a board by the words of its card
+pub mod items; // entries in a row, and the bytes that they name
 pub mod names; // the search for a tag name
 pub mod notes; // the notes of an auction
 pub mod page; // a board, and the page of an edition
 pub mod play; // the data lines of a play
 pub mod present; // which tags of a board are written
-pub mod put; // text put on a page and counted past its end
 pub mod remarks; // directives and commentary
 pub mod tags; // tags with what follows them
 pub mod tokens; // calls, cards, seats and other words

@@ -1,293 +1,180 @@
 // A board's lines, and the page of an edition: its boards' parts in a row.
-ghost use Rattle.std.specs.Prelude.{◌≡◌, cond, ◌∷◌, [], ◌++◌, ◌+◌, ◌-◌, ◌≤◌, ◌<◌, eqb};
-ghost use Rattle.writer.specs.Puts.{Puts};
-ghost use Rattle.writer.specs.Held.{card_word, items_at};
+ghost use Rattle.std.specs.Prelude.{◌≡◌, ◌∷◌, [], ◌++◌, ◌-◌, ◌≤◌, ◌<◌};
+ghost use Rattle.tables.specs.Puts.{Puts};
 ghost use Rattle.writer.specs.Pages.{built_in_header};
-ghost use Rattle.writer.specs.Items.{has_remarks, deal_place};
-ghost use Rattle.writer.specs.BoardTexts.{scanned_items, present_held, scan_of, front_text, unwritten_text, back_text, lead_held, body_held, header_held, next_held, parts_held, page_held};
+ghost use Rattle.writer.specs.Items.{Leading, items_of, sought_text, deal_place};
+ghost use Rattle.writer.specs.BoardTexts.{of_board, present_in, front_text, unwritten_text, back_text, header_held, next_held, parts_held, page_held};
 
-use crate::board::{less, put_analysis, put_bidding, put_cards, put_contract, put_head};
-use crate::held::{card_word, entry_word};
+use crate::board::{put_analysis, put_bidding, put_cards, put_contract, put_head};
+use crate::held::Board;
+use crate::items::{BLOCK, DIRECTIVE, Items};
 use crate::names::find_name;
 use crate::notes::has_notes;
 use crate::present::Present;
-use crate::put::{put_byte, put_bytes};
-use crate::remarks::{Sought, put_remarks};
+use crate::remarks::{put_leading, put_lost};
 use crate::tags::put_extras;
 use tables::letters::Conventions;
-
-// How many entries from first on are scanned for remarks: all of them, or none where there is no remark.
-fn scan_count(text: &[u8], entries: &[u32], first: usize, count: usize) -> usize
-    requires { first + count ≤ 8589934592 }
-    ensures { (result ≡ cond (has_remarks (items_at text.now entries.now first count)) count 0) × (result ≤ count) }
-{
-    let mut e = first;
-    let mut left = count;
-    while left > 0 {
-        let here = e;
-        e = here + 1;
-        left -= 1;
-        let kind = entry_word(entries, here, 0);
-        if (kind == 3) | (kind == 4) {
-            return count;
-        }
-    }
-    0
-}
-
-fn scan_of(text: &[u8], cards: &[u32], entries: &[u32], b: usize) -> usize
-    ensures { (result ≡ scan_of text.now cards.now entries.now b) × (result ≤ 4294967296) }
-{
-    let first = card_word(cards, b, 0);
-    let count = card_word(cards, b, 1);
-    scan_count(text, entries, first, count)
-}
+use tables::page::Page;
 
 // Whether the auction in force has notes.
-fn noted(text: &[u8], cards: &[u32], entries: &[u32], b: usize) -> bool
-    ensures { result ≡ (present_held text.now cards.now entries.now b).notes }
+fn noted(board: &Board) -> bool
+    ensures { result ≡ (present_in board.now).notes }
 {
-    let w = card_word(cards, b, 51);
-    if w == 0 {
-        return false;
+    match board.section(51) {
+        Some(calls) => has_notes(&board.items_from(calls.first)),
+        None => false,
     }
-    let from = w - 1;
-    let end = card_word(cards, b, 0) + card_word(cards, b, 1);
-    has_notes(text, entries, from, less(end, from))
 }
 
 // What of the board there is.
-fn present_at(text: &[u8], cards: &[u32], entries: &[u32], b: usize) -> Present
-    ensures { result ≡ present_held text.now cards.now entries.now b }
+fn present_at(board: &Board) -> Present
+    ensures { result ≡ present_in board.now }
 {
-    let notes = noted(text, cards, entries, b);
+    let notes = noted(board);
     Present {
-        board: card_word(cards, b, 39) != 0,
-        dealer: card_word(cards, b, 4) < 4,
-        table: card_word(cards, b, 38) != 0,
-        score: card_word(cards, b, 49) != 0,
-        par: card_word(cards, b, 50) != 0,
-        auction: card_word(cards, b, 51) != 0,
+        board: board.word(39) != 0,
+        dealer: board.word(4) < 4,
+        table: board.word(38) != 0,
+        score: board.word(49) != 0,
+        par: board.word(50) != 0,
+        auction: board.word(51) != 0,
         notes,
-        play: card_word(cards, b, 55) != 0,
+        play: board.word(55) != 0,
     }
 }
 
-// The entries before the first Deal tag, none where there is no Deal tag.
-fn deal_place(text: &[u8], entries: &[u32], first: usize, count: usize) -> usize
-    requires { first + count ≤ 8589934592 }
-    ensures { (result ≡ deal_place text.now entries.now first count) × (result ≤ count) }
+// How many entries stand before the first Deal tag, 0 where there is no Deal tag.
+fn before_deal(items: &Items) -> usize
+    ensures { (result ≡ deal_place items.now.text.now items.now.entries.now items.now.first items.now.count) × (result ≤ items.now.count) }
 {
-    let place = find_name(text, entries, first, count, b"Deal");
-    if place < first + count {
-        return less(place, first);
+    match find_name(items, b"Deal") {
+        Some(e) => e - items.first,
+        None => 0,
     }
-    0
 }
 
 // Blocks before every tag, and the tags up to the late supplemental ones.
-fn put_front(
-    text: &[u8],
-    cards: &[u32],
-    entries: &[u32],
-    b: usize,
-    scan: usize,
-    c: Conventions,
-    page: &mut [u8],
-    at: usize,
-) -> usize
-    requires { scan ≤ 4294967296 }
-    ensures { Puts page.old at (front_text c text.now cards.now entries.now b (scanned_items text.now cards.now entries.now b scan)) page.new result }
+fn put_front(page: &mut Page, board: &Board, c: Conventions)
+    ensures { Puts page.old (of_board (front_text c) board.now) page.new }
 {
-    let first = card_word(cards, b, 0);
-    let early = deal_place(text, entries, first, card_word(cards, b, 1));
-    let d = put_remarks(
-        text,
-        entries,
-        first,
-        scan,
-        Sought::Leading,
-        b"",
-        4,
-        page,
-        at,
-    );
-    let e = put_head(text, cards, entries, b, scan, c, page, d);
-    let f = put_extras(text, entries, first, scan, first, early, page, e);
-    let g = put_contract(text, cards, entries, b, scan, c, page, f);
-    put_analysis(text, cards, entries, b, scan, page, g)
+    let items = board.items();
+    let early = before_deal(&items);
+    put_leading(page, &board.remarks, BLOCK);
+    put_head(page, board, c);
+    put_extras(page, &board.remarks, &items, items.first, early);
+    put_contract(page, board, c);
+    put_analysis(page, board);
 }
 
 // What belongs to a tag that is not written: blocks, then directives.
-fn put_unwritten(
-    text: &[u8],
-    cards: &[u32],
-    entries: &[u32],
-    b: usize,
-    scan: usize,
-    page: &mut [u8],
-    at: usize,
-) -> usize
-    requires { scan ≤ 4294967296 }
-    ensures { Puts page.old at (unwritten_text (present_held text.now cards.now entries.now b) (scanned_items text.now cards.now entries.now b scan)) page.new result }
+fn put_unwritten(page: &mut Page, board: &Board)
+    ensures { Puts page.old (unwritten_text (present_in board.now) (items_of board.now.remarks)) page.new }
 {
-    if scan == 0 {
-        return at;
+    if board.remarks.count == 0 {
+        return;
     }
-    let first = card_word(cards, b, 0);
-    let lost = Sought::Unwritten(present_at(text, cards, entries, b));
-    let d = put_remarks(text, entries, first, scan, lost, b"", 4, page, at);
-    put_remarks(text, entries, first, scan, lost, b"", 3, page, d)
+    let present = present_at(board);
+    put_lost(page, &board.remarks, BLOCK, present);
+    put_lost(page, &board.remarks, DIRECTIVE, present);
 }
 
 // The tags from the late supplemental ones on, and what is put at the end.
-fn put_back(
-    text: &[u8],
-    cards: &[u32],
-    entries: &[u32],
-    b: usize,
-    scan: usize,
-    c: Conventions,
-    page: &mut [u8],
-    at: usize,
-) -> usize
-    requires { scan ≤ 4294967296 }
-    ensures { Puts page.old at (back_text c text.now cards.now entries.now b (scanned_items text.now cards.now entries.now b scan)) page.new result }
+fn put_back(page: &mut Page, board: &Board, c: Conventions)
+    ensures { Puts page.old (of_board (back_text c) board.now) page.new }
 {
-    let first = card_word(cards, b, 0);
-    let count = card_word(cards, b, 1);
-    let early = deal_place(text, entries, first, count);
-    let d = put_extras(
-        text,
-        entries,
-        first,
-        scan,
-        first + early,
-        count - early,
+    let items = board.items();
+    let early = before_deal(&items);
+    put_extras(
         page,
-        at,
+        &board.remarks,
+        &items,
+        items.first + early,
+        items.count - early,
     );
-    let e = put_bidding(text, cards, entries, b, scan, c, page, d);
-    let f = put_cards(text, cards, entries, b, scan, c, page, e);
-    put_unwritten(text, cards, entries, b, scan, page, f)
+    put_bidding(page, board, c);
+    put_cards(page, board, c);
+    put_unwritten(page, board);
 }
 
 // The directives before every tag.
-fn put_lead(
-    text: &[u8],
-    cards: &[u32],
-    entries: &[u32],
-    b: usize,
-    page: &mut [u8],
-    at: usize,
-) -> usize
-    ensures { Puts page.old at (lead_held text.now cards.now entries.now b) page.new result }
+fn put_lead(page: &mut Page, board: &Board)
+    ensures { Puts page.old (sought_text Leading [] 3 (items_of board.now.remarks)) page.new }
 {
-    let scan = scan_of(text, cards, entries, b);
-    let first = card_word(cards, b, 0);
-    put_remarks(
-        text,
-        entries,
-        first,
-        scan,
-        Sought::Leading,
-        b"",
-        3,
-        page,
-        at,
-    )
+    put_leading(page, &board.remarks, DIRECTIVE);
 }
 
 // The other lines of a board.
-fn put_body(
-    text: &[u8],
-    cards: &[u32],
-    entries: &[u32],
-    b: usize,
-    c: Conventions,
-    page: &mut [u8],
-    at: usize,
-) -> usize
-    ensures { Puts page.old at (body_held c text.now cards.now entries.now b) page.new result }
+fn put_body(page: &mut Page, board: &Board, c: Conventions)
+    ensures { Puts page.old (of_board (front_text c) board.now ++ of_board (back_text c) board.now) page.new }
 {
-    let scan = scan_of(text, cards, entries, b);
-    let d = put_front(text, cards, entries, b, scan, c, page, at);
-    put_back(text, cards, entries, b, scan, c, page, d)
+    put_front(page, board, c);
+    put_back(page, board, c);
 }
 
 // The header of an edition without one of its own.
-fn put_header(page: &mut [u8], at: usize) -> usize
-    ensures { Puts page.old at built_in_header page.new result }
+fn put_header(page: &mut Page)
+    ensures { Puts page.old built_in_header page.new }
 {
-    put_bytes(page, at, b"% PBN 2.1\n% EXPORT\n\n")
+    page.put_text(b"% PBN 2.1\n% EXPORT\n\n");
 }
 
 // The first board's directives before every tag and an empty line, or the built-in header.
-fn put_top(text: &[u8], cards: &[u32], entries: &[u32], page: &mut [u8], at: usize) -> usize
-    ensures { Puts page.old at (header_held (lead_held text.now cards.now entries.now 0)) page.new result }
+fn put_top(page: &mut Page, board: &Board)
+    ensures { Puts page.old (header_held (sought_text Leading [] 3 (items_of board.now.remarks))) page.new }
 {
-    let d = put_lead(text, cards, entries, 0, page, at);
-    if d == at {
-        return put_header(page, d);
+    let start = page.at;
+    put_lead(page, board);
+    if page.at == start {
+        put_header(page);
+    } else {
+        page.put_byte(10);
     }
-    put_byte(page, d, 10)
 }
 
-// An empty line and the lines of a board.
-fn put_next(
-    text: &[u8],
-    cards: &[u32],
-    entries: &[u32],
-    b: usize,
-    c: Conventions,
-    page: &mut [u8],
-    at: usize,
-) -> usize
-    ensures { Puts page.old at (next_held c text.now cards.now entries.now b) page.new result }
+// An empty line and the lines of the board at an index.
+fn put_next(page: &mut Page, text: &[u8], cards: &[u32], entries: &[u32], b: usize, c: Conventions)
+    ensures { Puts page.old (next_held c text.now cards.now entries.now b) page.new }
 {
-    let d = put_byte(page, at, 10);
-    let e = put_lead(text, cards, entries, b, page, d);
-    put_body(text, cards, entries, b, c, page, e)
+    let board = Board::new(text, cards, entries, b);
+    page.put_byte(10);
+    put_lead(page, &board);
+    put_body(page, &board, c);
 }
 
 // The parts of the boards behind the first, boards being all of them.
 fn put_parts(
+    page: &mut Page,
     text: &[u8],
     cards: &[u32],
     entries: &[u32],
     c: Conventions,
     boards: usize,
-    page: &mut [u8],
-    at: usize,
-) -> usize
+)
     requires { 0 < boards }
-    ensures { Puts page.old at (parts_held c text.now cards.now entries.now 1 (boards - 1)) page.new result }
+    ensures { Puts page.old (parts_held c text.now cards.now entries.now 1 (boards - 1)) page.new }
 {
-    let mut k = at;
-    let mut b = 1;
-    while b < boards {
-        let here = b;
-        b = here + 1;
-        k = put_next(text, cards, entries, here, c, page, k);
+    for b in 1..boards {
+        put_next(page, text, cards, entries, b, c);
     }
-    k
 }
 
 // The page of boards that were just read.
 pub(crate) fn put_page(
+    page: &mut Page,
     text: &[u8],
     cards: &[u32],
     entries: &[u32],
     c: Conventions,
     boards: usize,
-    page: &mut [u8],
-) -> usize
-    ensures { Puts page.old 0 (page_held c text.now cards.now entries.now boards) page.new result }
+)
+    ensures { Puts page.old (page_held c text.now cards.now entries.now boards) page.new }
 {
     if boards == 0 {
-        return put_header(page, 0);
+        put_header(page);
+        return;
     }
-    let d = put_top(text, cards, entries, page, 0);
-    let e = put_body(text, cards, entries, 0, c, page, d);
-    put_parts(text, cards, entries, c, boards, page, e)
+    let board = Board::new(text, cards, entries, 0);
+    put_top(page, &board);
+    put_body(page, &board, c);
+    put_parts(page, text, cards, entries, c, boards);
 }

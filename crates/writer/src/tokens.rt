@@ -1,102 +1,92 @@
 // Words as they are written: calls, cards, seats, the vulnerability, a result, a table's digits.
 ghost use Rattle.std.specs.Prelude.{◌≡◌, ◌<◌, replicate};
 ghost use Rattle.reader.specs.Words.{bid_token, call_token, card_token, vulnerability_token};
-ghost use Rattle.writer.specs.Puts.{Puts};
+ghost use Rattle.tables.specs.Puts.{Puts};
 ghost use Rattle.tables.specs.Tables.{digit_byte, digits_text};
 ghost use Rattle.writer.specs.Held.{card_part};
 ghost use Rattle.writer.specs.Tags.{seat_text, result_text};
 ghost use Rattle.writer.specs.Items.{result_in};
 
-use crate::held::card_word;
-use crate::put::{put_byte, put_bytes, put_number};
+use crate::held::Board;
 use tables::dd::encode_tricks;
 use tables::letters::{Conventions, rank_letter, seat_letter, suit_letter};
+use tables::page::Page;
 
 // A level and a strain, of the bid number n from 0.
-fn put_bid(page: &mut [u8], at: usize, c: Conventions, n: usize) -> usize
+fn put_bid(page: &mut Page, c: Conventions, n: usize)
     requires { n < 35 }
-    ensures { Puts page.old at (bid_token c n) page.new result }
+    ensures { Puts page.old (bid_token c n) page.new }
 {
-    let a = put_byte(page, at, (49 + n / 5) as u8);
+    page.put_byte((49 + n / 5) as u8);
     if n % 5 == 4 {
-        return put_bytes(page, a, b"NT");
+        page.put_text(b"NT");
+        return;
     }
-    put_byte(page, a, suit_letter(c, (n % 5) as u8))
+    page.put_byte(suit_letter(c, (n % 5) as u8));
 }
 
-fn put_underscores(page: &mut [u8], at: usize, n: usize) -> usize
-    ensures { Puts page.old at (replicate n 95) page.new result }
+fn put_underscores(page: &mut Page, n: usize)
+    ensures { Puts page.old (replicate n 95) page.new }
 {
-    let mut k = at;
-    let mut left = n;
-    while left > 0 {
-        left -= 1;
-        k = put_byte(page, k, 95);
+    for i in 0..n {
+        page.put_byte(95);
     }
-    k
 }
 
 // A call by its code.
-pub fn put_call(page: &mut [u8], at: usize, c: Conventions, code: usize) -> usize
-    ensures { Puts page.old at (call_token c code) page.new result }
+pub fn put_call(page: &mut Page, c: Conventions, code: usize)
+    ensures { Puts page.old (call_token c code) page.new }
 {
     match code {
-        0 => put_bytes(page, at, b"Pass"),
-        1..=35 => put_bid(page, at, c, code - 1),
-        36 => put_bytes(page, at, b"X"),
-        37 => put_bytes(page, at, b"XX"),
-        38 => put_bytes(page, at, b"+"),
-        _ => put_underscores(page, at, code - 38),
+        0 => page.put_text(b"Pass"),
+        1..=35 => put_bid(page, c, code - 1),
+        36 => page.put_text(b"X"),
+        37 => page.put_text(b"XX"),
+        38 => page.put_text(b"+"),
+        _ => put_underscores(page, code - 38),
     }
 }
 
 // A suit's letter and a rank's.
-pub fn put_card(page: &mut [u8], at: usize, c: Conventions, k: usize) -> usize
+pub fn put_card(page: &mut Page, c: Conventions, k: usize)
     requires { k < 52 }
-    ensures { Puts page.old at (card_token c k) page.new result }
+    ensures { Puts page.old (card_token c k) page.new }
 {
-    let a = put_byte(page, at, suit_letter(c, (k / 13) as u8));
-    put_byte(page, a, rank_letter(c, (k % 13) as u8))
+    page.put_byte(suit_letter(c, (k / 13) as u8));
+    page.put_byte(rank_letter(c, (k % 13) as u8));
 }
 
 // A seat's letter, nothing for none.
-pub fn put_seat(page: &mut [u8], at: usize, c: Conventions, seat: usize) -> usize
-    ensures { Puts page.old at (seat_text c seat) page.new result }
+pub fn put_seat(page: &mut Page, c: Conventions, seat: usize)
+    ensures { Puts page.old (seat_text c seat) page.new }
 {
     if seat < 4 {
-        return put_byte(page, at, seat_letter(c, seat as u8));
+        page.put_byte(seat_letter(c, seat as u8));
     }
-    at
 }
 
-pub fn put_vulnerability(page: &mut [u8], at: usize, v: usize) -> usize
-    ensures { Puts page.old at (vulnerability_token v) page.new result }
+pub fn put_vulnerability(page: &mut Page, v: usize)
+    ensures { Puts page.old (vulnerability_token v) page.new }
 {
-    if v == 0 {
-        return put_bytes(page, at, b"None");
+    match v {
+        0 => page.put_text(b"None"),
+        1 => page.put_text(b"NS"),
+        2 => page.put_text(b"EW"),
+        _ => page.put_text(b"All"),
     }
-    if v == 1 {
-        return put_bytes(page, at, b"NS");
-    }
-    if v == 2 {
-        return put_bytes(page, at, b"EW");
-    }
-    put_bytes(page, at, b"All")
 }
 
 // A result, kept as the result plus 128, in decimal.
-pub(crate) fn put_result(page: &mut [u8], at: usize, met: usize, outcome: usize) -> usize
+pub(crate) fn put_result(page: &mut Page, outcome: usize)
     requires { outcome < 4294967296 }
-    ensures { Puts page.old at (result_text (result_in met outcome)) page.new result }
+    ensures { Puts page.old (result_text (result_in 1 outcome)) page.new }
 {
-    if met == 0 {
-        return at;
-    }
     if outcome < 128 {
-        let a = put_byte(page, at, 45);
-        return put_number(page, a, (128 - outcome) as u32);
+        page.put_byte(45);
+        page.put_decimal((128 - outcome) as u32);
+        return;
     }
-    put_number(page, at, (outcome - 128) as u32)
+    page.put_decimal((outcome - 128) as u32);
 }
 
 // A cell's digit; a larger count is written as 13 is.
@@ -109,18 +99,11 @@ fn digit_of(w: usize) -> u8
     100
 }
 
-// The digits of the table of the card b: words 18 to 37.
-pub(crate) fn put_digits(page: &mut [u8], at: usize, cards: &[u32], b: usize) -> usize
-    ensures { Puts page.old at (digits_text (card_part cards.now b 18 20)) page.new result }
+// The digits of a board's table: words 18 to 37.
+pub(crate) fn put_digits(page: &mut Page, board: &Board)
+    ensures { Puts page.old (digits_text (card_part board.now.cards.now board.now.index 18 20)) page.new }
 {
-    let mut k = at;
-    let mut i = 18;
-    let mut left: usize = 20;
-    while left > 0 {
-        let here = i;
-        i = here + 1;
-        left -= 1;
-        k = put_byte(page, k, digit_of(card_word(cards, b, here)));
+    for i in 18..38 {
+        page.put_byte(digit_of(board.word(i)));
     }
-    k
 }

@@ -2,14 +2,15 @@
 ghost use Rattle.std.specs.Prelude.{◌≡◌};
 ghost use Rattle.tables.specs.Letters.{built_in};
 ghost use Rattle.reader.specs.Store.{zeros};
+ghost use Rattle.writer.specs.BoardTexts.{page_held};
 ghost use Rattle.writer.specs.Writings.{write_number, write_carries, IsWritten};
-ghost use Rattle.writer.specs.WritingSteps.{WritingEnded};
+ghost use Rattle.writer.specs.WritingSteps.{PagePut, WritingEnded};
 
 use crate::page::put_page;
 use reader::edition::{ReadRefusal, read_pbn_with};
 use reader::store::zero;
 use tables::letters::{Conventions, built_in};
-use tables::page::finish;
+use tables::page::{Page, finish};
 use tables::refused::Refused;
 
 // Refusals 1 to 3 of the edition, and 7 with the bytes needed; specs/Writings.antt gives the numbers.
@@ -49,7 +50,23 @@ impl Refused for WriteRefusal {
 pub fn clear(page: &mut [u8])
     ensures { page.new ≡ zeros page.old }
 {
-    finish(page, 0);
+    let _ = finish(page, 0);
+}
+
+// Puts the page of boards that were just read on lent bytes, and says how many bytes it has.
+pub(crate) fn put_edition(
+    text: &[u8],
+    cards: &[u32],
+    entries: &[u32],
+    c: Conventions,
+    boards: usize,
+    bytes: &mut [u8],
+) -> usize
+    ensures { PagePut bytes.old (page_held c text.now cards.now entries.now boards) bytes.new result }
+{
+    let mut page = Page::new(bytes);
+    put_page(&mut page, text, cards, entries, c, boards);
+    page.at
 }
 
 // The n bytes put on a page; all that was lent is set to 0 where they do not fit.
@@ -62,7 +79,7 @@ fn end_writing(
     ensures { WritingEnded n cards.old entries.old page.old result cards.new entries.new page.new }
 {
     if n <= page.len() {
-        finish(page, n);
+        let _ = finish(page, n);
         return Ok(n as u64);
     }
     clear(page);
@@ -84,7 +101,7 @@ pub fn write_pbn_with(
 {
     match read_pbn_with(c, text, cards, entries) {
         Ok(counts) => {
-            let n = put_page(text, cards, entries, c, counts.boards, page);
+            let n = put_edition(text, cards, entries, c, counts.boards, page);
             end_writing(n, cards, entries, page)
         }
         Err(f) => {

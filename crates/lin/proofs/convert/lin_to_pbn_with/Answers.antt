@@ -1,3 +1,4 @@
+use borrow.Author.Rules.{rules}
 use Rattle.lin.proofs.ConvertLaws.{converted_long, converted}
 use Rattle.lin.proofs.convert.lin_to_pbn_with.Goals as goal
 
@@ -7,4 +8,4 @@ returns-then-n-gt16777215 c =
 
 pub returns : goal.returns
 returns c =
-    converted c.if-n-gt16777215.false c.put_boards-g.ensures c.end_converting.ensures
+    converted _ _ c.if-n-gt16777215.false c.new-out.ensures.start c.new-out.ensures.bytes (search rules) _ c.put_boards-put.ensures c.end_converting.ensures

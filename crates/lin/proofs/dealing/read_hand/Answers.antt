@@ -1,26 +1,22 @@
+use mathlib.Core.Path.{◌≡◌}
 use native.Mathlib.Omega.{arith}
+use lib.ListN.{length}
 use borrow.Author.Rules.{rules}
 use Rattle.lin.proofs.DealingLaws.{hand_none, hand_some, sound_more}
 use Rattle.lin.proofs.dealing.read_hand.Goals as goal
 
-pub returns-then-field-eq0 : goal.returns-then-field-eq0
-returns-then-field-eq0 c = (hand_none _ _ _ c.if-field-eq0.true, (omega arith, c.requires))
+pub returns-then-is_empty : goal.returns-then-is_empty
+returns-then-is_empty c = (hand_none _ _ _ (search rules), (omega arith, c.requires))
 
-pub hand_step-requires : goal.hand_step-requires
-hand_step-requires c = (record { low = c.requires; suit_low = omega arith }, omega arith)
-
-pub returns-in_default : goal.returns-in_default
-returns-in_default c =
-    (rw (← hand_some _ _ _ c.if-field-eq0.false, ← c.first_character.ensures, ← c.hand_step.ensures.0, c.in_default.is), search rules)
-
-pub hand_rest-requires : goal.hand_rest-requires
-hand_rest-requires c =
-    let g = rw c.in-To.is at c.hand_step.ensures.1 in
-    (g.0, omega (arith, g.2))
+pub returns-in_err-h : goal.returns-in_err-h
+returns-in_err-h c =
+    let some : length c.args.field.now ≡ 0 → ⊥ = search rules in
+    rw c.from_residual.ensures (rw (← hand_some _ _ _ some, ← c.first_character.ensures, ← c.hand_step.ensures.0, c.in_err-h.was), tt)
 
 pub returns : goal.returns
 returns c =
-    let g = rw c.in-To.is at c.hand_step.ensures.1 in (
-      rw (← hand_some _ _ _ c.if-field-eq0.false, ← c.first_character.ensures, ← c.hand_step.ensures.0, c.in-To.is, ← c.from.ensures) c.hand_rest.ensures.0,
+    let some : length c.args.field.now ≡ 0 → ⊥ = search rules in
+    let g = c.in_ok-h.ensures.1 in (
+      rw (← hand_some _ _ _ some, ← c.first_character.ensures, ← c.hand_step.ensures.0, c.in_ok-h.was, ← c.from.ensures) c.hand_rest.ensures.0,
       sound_more _ _ c.hand_rest.result g.1 c.hand_rest.ensures.1,
     )

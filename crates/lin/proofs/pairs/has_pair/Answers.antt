@@ -1,31 +1,20 @@
-use mathlib.Core.Path.{refl, ◌∙◌}
-use native.Mathlib.Omega.{arith}
-use borrow.Author.Tests.{eq-eqb, ne_eqb}
+use mathlib.Core.Path.{◌≡◌, refl, ◌∙◌}
+use mathlib.Core.List.{List, [], ◌∷◌}
+use borrow.Author.Rules.{rules}
+use Rattle.std.specs.List.{list_any}
+use Rattle.std.proofs.lemmas.Iterator.Consumers.{YieldsList-from_shown}
+use Rattle.std.proofs.lemmas.Iterator.Search.{any_from_yields_List}
+use Rattle.lin.specs.declared.pairs.Command.{Command}
+use Rattle.lin.specs.Pairs.{Pair, is_pair, has_pair}
+use Rattle.lin.specs.PairSteps.{pair_of, pairs_left, NextIs}
+use Rattle.lin.proofs.PairLaws.{same_place}
 use Rattle.lin.proofs.pairs.has_pair.Goals as goal
 
-pub loop-p-init : goal.loop-p-init
-loop-p-init c = (refl, omega arith)
+any_is : (k : Command) (ps : List Pair) → list_any (is_pair k) ps ≡ has_pair k ps
+any_is k [] = refl
+any_is k (p ∷ ps) = rw (any_is k ps)
 
-pub returns-in_default : goal.returns-in_default
-returns-in_default c =
-    rw (c.loop-p.invariant.0, rw c.in_default.is at c.next_pair.ensures)
-
-pub returns-then-p-k : goal.returns-then-p-k
-returns-then-p-k c =
-    let p = rw c.in-Found.is at c.next_pair.ensures in
-    rw (c.loop-p.invariant.0, p.pairs_are, eq-eqb _ _ c.if-p-k.true)
-
-pub overflow_add-at : goal.overflow_add-at
-overflow_add-at c =
-    let p = rw c.in-Found.is at c.next_pair.ensures in
-    omega (arith, p.inside)
-
-pub loop-p-smaller : goal.loop-p-smaller
-loop-p-smaller c =
-    let p = rw c.in-Found.is at c.next_pair.ensures in
-    omega (arith, p.behind, p.ordered, p.inside)
-
-pub loop-p-preserved : goal.loop-p-preserved
-loop-p-preserved c =
-    let p = rw c.in-Found.is at c.next_pair.ensures in
-    (c.loop-p.invariant.0 ∙ rw (p.pairs_are, ne_eqb _ _ c.if-p-k.false), omega (arith, p.inside))
+pub returns : goal.returns
+returns c =
+    any_from_yields_List (is_pair c.args.k) _ _ _ c.any.ensures.ran (YieldsList-from_shown NextIs pair_of pairs_left (λ s t h. rw h) (λ s x t h. h.pairs_are) _) (λ x b q h. search (rules, same_place))
+    ∙ any_is c.args.k _ ∙ rw (c.pairs_in.ensures.0, c.pairs_in.ensures.1)

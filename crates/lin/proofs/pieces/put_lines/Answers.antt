@@ -1,53 +1,16 @@
-use Prim.Native.Nat.{ℕ}
-use mathlib.Core.Path.{ap, ◌∙◌}
-use mathlib.Core.List.{List}
 use native.Mathlib.Omega.{arith}
-use lib.ListN.{take, length-drop}
-use Rattle.tables.specs.Text.{before, differs, trimmed}
-use Rattle.tables.proofs.TextLaws.{take_front}
-use Rattle.lin.proofs.GoneLaws.{going_first, going_same, going_next, going_end}
-use Rattle.lin.proofs.SplitLaws.{line_some, line_blank, lines_done}
-use lib.ListN.{length}
+use Rattle.lin.proofs.GoneLaws.{going_same, going_next, going_off, goes_more}
+use Rattle.lin.proofs.SplitLaws.{line_some}
 use Rattle.lin.proofs.pieces.put_lines.Goals as goal
 
-pub loop-at-init : goal.loop-at-init
-loop-at-init c = (going_first _ _ _ _ c.no_progress-g.ensures, rw c.no_progress-g.ensures (omega arith), omega arith)
+pub returns-in_err-g : goal.returns-in_err-g
+returns-in_err-g c =
+    let m = line_some c.in-Some.ensures.steps.lines_are c.trim-line.ensures c.if-line-gt0.true in
+    rw c.from_residual.ensures (going_off (going_same m c.loop-l.invariant.0) (rw c.in_err-g.was at c.put_piece.ensures))
 
-pub overflow_add-at : goal.overflow_add-at
-overflow_add-at c =
-    let l = c.loop-at in
-    omega (arith, c.loop-at-test.true, c.index_of-n.ensures.1, ap length c.from-rest.ensures, length-drop l.at c.args.text.now)
-
-pub overflow_add-at-in-loop-at : goal.overflow_add-at-in-loop-at
-overflow_add-at-in-loop-at c =
-    let l = c.loop-at in
-    omega (arith, c.loop-at-test.true, c.index_of-n.ensures.1, ap length c.from-rest.ensures, length-drop l.at c.args.text.now)
-
-pub put_piece-g-requires : goal.put_piece-g-requires
-put_piece-g-requires c =
-    let l = c.loop-at in
-    omega (arith, l.invariant.1, l.invariant.2)
-
-pub loop-at-preserved-then-line-gt0 : goal.loop-at-preserved-then-line-gt0
-loop-at-preserved-then-line-gt0 c =
-    let l = c.loop-at in
-    let f = c.from-rest.ensures in
-    let n = c.index_of-n.ensures in
-    let k = n.0 ∙ ap (λ (s : List ℕ). length (before 10 s)) f in
-    let e = c.trim-line.ensures ∙ ap trimmed (c.upto.ensures ∙ ap (λ (i : ℕ). take i c.from-rest.result.now) n.0 ∙ take_front (differs 10) c.from-rest.result.now ∙ ap (before 10) f) in
-    let m = line_some _ _ _ _ c.loop-at-test.true e k (λ z. omega (arith, z, c.if-line-gt0.true)) in
-    let p = c.put_piece-g.ensures in
-    (going_next (going_same m l.invariant.0) p, omega (arith, p.one_more, l.invariant.1), omega (arith, c.loop-at-test.true, n.1, ap length f, length-drop l.at c.args.text.now))
-
-pub loop-at-preserved : goal.loop-at-preserved
-loop-at-preserved c =
-    let l = c.loop-at in
-    let f = c.from-rest.ensures in
-    let n = c.index_of-n.ensures in
-    let k = n.0 ∙ ap (λ (s : List ℕ). length (before 10 s)) f in
-    let e = c.trim-line.ensures ∙ ap trimmed (c.upto.ensures ∙ ap (λ (i : ℕ). take i c.from-rest.result.now) n.0 ∙ take_front (differs 10) c.from-rest.result.now ∙ ap (before 10) f) in
-    let m = line_blank _ _ _ _ c.loop-at-test.true e k (omega (arith, c.if-line-gt0.false)) in
-    (going_same m l.invariant.0, omega (arith, l.invariant.1), omega (arith, c.loop-at-test.true, n.1, ap length f, length-drop l.at c.args.text.now))
-
-pub returns : goal.returns
-returns c = going_end (going_same (lines_done _ _ c.loop-at-test.false) c.loop-at.invariant.0)
+pub loop-l-preserved-then-line-gt0 : goal.loop-l-preserved-then-line-gt0
+loop-l-preserved-then-line-gt0 c =
+    let n = c.in-Some.ensures.steps in
+    let m = line_some n.lines_are c.trim-line.ensures c.if-line-gt0.true in
+    let p = c.in_ok-g.ensures in
+    (going_next (going_same m c.loop-l.invariant.0) p, omega (arith, goes_more p, c.loop-l.invariant.1, n.behind))

@@ -1,13 +1,10 @@
-use Prim.Native.Nat.{◌+◌}
+use Prim.Native.Nat.{◌+◌, ◌≤◌}
+use lib.ListN.{length}
 use Rattle.tables.specs.Text.{lines}
 use Rattle.lin.specs.Pieces.{line_pieces}
+use Rattle.lin.specs.PieceSteps.{lines_left}
 use Rattle.lin.proofs.GoneLaws.{Going}
-use Prim.Native.Nat.{◌-◌, ◌≤◌}
-use lib.ListN.{length, drop}
 use Rattle.lin.proofs.pieces.put_lines.Given as goal
 
-abbrev pub invariant-loop-at : goal.invariant-loop-at
-invariant-loop-at l = Going l.c (line_pieces (lines l.text)) (line_pieces (lines (drop l.at l.text))) l.initial.page l.page l.g × (l.g.boards ≤ l.at) × (l.at ≤ length l.text + 1)
-
-abbrev pub decreases-loop-at : goal.decreases-loop-at
-decreases-loop-at l = length l.text - l.at
+abbrev pub invariant-loop-l : goal.invariant-loop-l
+invariant-loop-l l = Going l.c (line_pieces (lines l.text)) (line_pieces (lines_left l.l-iterator)) l.fn.page l.page l.g × (l.g.boards + length l.l-iterator.rest.now ≤ length l.text)

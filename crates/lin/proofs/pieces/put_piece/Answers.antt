@@ -1,18 +1,14 @@
 use Rattle.lin.specs.Pairs.{pairs_of}
-use Rattle.lin.proofs.GoneLaws.{survey_dealer, goes_good, goes_bad, goes_none}
+use Rattle.lin.proofs.GoneLaws.{survey_dealer, goes_good, goes_bad}
 use Rattle.lin.proofs.pieces.put_piece.Goals as goal
 
-pub put_board-at-requires : goal.put_board-at-requires
-put_board-at-requires c = rw c.survey_of-s.ensures.0 (survey_dealer c.args.c (pairs_of c.args.text.now))
+pub put_board-requires : goal.put_board-requires
+put_board-requires c = rw c.survey_of-s.ensures (survey_dealer c.args.c (pairs_of c.args.text.now))
 
-pub returns-then-d : goal.returns-then-d
-returns-then-d c =
-    goes_good _ _ _ _ _ _ _ _ _ _ c.if-g.true c.survey_of-s.ensures.0 c.if-d.true c.has_cards.ensures c.put_above-above.ensures c.put_board-at.ensures
-
-pub returns-then-g : goal.returns-then-g
-returns-then-g c =
-    goes_bad _ _ _ _ _ c.if-g.true c.survey_of-s.ensures.0 c.if-d.false
+pub returns-in_err-hands : goal.returns-in_err-hands
+returns-in_err-hands c =
+    rw c.from_residual.ensures (goes_bad _ _ c.survey_of-s.ensures c.in_err-hands.was)
 
 pub returns : goal.returns
 returns c =
-    goes_none _ _ _ _ c.if-g.false
+    goes_good _ _ c.survey_of-s.ensures c.in_ok-hands.was c.has_cards.ensures c.put_above.ensures c.put_board.ensures

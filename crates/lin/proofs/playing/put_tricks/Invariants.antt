@@ -1,16 +1,12 @@
-use Prim.Native.Nat.{◌+◌, ◌-◌, ◌≤◌}
-use lib.ListN.{length, drop}
+use Prim.Native.Nat.{◌≤◌}
 use Rattle.lin.specs.Pairs.{pairs_of}
+use Rattle.lin.specs.PairSteps.{pairs_left}
 use Rattle.lin.specs.Playing.{cards_played}
 use Rattle.lin.specs.PlayingSteps.{FineTrick, empty_trick, trick_texts}
-use Rattle.writer.proofs.PutLaws.{PutsLeft}
+use Rattle.tables.proofs.PutsLaws.{PutsLeft}
 use Rattle.lin.proofs.playing.put_tricks.Given as goal
 
 abbrev pub invariant-loop-p : goal.invariant-loop-p
-invariant-loop-p l = PutsLeft l.initial.page l.at (trick_texts l.c l.lead l.trump (empty_trick l.lead) (cards_played l.c (pairs_of l.text))) l.page l.k (trick_texts l.c l.lead l.trump l.t (cards_played l.c (pairs_of (drop l.here l.text))))
-    × (l.here ≤ length l.text + 1)
+invariant-loop-p l = PutsLeft l.fn.page (trick_texts l.c l.lead l.trump (empty_trick l.lead) (cards_played l.c (pairs_of l.text))) l.page (trick_texts l.c l.lead l.trump l.t (cards_played l.c (pairs_left l.p-iterator)))
     × FineTrick l.t
     × (l.t.count ≤ 3)
-
-abbrev pub decreases-loop-p : goal.decreases-loop-p
-decreases-loop-p l = length l.text + 1 - l.here

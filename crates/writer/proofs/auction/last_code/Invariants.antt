@@ -1,11 +1,7 @@
-use Prim.Native.Nat.{◌+◌, ◌≤◌}
+use Rattle.writer.specs.Items.{items_from, items_of, last_code}
 use mathlib.Core.Path.{◌≡◌}
-use Rattle.writer.specs.Items.{last_code}
-use Rattle.writer.specs.Held.{items_at}
 use Rattle.writer.proofs.auction.last_code.Given as goal
 
-abbrev pub invariant-loop-left : goal.invariant-loop-left
-invariant-loop-left l = (last_code l.last (items_at l.text l.entries l.e l.left) ≡ last_code 47 (items_at l.text l.entries l.first l.count)) × (l.e + l.left ≤ l.first + l.count)
-
-abbrev pub decreases-loop-left : goal.decreases-loop-left
-decreases-loop-left l = l.left
+abbrev pub invariant-loop-e : goal.invariant-loop-e
+invariant-loop-e l =
+    last_code 47 (items_of l.items) ≡ last_code l.last (items_from l.items l.e)

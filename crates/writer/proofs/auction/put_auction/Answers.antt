@@ -1,14 +1,14 @@
-use borrow.Author.Tests.{ne_eqb}
+use Rattle.tables.proofs.PutsLaws.{puts_nothing, puts_then}
 use Rattle.writer.specs.Items.{auction_text}
-use Rattle.writer.proofs.PutLaws.{puts_then, puts_nothing}
+use borrow.Author.Tests.{ne_eqb}
 use Rattle.writer.proofs.auction.put_auction.Goals as goal
 
-pub returns-then-last_code-eq38 : goal.returns-then-last_code-eq38
+pub returns-then-last_code-ne38 : goal.returns-then-last_code-ne38
 unfolding auction_text
-returns-then-last_code-eq38 c =
-    rw (← c.last_code.ensures, c.if-last_code-eq38.true) (puts_then c.put_calls-k.ensures (puts_nothing _ _))
+returns-then-last_code-ne38 c =
+    rw (← c.last_code.ensures, ne_eqb _ _ c.if-last_code-ne38.true) (puts_then c.put_calls.ensures c.put_end.ensures)
 
-pub returns : goal.returns
+pub returns-else-last_code-ne38 : goal.returns-else-last_code-ne38
 unfolding auction_text
-returns c =
-    rw (← c.last_code.ensures, ne_eqb _ _ c.if-last_code-eq38.false) (puts_then c.put_calls-k.ensures c.put_end.ensures)
+returns-else-last_code-ne38 c =
+    rw (← c.last_code.ensures, c.if-last_code-ne38.false) (puts_then c.put_calls.ensures (puts_nothing _))

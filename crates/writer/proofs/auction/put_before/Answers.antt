@@ -1,12 +1,12 @@
-use borrow.Author.Tests.{ne_eqb}
+use Rattle.tables.proofs.PutsLaws.{puts_nothing}
 use Rattle.writer.specs.Items.{before_call}
-use Rattle.writer.proofs.PutLaws.{puts_nothing}
+use borrow.Author.Tests.{ne_eqb}
 use Rattle.writer.proofs.auction.put_before.Goals as goal
 
 pub returns-then-n-eq0 : goal.returns-then-n-eq0
 unfolding before_call
 returns-then-n-eq0 c =
-    rw c.if-n-eq0.true (puts_nothing _ _)
+    rw c.if-n-eq0.true (puts_nothing _)
 
 pub returns-then-n-eq0-2 : goal.returns-then-n-eq0-2
 unfolding before_call

@@ -1,27 +1,39 @@
+use Prim.Native.Nat.{◌+◌, ◌<◌, ◌≤◌}
+use Rattle.tables.proofs.PutsLaws.{puts_first, puts_next, puts_same, puts_then}
+use Rattle.writer.proofs.RemarkLaws.{items_all, items_none}
+use Rattle.writer.proofs.TokenLaws.{calls_call, calls_mark, calls_pass, puts_last}
 use mathlib.Core.Path.{sym, ◌∙◌}
 use native.Mathlib.Omega.{arith}
-use borrow.Author.Rules.{rules}
-use Rattle.writer.proofs.RemarkLaws.{items_none}
-use Rattle.writer.proofs.TokenLaws.{puts_last, calls_call, calls_mark, calls_pass}
-use Rattle.writer.proofs.PutLaws.{puts_first, puts_same, puts_next, puts_then}
 use Rattle.writer.proofs.auction.put_calls.Goals as goal
 
-pub loop-left-init : goal.loop-left-init
-loop-left-init c =
-    (puts_first _ _ _, search rules, search rules)
+pub loop-e-init : goal.loop-e-init
+loop-e-init c =
+    (rw (items_all c.args.items.now) (puts_first _ _), omega arith)
 
-pub loop-left-preserved-then-met-eq6 : goal.loop-left-preserved-then-met-eq6
-loop-left-preserved-then-met-eq6 c =
-    (puts_next _ _ (puts_same (calls_call c.args.c c.loop-left.n c.loop-left.called c.args.text.now c.args.entries.now c.loop-left.e c.loop-left.left c.loop-left-test.true (sym c.entry_word-met.ensures.0 ∙ c.if-met-eq6.true)) c.loop-left.invariant.0) (puts_then c.put_before-a.ensures (rw c.entry_word.ensures.0 at c.put_call-k.ensures)), omega (arith, c.loop-left.invariant.1, c.loop-left-test.true), omega (arith, c.loop-left.invariant.2, c.loop-left-test.true))
+pub loop-e-preserved-then-met-eq-CALL : goal.loop-e-preserved-then-met-eq-CALL
+loop-e-preserved-then-met-eq-CALL c =
+    let is = c.args.items.now in
+    let l = c.loop-e in
+    let h : l.e < is.first + is.count = omega (arith, c.end-e-end.ensures.0, c.loop-e-test.true) in
+    (puts_next _ _ (puts_same (calls_call c.args.c l.n l.called is l.e h (sym c.kind_at-met.ensures ∙ c.if-met-eq-CALL.true)) l.invariant.0) (puts_then c.put_before.ensures (rw c.mark_at.ensures.0 at c.put_call.ensures)), omega (arith, l.invariant.1))
 
-pub loop-left-preserved-then-met-called : goal.loop-left-preserved-then-met-called
-loop-left-preserved-then-met-called c =
-    (puts_next _ _ (puts_same (calls_mark c.args.c c.loop-left.n c.loop-left.called c.args.text.now c.args.entries.now c.loop-left.e c.loop-left.left c.loop-left-test.true (rw (← c.entry_word-met.ensures.0) c.if-met-called.true)) c.loop-left.invariant.0) (rw c.bytes_at.ensures at c.put_bytes-k.ensures), omega (arith, c.loop-left.invariant.1, c.loop-left-test.true), omega (arith, c.loop-left.invariant.2, c.loop-left-test.true))
+pub loop-e-preserved-then-met-called : goal.loop-e-preserved-then-met-called
+loop-e-preserved-then-met-called c =
+    let is = c.args.items.now in
+    let l = c.loop-e in
+    let h : l.e < is.first + is.count = omega (arith, c.end-e-end.ensures.0, c.loop-e-test.true) in
+    (puts_next _ _ (puts_same (calls_mark c.args.c l.n l.called is l.e h (rw (← c.kind_at-met.ensures) c.if-met-called.true)) l.invariant.0) (rw c.bytes_at.ensures at c.put_text.ensures), omega (arith, l.invariant.1))
 
-pub loop-left-preserved : goal.loop-left-preserved
-loop-left-preserved c =
-    (puts_same (calls_pass c.args.c c.loop-left.n c.loop-left.called c.args.text.now c.args.entries.now c.loop-left.e c.loop-left.left c.loop-left-test.true (rw (← c.entry_word-met.ensures.0) c.if-met-eq6.false) (rw (← c.entry_word-met.ensures.0) c.if-met-called.false)) c.loop-left.invariant.0, omega (arith, c.loop-left.invariant.1, c.loop-left-test.true), omega (arith, c.loop-left.invariant.2, c.loop-left-test.true))
+pub loop-e-preserved : goal.loop-e-preserved
+loop-e-preserved c =
+    let is = c.args.items.now in
+    let l = c.loop-e in
+    let h : l.e < is.first + is.count = omega (arith, c.end-e-end.ensures.0, c.loop-e-test.true) in
+    (puts_same (calls_pass c.args.c l.n l.called is l.e h (rw (← c.kind_at-met.ensures) c.if-met-eq-CALL.false) (rw (← c.kind_at-met.ensures) c.if-met-called.false)) l.invariant.0, omega (arith, l.invariant.1))
 
 pub returns : goal.returns
 returns c =
-    puts_last _ (puts_same (rw (items_none c.args.text.now c.args.entries.now c.loop-left.e c.loop-left.left c.loop-left-test.false)) c.loop-left.invariant.0) c.put_last.ensures
+    let is = c.args.items.now in
+    let l = c.loop-e in
+    let h : is.first + is.count ≤ l.e = omega (arith, c.end-e-end.ensures.0, c.loop-e-test.false) in
+    puts_last _ (puts_same (rw (items_none is l.e h)) l.invariant.0) c.put_last.ensures

@@ -1,19 +1,20 @@
-use borrow.Author.Tests.{ne_eqb}
+use Rattle.tables.proofs.PutsLaws.{puts_nothing}
 use Rattle.writer.specs.Items.{end_text}
-use Rattle.writer.proofs.PutLaws.{puts_nothing}
+use borrow.Author.Tests.{ne_eqb}
+use native.Mathlib.Omega.{arith}
 use Rattle.writer.proofs.auction.put_end.Goals as goal
 
-pub returns-then-end-eq1 : goal.returns-then-end-eq1
+pub returns-in-1 : goal.returns-in-1
 unfolding end_text
-returns-then-end-eq1 c =
-    rw c.if-end-eq1.true c.put_bytes.ensures
+returns-in-1 c =
+    rw c.in-1.is c.put_text.ensures
 
-pub returns-then-end-eq2 : goal.returns-then-end-eq2
+pub returns-in-2 : goal.returns-in-2
 unfolding end_text
-returns-then-end-eq2 c =
-    rw c.if-end-eq2.true c.put_bytes-then-end-eq2.ensures
+returns-in-2 c =
+    rw c.in-2.is c.put_text-in-2.ensures
 
-pub returns : goal.returns
+pub returns-in_default : goal.returns-in_default
 unfolding end_text
-returns c =
-    rw (ne_eqb _ _ c.if-end-eq1.false, ne_eqb _ _ c.if-end-eq2.false) (puts_nothing _ _)
+returns-in_default c =
+    rw (ne_eqb c.args.end 1 (omega arith), ne_eqb c.args.end 2 (omega arith)) (puts_nothing _)

@@ -1,26 +1,24 @@
-use native.Mathlib.Omega.{arith}
+use Rattle.tables.proofs.PutsLaws.{puts_nothing, puts_then}
+use Rattle.writer.proofs.RemarkLaws.{items_made}
+use Rattle.writer.specs.BoardTexts.{bidding_text}
 use Rattle.writer.specs.Held.{section_items}
 use Rattle.writer.specs.Items.{tag_line_text}
-use Rattle.writer.specs.BoardTexts.{bidding_text}
 use borrow.Author.Tests.{ne_eqb}
-use Rattle.writer.proofs.PutLaws.{puts_then, puts_nothing}
-use borrow.Author.Tests.{ne_eqb}
+use native.Mathlib.Omega.{arith}
 use Rattle.writer.proofs.board.put_bidding.Goals as goal
 
-pub returns-then-w-eq0 : goal.returns-then-w-eq0
+pub returns-in_default : goal.returns-in_default
 unfolding bidding_text
-returns-then-w-eq0 c =
-    rw (← c.card_word-w.ensures.0, c.if-w-eq0.true) (puts_nothing _ _)
+returns-in_default c =
+    rw c.in_default.ensures (puts_nothing _)
 
-pub put_after-h-requires : goal.put_after-h-requires
-put_after-h-requires c =
-    omega (arith, c.card_word-first.ensures.1, c.requires)
-
-pub put_notes-requires : goal.put_notes-requires
-put_notes-requires c =
-    (omega (arith, c.less.ensures.0, c.card_word-w.ensures.1, c.card_word-first.ensures.1, c.card_word.ensures.1), omega (arith, c.card_word-first.ensures.1, c.requires))
+pub items_from-requires : goal.items_from-requires
+items_from-requires c =
+    omega (arith, c.in-Some.ensures.2)
 
 pub returns : goal.returns
 unfolding bidding_text section_items tag_line_text
 returns c =
-    rw (← c.card_word-w.ensures.0, ne_eqb _ _ c.if-w-eq0.false, ← c.card_word-first.ensures.0, ← c.card_word.ensures.0, ← c.card_word-2.ensures.0, ← c.card_word-3.ensures.0, ← c.card_word-4.ensures.0, ← c.less.ensures.0) (puts_then (puts_then (puts_then (puts_then (puts_then c.put_open-d.ensures c.put_seat-e.ensures) c.put_close-f.ensures) c.put_auction-g.ensures) c.put_after-h.ensures) c.put_notes.ensures)
+    let t = c.in-Some.ensures in
+    let u = c.items_from.ensures in
+    rw (ne_eqb _ _ t.0) (puts_then (puts_then (puts_then (puts_then (puts_then c.put_open.ensures (rw c.word.ensures.0 at c.put_seat.ensures)) c.put_close.ensures) (rw (items_made t.1, c.word-2.ensures.0) at c.put_auction.ensures)) c.put_after.ensures) (rw (u.same_text, u.same_entries, u.first_is, u.count_is, t.1.first_is) at c.put_notes.ensures))

@@ -1,22 +1,18 @@
-use native.Mathlib.Omega.{arith}
+use Rattle.tables.proofs.PutsLaws.{puts_nothing, puts_then}
+use Rattle.writer.proofs.RemarkLaws.{items_made}
+use Rattle.writer.specs.BoardTexts.{cards_text}
 use Rattle.writer.specs.Held.{section_items}
 use Rattle.writer.specs.Items.{tag_line_text}
-use Rattle.writer.specs.BoardTexts.{cards_text}
-use borrow.Author.Tests.{ne_eqb}
-use Rattle.writer.proofs.PutLaws.{puts_then, puts_nothing}
 use borrow.Author.Tests.{ne_eqb}
 use Rattle.writer.proofs.board.put_cards.Goals as goal
 
-pub returns-then-w-eq0 : goal.returns-then-w-eq0
+pub returns-in_default : goal.returns-in_default
 unfolding cards_text
-returns-then-w-eq0 c =
-    rw (← c.card_word-w.ensures.0, c.if-w-eq0.true) (puts_nothing _ _)
-
-pub put_after-requires : goal.put_after-requires
-put_after-requires c =
-    omega (arith, c.card_word-first.ensures.1, c.requires)
+returns-in_default c =
+    rw c.in_default.ensures (puts_nothing _)
 
 pub returns : goal.returns
 unfolding cards_text section_items tag_line_text
 returns c =
-    rw (← c.card_word-w.ensures.0, ne_eqb _ _ c.if-w-eq0.false, ← c.card_word-first.ensures.0, ← c.card_word.ensures.0, ← c.card_word-2.ensures.0, ← c.card_word-3.ensures.0) (puts_then (puts_then (puts_then (puts_then c.put_open-d.ensures c.put_seat-e.ensures) c.put_close-f.ensures) c.put_play-g.ensures) c.put_after.ensures)
+    let t = c.in-Some.ensures in
+    rw (ne_eqb _ _ t.0) (puts_then (puts_then (puts_then (puts_then c.put_open.ensures (rw c.word.ensures.0 at c.put_seat.ensures)) c.put_close.ensures) (rw (items_made t.1, c.word-2.ensures.0) at c.put_play.ensures)) c.put_after.ensures)

@@ -1,10 +1,14 @@
 use Rattle.writer.proofs.BoardLaws.{scoring_found, scoring_none}
 use Rattle.writer.proofs.board.put_scoring.Goals as goal
 
-pub returns-then-place-first : goal.returns-then-place-first
-returns-then-place-first c =
-    rw (← c.card_word-first.ensures.0, ← c.card_word-count.ensures.0, scoring_found c.args.text.now c.args.entries.now c.card_word-first.result c.card_word-count.result c.find_name-place.result c.find_name-place.ensures c.if-place-first.true, ← c.bytes_at-value.ensures) c.put_tagged.ensures
+pub returns-in-Some : goal.returns-in-Some
+returns-in-Some c =
+    let m = c.items-items.ensures in
+    let q = rw (m.same_text, m.same_entries, m.first_is, m.count_is) at (scoring_found c.items-items.result.text.now c.items-items.result.entries.now c.items-items.result.first c.items-items.result.count c.in-Some.e c.in-Some.ensures.0 c.in-Some.ensures.1) in
+    rw q (rw (c.bytes_at.ensures, m.same_text, m.same_entries) at c.put_tagged.ensures)
 
-pub returns : goal.returns
-returns c =
-    rw (← c.card_word-first.ensures.0, ← c.card_word-count.ensures.0, scoring_none c.args.text.now c.args.entries.now c.card_word-first.result c.card_word-count.result c.find_name-place.result c.find_name-place.ensures c.if-place-first.false) c.put_tagged-2.ensures
+pub returns-in-None : goal.returns-in-None
+returns-in-None c =
+    let m = c.items-items.ensures in
+    let q = rw (m.same_text, m.same_entries, m.first_is, m.count_is) at (scoring_none c.items-items.result.text.now c.items-items.result.entries.now c.items-items.result.first c.items-items.result.count 0 c.in-None.ensures) in
+    rw q c.put_tagged-in-None.ensures

@@ -1,14 +1,9 @@
-use Rattle.writer.specs.Held.{value_held}
-use borrow.Author.Tests.{ne_eqb}
-use borrow.Author.Tests.{ne_eqb}
 use Rattle.writer.proofs.board.put_value.Goals as goal
 
-pub returns-then-w-eq0 : goal.returns-then-w-eq0
-unfolding value_held
-returns-then-w-eq0 c =
-    rw (← c.card_word-w.ensures.0, c.if-w-eq0.true, ← c.card_word-first.ensures.0) c.put_tagged.ensures
+pub returns-in-Some : goal.returns-in-Some
+returns-in-Some c =
+    rw c.in-Some.ensures c.put_tagged.ensures
 
-pub returns : goal.returns
-unfolding value_held
-returns c =
-    rw (← c.card_word-w.ensures.0, ne_eqb _ _ c.if-w-eq0.false, ← c.card_word-first.ensures.0, ← c.bytes_at-value.ensures) c.put_tagged-2.ensures
+pub returns-in-None : goal.returns-in-None
+returns-in-None c =
+    rw c.in-None.ensures c.put_tagged-in-None.ensures

@@ -1,6 +1,6 @@
-use borrow.Author.Tests.{ne_eqb}
 use Rattle.reader.specs.Deals.{hand_text}
-use Rattle.writer.proofs.PutLaws.{puts_then}
+use Rattle.tables.proofs.PutsLaws.{puts_then}
+use borrow.Author.Tests.{ne_eqb}
 use Rattle.writer.proofs.deal.put_hand.Goals as goal
 
 pub returns-then-x-eq0 : goal.returns-then-x-eq0
@@ -11,4 +11,4 @@ returns-then-x-eq0 c =
 pub returns : goal.returns
 unfolding hand_text
 returns c =
-    rw (ne_eqb _ _ c.if-x-eq0.false) (puts_then (puts_then (puts_then (puts_then (puts_then (puts_then c.put_suit-d.ensures c.put_byte-e.ensures) c.put_suit-f.ensures) c.put_byte-g.ensures) c.put_suit-h.ensures) c.put_byte-i.ensures) c.put_suit.ensures)
+    rw (ne_eqb _ _ c.if-x-eq0.false) (puts_then (puts_then (puts_then (puts_then (puts_then (puts_then c.put_suit.ensures c.put_byte-2.ensures) c.put_suit-2.ensures) c.put_byte-3.ensures) c.put_suit-3.ensures) c.put_byte-4.ensures) c.put_suit-4.ensures)

@@ -9,12 +9,6 @@ loop-k-init c = changed_first given_cleared c.args.boards c.args.cards.now
 pub clear_card-requires : goal.clear_card-requires
 clear_card-requires c = omega (arith, c.requires, c.loop-k-test.true, c.loop-k.invariant.same_length)
 
-pub overflow_add-k : goal.overflow_add-k
-overflow_add-k c = omega (arith, c.loop-k-test.true, c.requires, c.type_inv)
-
-pub loop-k-smaller : goal.loop-k-smaller
-loop-k-smaller c = omega (arith, c.loop-k-test.true)
-
 pub loop-k-preserved : goal.loop-k-preserved
 loop-k-preserved c = changed_next cleared_long c.loop-k.invariant c.loop-k-test.true c.requires c.clear_card.ensures c.clear_card.auto.cards
 

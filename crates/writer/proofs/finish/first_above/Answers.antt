@@ -1,27 +1,16 @@
-use native.Mathlib.Omega.{arith}
-use Rattle.writer.proofs.FinishSteps.{above_here, above_next, above_none}
-use Rattle.writer.specs.Finishings.{first_above}
-use native.Mathlib.Nat.{zero-add}
-use mathlib.Core.Path.{sym, ◌∙◌}
+use lib.Dec.{ltb}
+use Rattle.std.proofs.Common.{rules, tests}
+use Rattle.std.proofs.lemmas.Iterator.{YieldsList-from_slice}
+use Rattle.std.proofs.lemmas.Iterator.Search.{position_from_yields_List}
+use Rattle.writer.proofs.FinishSteps.{above_found}
 use Rattle.writer.proofs.finish.first_above.Goals as goal
 
-pub loop-i-init : goal.loop-i-init
-loop-i-init c = (omega arith, zero-add (first_above c.args.answers.now))
+pub returns-in-Some : goal.returns-in-Some
+returns-in-Some c =
+    let bs = c.args.answers.now in
+    rw c.in-Some.is at (above_found bs _ (position_from_yields_List (ltb 13) _ _ _ c.position.ensures.ran (YieldsList-from_slice bs cc) (λ x b q k. search (rules, tests))))
 
-pub bounds-answers-i : goal.bounds-answers-i
-bounds-answers-i c = omega arith
-
-pub returns-then-answers-i-gt13 : goal.returns-then-answers-i-gt13
-returns-then-answers-i-gt13 c = sym (above_here c.args.answers.now c.loop-i.i c.loop-i-test.true c.if-answers-i-gt13.true) ∙ c.loop-i.invariant.1
-
-pub overflow_add-i : goal.overflow_add-i
-overflow_add-i c = omega (arith, c.loop-i-test.true, c.type_inv)
-
-pub loop-i-smaller : goal.loop-i-smaller
-loop-i-smaller c = omega (arith, c.loop-i-test.true)
-
-pub loop-i-preserved : goal.loop-i-preserved
-loop-i-preserved c = (omega (arith, c.loop-i-test.true), sym (above_next c.args.answers.now c.loop-i.i c.loop-i-test.true c.if-answers-i-gt13.false) ∙ c.loop-i.invariant.1)
-
-pub returns : goal.returns
-returns c = sym (above_none c.args.answers.now c.loop-i.i c.loop-i-test.false) ∙ c.loop-i.invariant.1
+pub returns-in-None : goal.returns-in-None
+returns-in-None c =
+    let bs = c.args.answers.now in
+    rw c.in-None.is at (above_found bs _ (position_from_yields_List (ltb 13) _ _ _ c.position.ensures.ran (YieldsList-from_slice bs cc) (λ x b q k. search (rules, tests))))

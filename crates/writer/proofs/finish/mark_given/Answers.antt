@@ -9,12 +9,6 @@ loop-k-init c = changed_first marked c.args.boards c.args.cards.now
 pub mark_card-requires : goal.mark_card-requires
 mark_card-requires c = omega (arith, c.requires, c.loop-k-test.true, c.loop-k.invariant.same_length)
 
-pub overflow_add-k : goal.overflow_add-k
-overflow_add-k c = omega (arith, c.loop-k-test.true, c.requires, c.type_inv)
-
-pub loop-k-smaller : goal.loop-k-smaller
-loop-k-smaller c = omega (arith, c.loop-k-test.true)
-
 pub loop-k-preserved : goal.loop-k-preserved
 loop-k-preserved c = changed_next marked_long c.loop-k.invariant c.loop-k-test.true c.requires c.mark_card.ensures c.mark_card.auto.cards
 

@@ -1,10 +1,6 @@
 use Rattle.writer.specs.GivenCards.{marked}
 use Rattle.writer.proofs.ChangedCards.{ChangedTo}
-use Prim.Native.Nat.{◌-◌}
 use Rattle.writer.proofs.finish.mark_given.Given as goal
 
 abbrev pub invariant-loop-k : goal.invariant-loop-k
-invariant-loop-k l = ChangedTo marked l.boards l.initial.cards l.k l.cards
-
-abbrev pub decreases-loop-k : goal.decreases-loop-k
-decreases-loop-k l = l.boards - l.k
+invariant-loop-k l = ChangedTo marked l.boards l.fn.cards l.k l.cards

@@ -1,10 +1,7 @@
-use Prim.Native.Nat.{◌-◌, ◌*◌, ◌≤◌}
+use Prim.Native.Nat.{◌*◌}
 use mathlib.Core.Path.{◌≡◌}
 use lib.ListN.{length, take, drop}
 use Rattle.writer.proofs.give.answer_cells.Given as goal
 
 abbrev pub invariant-loop-i : goal.invariant-loop-i
-invariant-loop-i l = (l.i ≤ 20) × (take l.i l.cells ≡ take l.i (drop (20 * l.slip) l.answers)) × (length l.cells ≡ 20)
-
-abbrev pub decreases-loop-i : goal.decreases-loop-i
-decreases-loop-i l = 20 - l.i
+invariant-loop-i l = (take l.i l.cells ≡ take l.i (drop (20 * l.slip) l.answers)) × (length l.cells ≡ 20)

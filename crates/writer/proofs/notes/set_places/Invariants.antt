@@ -1,13 +1,9 @@
-use Prim.Native.Nat.{◌+◌}
-use mathlib.Core.Path.{◌≡◌}
+use Prim.Native.Nat.{◌+◌, ◌-◌}
 use Rattle.writer.specs.Items.{note_places}
-use Prim.Native.Nat.{◌≤◌}
-use mathlib.Core.Path.{◌≡◌}
 use lib.ListN.{length}
+use mathlib.Core.Path.{◌≡◌}
 use Rattle.writer.proofs.notes.set_places.Given as goal
 
-abbrev pub invariant-loop-left : goal.invariant-loop-left
-invariant-loop-left l = (note_places l.text l.entries l.initial.places l.from l.count ≡ note_places l.text l.entries l.places l.e l.left) × ((l.e + l.left ≤ l.from + l.count) × (length l.places ≡ length l.initial.places))
-
-abbrev pub decreases-loop-left : goal.decreases-loop-left
-decreases-loop-left l = l.left
+abbrev pub invariant-loop-e : goal.invariant-loop-e
+invariant-loop-e l =
+    (note_places l.items.text.now l.items.entries.now l.fn.places l.items.first l.items.count ≡ note_places l.items.text.now l.items.entries.now l.places l.e (l.items.first + l.items.count - l.e)) × (length l.places ≡ 256)

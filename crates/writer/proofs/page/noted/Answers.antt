@@ -1,19 +1,20 @@
-use native.Mathlib.Omega.{arith}
 use Rattle.writer.specs.BoardTexts.{present_held}
 use borrow.Author.Tests.{ne_eqb}
-use borrow.Author.Tests.{ne_eqb}
+use native.Mathlib.Omega.{arith}
 use Rattle.writer.proofs.page.noted.Goals as goal
 
-pub returns-then-w-eq0 : goal.returns-then-w-eq0
-unfolding present_held
-returns-then-w-eq0 c =
-    rw (← c.card_word-w.ensures.0, c.if-w-eq0.true)
+pub items_from-requires : goal.items_from-requires
+items_from-requires c =
+    omega (arith, c.in-Some.ensures.2)
 
-pub has_notes-requires : goal.has_notes-requires
-has_notes-requires c =
-    omega (arith, c.less.ensures.0, c.card_word-w.ensures.1, c.card_word.ensures.1, c.card_word-2.ensures.1)
-
-pub returns : goal.returns
+pub returns-in-Some : goal.returns-in-Some
 unfolding present_held
-returns c =
-    rw (← c.card_word-w.ensures.0, ne_eqb _ _ c.if-w-eq0.false, ← c.card_word.ensures.0, ← c.card_word-2.ensures.0, ← c.less.ensures.0) c.has_notes.ensures
+returns-in-Some c =
+    let t = c.in-Some.ensures in
+    let u = c.items_from.ensures in
+    rw (ne_eqb _ _ t.0) (rw (u.same_text, u.same_entries, u.first_is, u.count_is, t.1.first_is) at c.has_notes.ensures)
+
+pub returns-in-None : goal.returns-in-None
+unfolding present_held
+returns-in-None c =
+    rw c.in-None.ensures

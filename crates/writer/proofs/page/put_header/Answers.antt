@@ -4,4 +4,4 @@ use Rattle.writer.proofs.page.put_header.Goals as goal
 pub returns : goal.returns
 unfolding built_in_header
 returns c =
-    c.put_bytes.ensures
+    c.put_text.ensures

@@ -1,7 +1,5 @@
-use native.Mathlib.Omega.{arith}
-use Rattle.writer.specs.BoardTexts.{page_held}
-use borrow.Author.Tests.{ne_eqb}
-use Rattle.writer.proofs.PutLaws.{puts_then}
+use Rattle.tables.proofs.PutsLaws.{puts_then}
+use Rattle.writer.specs.BoardTexts.{body_held, lead_held, page_held}
 use borrow.Author.Tests.{ne_eqb}
 use Rattle.writer.proofs.page.put_page.Goals as goal
 
@@ -10,11 +8,8 @@ unfolding page_held
 returns-then-boards-eq0 c =
     rw c.if-boards-eq0.true c.put_header.ensures
 
-pub put_parts-requires : goal.put_parts-requires
-put_parts-requires c =
-    omega (arith, c.if-boards-eq0.false)
-
 pub returns : goal.returns
-unfolding page_held
+unfolding page_held lead_held body_held
 returns c =
-    rw (ne_eqb _ _ c.if-boards-eq0.false) (puts_then (puts_then c.put_top-d.ensures c.put_body-e.ensures) c.put_parts.ensures)
+    let e = c.new-board.ensures in
+    rw (ne_eqb _ _ c.if-boards-eq0.false) (puts_then (puts_then (rw e.remarks_are at c.put_top.ensures) (rw (e.remarks_are, e.same_text, e.same_cards, e.same_entries, e.index_is) at c.put_body.ensures)) c.put_parts.ensures)

@@ -1,9 +1,10 @@
-use Rattle.writer.proofs.PutLaws.{puts_then, puts_nothing}
+use Rattle.tables.proofs.PutsLaws.{puts_nothing, puts_then}
 use Rattle.writer.proofs.page.put_unwritten.Goals as goal
 
-pub returns-then-scan-eq0 : goal.returns-then-scan-eq0
-returns-then-scan-eq0 c = rw c.if-scan-eq0.true (puts_nothing _ _)
+pub returns-then-board-eq0 : goal.returns-then-board-eq0
+returns-then-board-eq0 c =
+    rw c.if-board-eq0.true (puts_nothing _)
 
 pub returns : goal.returns
 returns c =
-    rw (← c.present_at.ensures, ← c.card_word-first.ensures.0) (puts_then c.put_remarks-d.ensures c.put_remarks.ensures)
+    rw (← c.present_at-present.ensures) (puts_then c.put_lost.ensures c.put_lost-2.ensures)

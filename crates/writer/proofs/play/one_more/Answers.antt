@@ -1,5 +1,5 @@
+use borrow.Author.Tests.{le-ltb, lt-ltb}
 use native.Mathlib.Omega.{arith}
-use borrow.Author.Tests.{lt-ltb, le-ltb}
 use Rattle.writer.proofs.play.one_more.Goals as goal
 
 pub returns-then-k-lt52 : goal.returns-then-k-lt52

@@ -1,27 +1,38 @@
-use Rattle.writer.specs.Items.{sought_by}
-use Rattle.writer.proofs.RemarkLaws.{items_none, remarks_tag, remarks_put, remarks_pass}
-use Rattle.writer.proofs.PutLaws.{puts_first, puts_same, puts_next, puts_all}
+use Prim.Native.Nat.{◌+◌, ◌<◌, ◌≤◌}
+use Rattle.tables.proofs.PutsLaws.{puts_all, puts_first, puts_next, puts_same}
+use Rattle.writer.proofs.RemarkLaws.{items_all, items_none, remarks_pass, remarks_put, remarks_tag}
 use mathlib.Core.Path.{sym, ◌∙◌}
 use native.Mathlib.Omega.{arith}
-use borrow.Author.Rules.{rules}
+use Rattle.writer.proofs.remarks.put_remarks.Goals.{else-met-kind, then-met-kind}
 use Rattle.writer.proofs.remarks.put_remarks.Goals as goal
 
-pub loop-left-init : goal.loop-left-init
-loop-left-init c =
-    (rw c.is_first-under.ensures (puts_first _ _ _), search rules)
+pub loop-e-init : goal.loop-e-init
+loop-e-init g c =
+    λ p f. rw (items_all c.args.items.now) (puts_first _ _)
 
-pub loop-left-preserved-then-met-eq1 : goal.loop-left-preserved-then-met-eq1
-loop-left-preserved-then-met-eq1 c =
-    let a = c.args in let l = c.loop-left in (rw (c.is_sought-under.ensures, c.bytes_at.ensures) (puts_same (remarks_tag (λ t. sought_by a.sought a.name.now t.name) l.under a.kind a.text.now a.entries.now l.e l.left c.loop-left-test.true (sym c.entry_word-met.ensures.0 ∙ c.if-met-eq1.true)) l.invariant.0), omega (arith, l.invariant.1, c.loop-left-test.true))
+pub loop-e-preserved-then-met-eq-TAG : goal.loop-e-preserved-then-met-eq-TAG
+loop-e-preserved-then-met-eq-TAG g c =
+    λ p f.
+    let is = c.args.items.now in
+    let l = c.loop-e in
+    let h : l.e < is.first + is.count = omega (arith, c.end-e-end.ensures.0, c.loop-e-test.true) in
+    rw (f l.e _ h c.takes-under.ensures) (puts_same (remarks_tag p l.under c.args.kind is l.e h (sym c.kind_at-met.ensures ∙ c.if-met-eq-TAG.true)) (l.invariant p f))
 
-pub loop-left-preserved-then-met-kind : goal.loop-left-preserved-then-met-kind
-loop-left-preserved-then-met-kind c =
-    let a = c.args in let l = c.loop-left in (puts_next _ _ (puts_same (remarks_put (λ t. sought_by a.sought a.name.now t.name) l.under a.kind a.text.now a.entries.now l.e l.left c.loop-left-test.true (rw (← c.entry_word-met.ensures.0) c.if-met-eq1.false) c.requires.1 (rw (← c.entry_word-met.ensures.0) c.if-met-kind.true)) l.invariant.0) (rw c.bytes_at-then-met-kind.ensures at c.put_remark-k.ensures), omega (arith, l.invariant.1, c.loop-left-test.true))
-
-pub loop-left-preserved : goal.loop-left-preserved
-loop-left-preserved c =
-    let a = c.args in let l = c.loop-left in (puts_same (remarks_pass (λ t. sought_by a.sought a.name.now t.name) l.under a.kind a.text.now a.entries.now l.e l.left c.loop-left-test.true (rw (← c.entry_word-met.ensures.0) c.if-met-eq1.false) (rw (← c.entry_word-met.ensures.0) c.if-met-kind.false)) l.invariant.0, omega (arith, l.invariant.1, c.loop-left-test.true))
+pub loop-e-preserved : goal.loop-e-preserved
+loop-e-preserved g c =
+    λ p f.
+    let is = c.args.items.now in
+    let l = c.loop-e in
+    let h : l.e < is.first + is.count = omega (arith, c.end-e-end.ensures.0, c.loop-e-test.true) in
+    elim c.if-met-kind.branch [
+      | then-met-kind w ↦ rw w.page-is (puts_next _ _ (puts_same (remarks_put p l.under c.args.kind is l.e h (rw (← c.kind_at-met.ensures) c.if-met-eq-TAG.false) c.requires.small (rw (← c.kind_at-met.ensures) w.if-met-kind.true)) (l.invariant p f)) (rw w.bytes_at.ensures at w.put_remark.ensures))
+      | else-met-kind w ↦ rw w.page-is (puts_same (remarks_pass p l.under c.args.kind is l.e h (rw (← c.kind_at-met.ensures) c.if-met-eq-TAG.false) (rw (← c.kind_at-met.ensures) w.if-met-kind.false)) (l.invariant p f))
+    ]
 
 pub returns : goal.returns
-returns c =
-    let a = c.args in let l = c.loop-left in puts_all (puts_same (rw (items_none a.text.now a.entries.now l.e l.left c.loop-left-test.false)) l.invariant.0)
+returns g c =
+    λ p f.
+    let is = c.args.items.now in
+    let l = c.loop-e in
+    let h : is.first + is.count ≤ l.e = omega (arith, c.end-e-end.ensures.0, c.loop-e-test.false) in
+    puts_all (puts_same (rw (items_none is l.e h)) (l.invariant p f))

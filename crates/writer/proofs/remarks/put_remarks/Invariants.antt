@@ -1,12 +1,12 @@
-use Rattle.writer.specs.Items.{sought_by, is_first, remarks_text}
-use Rattle.writer.specs.Held.{items_at}
-use Rattle.writer.proofs.PutLaws.{PutsLeft}
-use Prim.Native.Nat.{◌+◌, ◌≤◌}
-use Prim.Native.Nat.{◌≤◌}
+use Prim.Native.Nat.{ℕ, ◌+◌, ◌<◌}
+use Rattle.reader.specs.Plain.{TagPair}
+use Rattle.tables.proofs.PutsLaws.{PutsLeft}
+use Rattle.writer.specs.Items.{items_from, items_of, remarks_text, tag_at}
+use mathlib.Core.Bool.{Bool}
+use mathlib.Core.Path.{◌≡◌}
 use Rattle.writer.proofs.remarks.put_remarks.Given as goal
 
-abbrev pub invariant-loop-left : goal.invariant-loop-left
-invariant-loop-left l = PutsLeft l.initial.page l.at (remarks_text (λ t. sought_by l.sought l.name t.name) (is_first l.sought) l.kind (items_at l.text l.entries l.first l.count)) l.page l.k (remarks_text (λ t. sought_by l.sought l.name t.name) l.under l.kind (items_at l.text l.entries l.e l.left)) × (l.e + l.left ≤ l.first + l.count)
-
-abbrev pub decreases-loop-left : goal.decreases-loop-left
-decreases-loop-left l = l.left
+abbrev pub invariant-loop-e : goal.invariant-loop-e
+invariant-loop-e g l =
+    (p : TagPair → Bool) → ((e : ℕ) (r : Bool) → e < l.items.first + l.items.count → goal.F-post g l.takes e r → r ≡ p (tag_at l.items e))
+    → PutsLeft l.fn.page (remarks_text p l.first l.kind (items_of l.items)) l.page (remarks_text p l.under l.kind (items_from l.items l.e))

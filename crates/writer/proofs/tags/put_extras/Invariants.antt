@@ -1,12 +1,8 @@
-use Rattle.writer.proofs.PutLaws.{PutsLeft}
-use Rattle.writer.specs.Items.{extras_text}
-use Rattle.writer.specs.Held.{items_at}
-use Prim.Native.Nat.{◌+◌, ◌≤◌}
-use Prim.Native.Nat.{◌≤◌}
+use Prim.Native.Nat.{◌+◌, ◌-◌}
+use Rattle.tables.proofs.PutsLaws.{PutsLeft}
+use Rattle.writer.specs.Items.{extras_text, items_of}
 use Rattle.writer.proofs.tags.put_extras.Given as goal
 
-abbrev pub invariant-loop-left : goal.invariant-loop-left
-invariant-loop-left l = PutsLeft l.initial.page l.at (extras_text l.text l.entries l.first (items_at l.text l.entries l.first l.scan) l.from l.count) l.page l.k (extras_text l.text l.entries l.first (items_at l.text l.entries l.first l.scan) l.e l.left) × (l.e + l.left ≤ l.from + l.count) × (l.from ≤ l.e)
-
-abbrev pub decreases-loop-left : goal.decreases-loop-left
-decreases-loop-left l = l.left
+abbrev pub invariant-loop-e : goal.invariant-loop-e
+invariant-loop-e l =
+    PutsLeft l.fn.page (extras_text l.items.text.now l.items.entries.now l.items.first (items_of l.remarks) l.from l.count) l.page (extras_text l.items.text.now l.items.entries.now l.items.first (items_of l.remarks) l.e (l.from + l.count - l.e))

@@ -1,6 +1,6 @@
-use native.Mathlib.Omega.{arith}
-use borrow.Author.Tests.{le-ltb}
 use Rattle.tables.specs.Tables.{digit_byte}
+use borrow.Author.Tests.{le-ltb}
+use native.Mathlib.Omega.{arith}
 use Rattle.writer.proofs.tokens.digit_of.Goals as goal
 
 pub returns : goal.returns

@@ -1,27 +1,27 @@
-use native.Mathlib.Omega.{arith}
-use borrow.Author.Tests.{lt-ltb, le-ltb, ne_eqb}
 use Rattle.reader.specs.Words.{call_token}
+use borrow.Author.Tests.{le-ltb, lt-ltb, ne_eqb}
+use native.Mathlib.Omega.{arith}
 use Rattle.writer.proofs.tokens.put_call.Goals as goal
 
 pub returns-in-0 : goal.returns-in-0
 unfolding call_token
 returns-in-0 c =
-    rw c.in-0.is c.put_bytes.ensures
+    rw c.in-0.is c.put_text.ensures
 
 pub returns-in-36 : goal.returns-in-36
 unfolding call_token
 returns-in-36 c =
-    rw c.in-36.is c.put_bytes-in-36.ensures
+    rw c.in-36.is c.put_text-in-36.ensures
 
 pub returns-in-37 : goal.returns-in-37
 unfolding call_token
 returns-in-37 c =
-    rw c.in-37.is c.put_bytes-in-37.ensures
+    rw c.in-37.is c.put_text-in-37.ensures
 
 pub returns-in-38 : goal.returns-in-38
 unfolding call_token
 returns-in-38 c =
-    rw c.in-38.is c.put_bytes-in-38.ensures
+    rw c.in-38.is c.put_text-in-38.ensures
 
 pub returns-in-1-to-35 : goal.returns-in-1-to-35
 unfolding call_token

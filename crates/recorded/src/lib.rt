@@ -1,0 +1,7 @@
+// What the programs share that replay recorded cases.
+#![tactic(auto)]
+
+pub mod bytes; // the bytes of the cases, taken from the front
+pub mod cases; // cases replayed one after the other, and counted
+pub mod pages; // what a lent page holds
+pub mod report; // the file that is read, and what is printed
