@@ -13,10 +13,7 @@ use Rattle.tables.proofs.Laws.{by_cases}
 use Rattle.tables.proofs.TextLaws.{front_few}
 use Rattle.planning.specs.declared.editions.EditionsRefusal.{EditionsRefusal}
 use Rattle.planning.specs.declared.editions.EditionsRefusal.TheVariants.{Old, New}
-use Rattle.planning.specs.declared.editions.Editions.{Editions}
-use Rattle.planning.specs.declared.editions.Editions.TheVariants.{Both}
-use Rattle.planning.specs.declared.editions.Editions.TheVariants as editions
-use Rattle.planning.specs.Plans.{Boxes, editions_number, editions_carries, edition_refused, editions_of, are_both}
+use Rattle.planning.specs.Plans.{Boxes, editions_number, editions_carries, edition_refused, editions_of, Editions}
 use Rattle.writer.specs.declared.finish.FinishRefusal.TheVariants.{Edition, Answers, Impossible, PageFull}
 use Rattle.writer.specs.declared.finish.FinishRefusal.{FinishRefusal}
 use Rattle.writer.specs.Given.{finished_text}
@@ -26,6 +23,7 @@ use Rattle.demands.specs.Demand1.{Refusal, refusal, of_editions, solve_in, NotTw
 use Rattle.demands.specs.Demand1 as demand
 use Rattle.demands.proofs.Listing.{read_number_lem}
 use Rattle.demands.proofs.Refusing.{Says, Met, nothing, this, later, met_by, met_below, editions_met, first_that_holds, boxes_zero}
+use Rattle.std.specs.Prelude.{Err, is_ok}
 
 -- ---- the first byte above 13
 
@@ -61,7 +59,7 @@ of_answers c old new answers page =
 
 module _ (c : Conventions) (old new : List ℕ) (boxes : Boxes) (answers page answer : List ℕ)
     (told : answer ≡ finishing_numbers (finishing_of c old new boxes answers (length page))) where
-  refused_says : (f : EditionsRefusal) → editions_of c old new boxes ≡ editions.Refused f
+  refused_says : (f : EditionsRefusal) → editions_of c old new boxes ≡ Err f
       → Says answer (editions_number f) (edition_refused f) (editions_carries f)
   unfolding finishing_of
   refused_says f q =
@@ -122,7 +120,7 @@ finish_refuses c old new boxes answers page boxes' page' answer' r o =
 
 -- An answer that begins with 0: both editions were taken, 20 possible bytes for each slip, and n bytes are written.
 pub record IsDone (e : Editions) (solve : ℕ) (answers : List ℕ) (n m : ℕ) : Type 0 where
-  pub taken : are_both e ≡ true
+  pub taken : is_ok e ≡ true
   pub twenty : length answers ≡ 20 * solve
   pub possible : first_above answers ≡ length answers
   pub is : finished_by e solve answers (finished_on n m) ≡ Ok n
@@ -146,5 +144,5 @@ is_done (Both a b) solve answers n m z =
     (λ v. let y = rw (t, u, v) at z in absurd (omega arith)))
     (λ u. let y = rw (t, u) at z in absurd (omega arith)))
     (λ t. let y = rw t at z in absurd (omega arith))
-is_done (editions.Refused (Old f)) solve answers n m z = absurd (read_number_lem f z)
-is_done (editions.Refused (New f)) solve answers n m z = absurd (read_number_lem f z)
+is_done (Err (Old f)) solve answers n m z = absurd (read_number_lem f z)
+is_done (Err (New f)) solve answers n m z = absurd (read_number_lem f z)

@@ -14,10 +14,7 @@ use Rattle.reader.specs.declared.edition.ReadRefusal.{ReadRefusal}
 use Rattle.reader.specs.Store.{flat, padded}
 use Rattle.reader.specs.Editions.{reading_of, cards_of, entries_of}
 use Rattle.planning.specs.declared.editions.EditionsRefusal.TheVariants.{Old, New}
-use Rattle.planning.specs.declared.editions.Editions.{Editions}
-use Rattle.planning.specs.declared.editions.Editions.TheVariants.{Both}
-use Rattle.planning.specs.declared.editions.Editions.TheVariants as editions
-use Rattle.planning.specs.Plans.{Boxes, old_reading, new_reading, editions_of, are_both, BoxesAfter}
+use Rattle.planning.specs.Plans.{Boxes, old_reading, new_reading, editions_of, BoxesAfter, Editions}
 use Rattle.planning.proofs.BoxLaws.{taken_fits}
 use Rattle.planning.proofs.BothLaws.{both_are_taken, taken_short}
 use Rattle.writer.specs.Pages.{written_text}
@@ -87,7 +84,7 @@ record HeldBoth (c : Conventions) (old new : List ℕ) (boxes : Boxes) : Type 0 
   of_new : Held c new boxes.new_cards boxes.new_entries
 
 boxes_held : (c : Conventions) (old new : List ℕ) (boxes boxes' : Boxes) (well : Bool)
-    → are_both (editions_of c old new boxes) ≡ true → well ≡ true → BoxesAfter c well old new boxes boxes' → HeldBoth c old new boxes'
+    → is_ok (editions_of c old new boxes) ≡ true → well ≡ true → BoxesAfter c well old new boxes boxes' → HeldBoth c old new boxes'
 unfolding editions_of
 boxes_held c old new boxes boxes' well t w b =
     let u = both_are_taken (old_reading c old boxes) (new_reading c new boxes) t in
@@ -100,17 +97,17 @@ boxes_held c old new boxes boxes' well t w b =
           (b.new_cards ∙ rw w) (b.new_entries ∙ rw w);
     }
 
-head_zero : (e : Editions) → 0 ≡ (editions_head e).refusal → are_both e ≡ true
-head_zero (Both m n) z = refl
-head_zero (editions.Refused (Old f)) z = absurd (read_number_lem f (sym z))
-head_zero (editions.Refused (New f)) z = absurd (read_number_lem f (sym z))
+head_zero : (e : Editions) → 0 ≡ (editions_head e).refusal → is_ok e ≡ true
+head_zero (Ok n) z = refl
+head_zero (Err (Old f)) z = absurd (read_number_lem f (sym z))
+head_zero (Err (New f)) z = absurd (read_number_lem f (sym z))
 
 -- An answer that begins with the head of what reading both came to, and with 0.
 headed_held : (c : Conventions) (old new : List ℕ) (boxes boxes' : Boxes) (answer' values : List ℕ) → answer' ≡ head_then (editions_head (editions_of c old new boxes)) values
-    → BoxesAfter c (are_both (editions_of c old new boxes)) old new boxes boxes' → 0 ≡ get_or answer' 0 0 → HeldBoth c old new boxes'
+    → BoxesAfter c (is_ok (editions_of c old new boxes)) old new boxes boxes' → 0 ≡ get_or answer' 0 0 → HeldBoth c old new boxes'
 headed_held c old new boxes boxes' answer' values told after z =
     let t = head_zero (editions_of c old new boxes) (z ∙ ap (λ (l : List ℕ). get_or l 0 0) told) in
-    boxes_held c old new boxes boxes' (are_both (editions_of c old new boxes)) t t after
+    boxes_held c old new boxes boxes' (is_ok (editions_of c old new boxes)) t t after
 
 finish_held : (c : Conventions) (old new : List ℕ) (boxes : Boxes) (answers page : List ℕ) (boxes' : Boxes) (page' answer' : List ℕ)
     → FinishOut c old new boxes answers page boxes' page' answer' 0 → HeldBoth c old new boxes'

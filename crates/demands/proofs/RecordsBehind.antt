@@ -6,7 +6,7 @@ use mathlib.Core.List.{List, [], ◌∷◌, ◌++◌}
 use native.Mathlib.Omega.{arith}
 use lib.ListN.{length, get_or, take, drop}
 use lib.Seq.{take_at, drop_at}
-use Rattle.std.specs.Prelude.{Result, Ok, Err, is_ok}
+use Rattle.std.specs.Prelude.{Some, Result, Ok, Err, is_ok}
 use Rattle.tables.specs.declared.letters.Conventions.{Conventions}
 use Rattle.tables.proofs.Laws.{clash}
 use Rattle.reader.specs.declared.edition.Counts.{Counts}
@@ -66,7 +66,7 @@ whole_record c text k short h =
 -- ---- a board and its state
 
 behind_here : (olds news : List (List ℕ)) (i : ℕ) → i < length news
-    → behind_at olds news (board_plans olds news) (suc i) ≡ behind_state olds news (card_from news i) (state_at (board_plans olds news) (suc i))
+    → behind_at olds news (board_plans olds news) (suc i) ≡ Some (behind_state olds news (card_from news i) (state_at (board_plans olds news) (suc i)))
 behind_here olds news i h = rw (plan_here_lem olds news i h)
 
 -- The record at a position from 1.
@@ -81,7 +81,7 @@ module _ (c : Conventions) (old new : List ℕ) (short_old : length old ≤ 1677
   in_new k h = whole_record c new k short_new h
 
   behind_is : (i : ℕ) → i < length (cards_of c new) → (s : BoardState) → Reaches (length (cards_of c old)) (length (cards_of c new)) s
-      → IsBehind old new (suc i) s (part_of old new (behind_state (cards_of c old) (cards_of c new) (card_from (cards_of c new) i) s))
+      → IsBehind old new (suc i) s (part_of old new (Some (behind_state (cards_of c old) (cards_of c new) (card_from (cards_of c new) i) s)))
   behind_is i h Blank r = record { is = at_position new i (in_new i h); filled = (in_new i h).filled }
   behind_is i h Own r = record { is = at_position new i (in_new i h); filled = (in_new i h).filled }
   behind_is i h (Old zero) r = absurd (omega (arith, r.0))

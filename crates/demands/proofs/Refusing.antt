@@ -16,16 +16,10 @@ use Rattle.reader.specs.Editions.{read_number, read_carries, reading_of, cards_o
 use Rattle.planning.specs.declared.state.BoardState.{BoardState}
 use Rattle.planning.specs.declared.editions.EditionsRefusal.{EditionsRefusal}
 use Rattle.planning.specs.declared.editions.EditionsRefusal.TheVariants.{Old, New}
-use Rattle.planning.specs.declared.editions.Editions.{Editions}
-use Rattle.planning.specs.declared.editions.Editions.TheVariants.{Both}
-use Rattle.planning.specs.declared.editions.Editions.TheVariants as editions
-use Rattle.planning.specs.declared.plan.Planning.{Planning}
-use Rattle.planning.specs.declared.plan.Planning.TheVariants.{Planned}
-use Rattle.planning.specs.declared.plan.Planning.TheVariants as planning
 use Rattle.planning.specs.States.{state_number, from_of}
 use Rattle.planning.specs.Searches.{searches_from}
 use Rattle.planning.specs.Slips.{totals_of, numbers_from}
-use Rattle.planning.specs.Plans.{Boxes, editions_number, editions_carries, edition_refused, editions_of, are_both, planning_of, is_planned, plans_of, state_by, behind_by, fives_after, words_by, BoxesAfter}
+use Rattle.planning.specs.Plans.{Boxes, editions_number, editions_carries, edition_refused, editions_of, planning_of, plans_of, state_by, behind_by, fives_after, words_by, BoxesAfter, Editions, Planning}
 use Rattle.golavimes.specs.Answers.{reading_numbers, editions_head, head_then, plan_numbers, part_numbers, new_boards}
 use Rattle.demands.specs.Demand1.{Refusal, refusal, Begins, GivenFrom, FirstThatHolds, of_edition, of_editions, solve_in, SlipsShort, BoxesZero, NoValues, ReadRefuses, PlanRefuses, PositionRefusals, StateRefuses, BehindRefuses, NumbersRefusals, BoardsRefuse, SearchesRefuse}
 
@@ -167,7 +161,7 @@ read_refuses c text cards entries cards' entries' answer' r o =
 -- ---- both editions
 
 pub editions_met : (c : Conventions) (old new : List ℕ) (boxes : Boxes) (answer : List ℕ) (fs : List Refusal)
-    → ((f : EditionsRefusal) → editions_of c old new boxes ≡ editions.Refused f → Says answer (editions_number f) (edition_refused f) (editions_carries f))
+    → ((f : EditionsRefusal) → editions_of c old new boxes ≡ Err f → Says answer (editions_number f) (edition_refused f) (editions_carries f))
     → ((m n : ℕ) → editions_of c old new boxes ≡ Both m n → Met answer fs)
     → Met answer (of_editions c old new boxes ++ fs)
 unfolding editions_of
@@ -198,9 +192,9 @@ boxes_zero c well old new boxes boxes' w b =
 
 -- ---- planning
 
-planned_not : (p : Planning) → (get_or (plan_numbers p) 0 0 ≡ 0 → ⊥) → (is_planned p ≡ false) × NoValues 7 (plan_numbers p)
-planned_not (Planned t) h = absurd (h refl)
-planned_not (planning.Refused f) h = (refl, refl)
+planned_not : (p : Planning) → (get_or (plan_numbers p) 0 0 ≡ 0 → ⊥) → (is_ok p ≡ false) × NoValues 7 (plan_numbers p)
+planned_not (Ok t) h = absurd (h refl)
+planned_not (Err f) h = (refl, refl)
 
 pub plan_met : (c : Conventions) (old new : List ℕ) (boxes : Boxes) (slips answer : List ℕ) → answer ≡ plan_numbers (planning_of c old new boxes (length slips))
     → Met answer (of_editions c old new boxes ++ (refusal 4 0 (solve_in c old new) (SlipsShort c old new slips) ∷ []))
@@ -217,12 +211,12 @@ plan_met c old new boxes slips answer e =
 pub plan_refuses : PlanRefuses
 plan_refuses c old new boxes slips boxes' slips' answer' r o =
     let q = planning_of c old new boxes (length slips) in
-    let refused : (r ≡ 0 → ⊥) → (is_planned q ≡ false) × NoValues 7 (plan_numbers q) =
+    let refused : (r ≡ 0 → ⊥) → (is_ok q ≡ false) × NoValues 7 (plan_numbers q) =
     λ h. planned_not q (λ z. h (o.returned ∙ ap (λ (l : List ℕ). get_or l 0 0) o.told ∙ z)) in
     record {
       refused = first_that_holds (of_editions c old new boxes ++ (refusal 4 0 (solve_in c old new) (SlipsShort c old new slips) ∷ [])) answer' refl (plan_met c old new boxes slips answer' o.told);
       returned = o.returned;
-      boxes_zero = λ h. boxes_zero c (is_planned q) old new boxes boxes' (refused h).0 o.boxes_left;
+      boxes_zero = λ h. boxes_zero c (is_ok q) old new boxes boxes' (refused h).0 o.boxes_left;
       slips_zero = λ h. o.slips_after ∙ rw (refused h).0;
       no_values = λ h. rw o.told (refused h).1;
     }
@@ -230,14 +224,14 @@ plan_refuses c old new boxes slips boxes' slips' answer' r o =
 -- ---- a position, and all boards
 
 -- What holds of every refusal holds of what reading both came to, where the answer does not begin with 0.
-refused_has : (P : Editions → Type 0) → ((f : EditionsRefusal) → P (editions.Refused f)) → (e : Editions) → ((editions_head e).refusal ≡ 0 → ⊥) → P e
-refused_has P h (Both m n) z = absurd (z refl)
-refused_has P h (editions.Refused f) z = h f
+refused_has : (P : Editions → Type 0) → ((f : EditionsRefusal) → P (Err f)) → (e : Editions) → ((editions_head e).refusal ≡ 0 → ⊥) → P e
+refused_has P h (Ok n) z = absurd (z refl)
+refused_has P h (Err f) z = h f
 
 -- An answer of the head and so many values, which are zero after a refusal.
-module _ (values : ℕ) (of : Editions → List ℕ) (none : (f : EditionsRefusal) → of (editions.Refused f) ≡ replicate values 0) (c : Conventions) (old new : List ℕ)
+module _ (values : ℕ) (of : Editions → List ℕ) (none : (f : EditionsRefusal) → of (Err f) ≡ replicate values 0) (c : Conventions) (old new : List ℕ)
     (boxes boxes' : Boxes) (answer' : List ℕ) (r : ℕ) (told : answer' ≡ head_then (editions_head (editions_of c old new boxes)) (of (editions_of c old new boxes)))
-    (after : BoxesAfter c (are_both (editions_of c old new boxes)) old new boxes boxes') (returned : r ≡ get_or answer' 0 0) where
+    (after : BoxesAfter c (is_ok (editions_of c old new boxes)) old new boxes boxes') (returned : r ≡ get_or answer' 0 0) where
   not_zero : (r ≡ 0 → ⊥) → (editions_head (editions_of c old new boxes)).refusal ≡ 0 → ⊥
   not_zero h z = h (returned ∙ ap (λ (l : List ℕ). get_or l 0 0) told ∙ z)
 
@@ -247,7 +241,7 @@ module _ (values : ℕ) (of : Editions → List ℕ) (none : (f : EditionsRefusa
       record {
         refused = first_that_holds (of_editions c old new boxes) answer' refl (headed_met c old new boxes answer' (of q) told);
         returned = returned;
-        boxes_zero = λ h. boxes_zero c (are_both q) old new boxes boxes' (refused_has (λ e. are_both e ≡ false) (λ f. refl) q (not_zero h)) after;
+        boxes_zero = λ h. boxes_zero c (is_ok q) old new boxes boxes' (refused_has (λ e. is_ok e ≡ false) (λ f. refl) q (not_zero h)) after;
         no_values = λ h. rw told (refused_has (λ e. of e ≡ replicate values 0) none q (not_zero h));
       }
 

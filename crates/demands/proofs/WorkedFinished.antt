@@ -17,7 +17,6 @@ use Rattle.reader.specs.Deals.{ones, card_count, whole_hands, hand_words, hands_
 use Rattle.reader.specs.Store.{lent}
 use Rattle.reader.specs.Editions.{reading_of, cards_of, entries_of, counts_of}
 use Rattle.planning.specs.declared.plan.Totals.{Totals}
-use Rattle.planning.specs.declared.plan.Planning.TheVariants.{Planned}
 use Rattle.planning.specs.Cards.{card_deal, is_whole, has_table}
 use Rattle.planning.specs.States.{state_of, board_plans}
 use Rattle.planning.specs.Slips.{card_from, slips_of, totals_of}
@@ -96,13 +95,13 @@ finish_out c old new boxes answers page f l =
       returned = refl;
     }
 
--- Planned with enough slips lent.
+-- Ok with enough slips lent.
 pub plan_out : (c : Conventions) (old new : List ℕ) (boxes : Boxes) (slips : List ℕ) → Plannable c old new boxes slips
     → PlanOut c old new boxes slips (boxes_after c true old new boxes) (lent true (length slips) (slips_of (plans_of c old new)))
-    (plan_numbers (Planned (totals_of (plans_of c old new)))) 0
+    (plan_numbers (Ok (totals_of (plans_of c old new)))) 0
 unfolding planning_of editions_of
 plan_out c old new boxes slips f =
-    let p : planning_of c old new boxes (length slips) ≡ Planned (totals_of (plans_of c old new)) =
+    let p : planning_of c old new boxes (length slips) ≡ Ok (totals_of (plans_of c old new)) =
     rw (
       taken_reading c old boxes.old_cards boxes.old_entries f.old_taken,
       taken_reading c new boxes.new_cards boxes.new_entries f.new_taken,
@@ -114,7 +113,7 @@ plan_out c old new boxes slips f =
 plan_none : (c : Conventions) (old new : List ℕ) (boxes : Boxes) (t : Totals)
     → IsTaken c old boxes.old_cards boxes.old_entries → IsTaken c new boxes.new_cards boxes.new_entries
     → totals_of (plans_of c old new) ≡ t → t.solve ≡ 0
-    → PlanOut c old new boxes [] (boxes_after c true old new boxes) [] (plan_numbers (Planned t)) 0
+    → PlanOut c old new boxes [] (boxes_after c true old new boxes) [] (plan_numbers (Ok t)) 0
 plan_none c old new boxes t to tn e z =
     let js = plans_of c old new in
     let n = ap (λ (u : Totals). u.solve) e in

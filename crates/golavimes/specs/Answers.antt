@@ -1,6 +1,6 @@
 -- What the C functions hand back. An answer array is: refusal number (0 none), edition (0 none), carried number, then the values, which
 -- are 0 after a refusal. Each function also returns the refusal number.
-use Rattle.std.specs.Prelude.{ℕ, ◌-◌, ◌≡◌, List, [], ◌∷◌, length, get_or, replicate, Result, Ok, Err, is_ok}
+use Rattle.std.specs.Prelude.{ℕ, ◌-◌, ◌≡◌, List, [], ◌∷◌, length, get_or, replicate, Option, Some, None, Result, Ok, Err, is_ok}
 use Rattle.tables.specs.Refusals.{refusal_number, refusal_carries}
 use Rattle.tables.specs.Page.{answer_of, page_of}
 use Rattle.tables.specs.Tables.{TableReading}
@@ -11,18 +11,11 @@ use Rattle.reader.specs.Store.{lent}
 use Rattle.reader.specs.Editions.{read_number, read_carries, reading_of, cards_of, entries_of}
 use Rattle.planning.specs.declared.state.BoardState.{BoardState}
 use Rattle.planning.specs.declared.behind.Behind.{Behind}
-use Rattle.planning.specs.declared.behind.Behind.TheVariants.{InOld, InNew, Nothing}
-use Rattle.planning.specs.declared.editions.Editions.{Editions}
-use Rattle.planning.specs.declared.editions.Editions.TheVariants.{Both}
-use Rattle.planning.specs.declared.editions.Editions.TheVariants as editions
 use Rattle.planning.specs.declared.plan.PlanRefusal.{PlanRefusal}
 use Rattle.planning.specs.declared.plan.PlanRefusal.TheVariants.{Edition}
-use Rattle.planning.specs.declared.plan.Planning.{Planning}
-use Rattle.planning.specs.declared.plan.Planning.TheVariants.{Planned}
-use Rattle.planning.specs.declared.plan.Planning.TheVariants as planning
 use Rattle.planning.specs.States.{state_number, from_of}
-use Rattle.planning.specs.Slips.{slips_of}
-use Rattle.planning.specs.Plans.{plan_number, plan_edition, plan_carries, Boxes, editions_of, are_both, planning_of, is_planned, plans_of, BoxesAfter, state_by, behind_by, boards_after, searches_after, words_by}
+use Rattle.planning.specs.Slips.{slips_of, edition_number}
+use Rattle.planning.specs.Plans.{plan_number, plan_edition, plan_carries, Boxes, editions_of, planning_of, plans_of, BoxesAfter, state_by, behind_by, boards_after, searches_after, words_by, Editions, Planning}
 use Rattle.writer.specs.declared.write.WriteRefusal.{WriteRefusal}
 use Rattle.writer.specs.Writings.{write_number, write_carries, writing_of, IsWritten}
 use Rattle.writer.specs.declared.finish.FinishRefusal.{FinishRefusal}
@@ -73,34 +66,33 @@ abbrev pub refused_head : PlanRefusal → Head
 refused_head f = record { refusal = plan_number f; edition = plan_edition f; carried = plan_carries f }
 
 abbrev pub editions_head : Editions → Head
-editions_head (Both m n) = record { refusal = 0; edition = 0; carried = 0 }
-editions_head (editions.Refused f) = refused_head (Edition f)
+editions_head (Ok n) = record { refusal = 0; edition = 0; carried = 0 }
+editions_head (Err f) = refused_head (Edition f)
 
 abbrev pub head_then : Head → List ℕ → List ℕ
 head_then h values = h.refusal ∷ h.edition ∷ h.carried ∷ values
 
 -- A plan's answer: the totals.
 abbrev pub plan_numbers : Planning → List ℕ
-plan_numbers (Planned t) = 0 ∷ 0 ∷ 0 ∷ t.boards ∷ t.blank ∷ t.own ∷ t.old ∷ t.near ∷ t.twin ∷ t.solve ∷ []
-plan_numbers (planning.Refused f) = head_then (refused_head f) (0 ∷ 0 ∷ 0 ∷ 0 ∷ 0 ∷ 0 ∷ 0 ∷ [])
+plan_numbers (Ok t) = 0 ∷ 0 ∷ 0 ∷ t.boards ∷ t.blank ∷ t.own ∷ t.old ∷ t.near ∷ t.twin ∷ t.solve ∷ []
+plan_numbers (Err f) = head_then (refused_head f) (0 ∷ 0 ∷ 0 ∷ 0 ∷ 0 ∷ 0 ∷ 0 ∷ [])
 
 -- A state's answer: its number (0 blank to 5 solve) and its source board.
 abbrev pub state_numbers : Editions → BoardState → List ℕ
 state_numbers r s = head_then (editions_head r) (state_number s ∷ from_of s ∷ [])
 
 -- A record's answer: the edition of the part (0 empty, 1 old, 2 new), its start and its length.
-abbrev pub part_numbers : Behind → List ℕ
-part_numbers (InOld a e) = 1 ∷ a ∷ (e - a) ∷ []
-part_numbers (InNew a e) = 2 ∷ a ∷ (e - a) ∷ []
-part_numbers Nothing = 0 ∷ 0 ∷ 0 ∷ []
+abbrev pub part_numbers : Option Behind → List ℕ
+part_numbers (Some b) = edition_number b.edition ∷ b.start ∷ (b.end - b.start) ∷ []
+part_numbers None = 0 ∷ 0 ∷ 0 ∷ []
 
-abbrev pub record_numbers : Editions → Behind → List ℕ
+abbrev pub record_numbers : Editions → Option Behind → List ℕ
 record_numbers r b = head_then (editions_head r) (part_numbers b)
 
 -- The boards of the new edition.
 abbrev pub new_boards : Editions → ℕ
-new_boards (Both m n) = n
-new_boards (editions.Refused f) = 0
+new_boards (Ok n) = n
+new_boards (Err f) = 0
 
 abbrev pub boards_numbers : Editions → List ℕ
 boards_numbers r = head_then (editions_head r) (new_boards r ∷ [])
@@ -137,33 +129,33 @@ pub record WritingOut (c : Conventions) (text cards entries page cards' entries'
 -- Two editions are planned, whatever was lent and whatever it held.
 pub record PlanOut (c : Conventions) (old new : List ℕ) (boxes : Boxes) (slips : List ℕ) (boxes' : Boxes) (slips' answer' : List ℕ) (r : ℕ) : Type 0 where
   pub told : answer' ≡ plan_numbers (planning_of c old new boxes (length slips))
-  pub boxes_left : BoxesAfter c (is_planned (planning_of c old new boxes (length slips))) old new boxes boxes'
-  pub slips_after : slips' ≡ lent (is_planned (planning_of c old new boxes (length slips))) (length slips) (slips_of (plans_of c old new))
+  pub boxes_left : BoxesAfter c (is_ok (planning_of c old new boxes (length slips))) old new boxes boxes'
+  pub slips_after : slips' ≡ lent (is_ok (planning_of c old new boxes (length slips))) (length slips) (slips_of (plans_of c old new))
   pub returned : r ≡ get_or answer' 0 0
 
 -- The state at a position.
 pub record StateOut (c : Conventions) (old new : List ℕ) (boxes boxes' : Boxes) (p : ℕ) (answer' : List ℕ) (r : ℕ) : Type 0 where
   pub told : answer' ≡ state_numbers (editions_of c old new boxes) (state_by (editions_of c old new boxes) (plans_of c old new) p)
-  pub boxes_left : BoxesAfter c (are_both (editions_of c old new boxes)) old new boxes boxes'
+  pub boxes_left : BoxesAfter c (is_ok (editions_of c old new boxes)) old new boxes boxes'
   pub returned : r ≡ get_or answer' 0 0
 
 -- The record behind the board at a position.
 pub record BehindOut (c : Conventions) (old new : List ℕ) (boxes boxes' : Boxes) (p : ℕ) (answer' : List ℕ) (r : ℕ) : Type 0 where
   pub told : answer' ≡ record_numbers (editions_of c old new boxes) (behind_by (editions_of c old new boxes) c old new p)
-  pub boxes_left : BoxesAfter c (are_both (editions_of c old new boxes)) old new boxes boxes'
+  pub boxes_left : BoxesAfter c (is_ok (editions_of c old new boxes)) old new boxes boxes'
   pub returned : r ≡ get_or answer' 0 0
 
 -- Every board's state and the record behind it.
 pub record BoardsOut (c : Conventions) (old new : List ℕ) (boxes : Boxes) (numbers : List ℕ) (boxes' : Boxes) (numbers' answer' : List ℕ) (r : ℕ) : Type 0 where
   pub told : answer' ≡ boards_numbers (editions_of c old new boxes)
-  pub boxes_left : BoxesAfter c (are_both (editions_of c old new boxes)) old new boxes boxes'
+  pub boxes_left : BoxesAfter c (is_ok (editions_of c old new boxes)) old new boxes boxes'
   pub numbers_after : numbers' ≡ boards_after (editions_of c old new boxes) c old new (length numbers)
   pub returned : r ≡ get_or answer' 0 0
 
 -- Every board's state and the words that its searches compare.
 pub record SearchesOut (c : Conventions) (old new : List ℕ) (boxes : Boxes) (numbers : List ℕ) (boxes' : Boxes) (numbers' answer' : List ℕ) (r : ℕ) : Type 0 where
   pub told : answer' ≡ searches_numbers (editions_of c old new boxes) (words_by (editions_of c old new boxes) c old new)
-  pub boxes_left : BoxesAfter c (are_both (editions_of c old new boxes)) old new boxes boxes'
+  pub boxes_left : BoxesAfter c (is_ok (editions_of c old new boxes)) old new boxes boxes'
   pub numbers_after : numbers' ≡ searches_after (editions_of c old new boxes) c old new (length numbers)
   pub returned : r ≡ get_or answer' 0 0
 

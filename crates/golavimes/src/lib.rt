@@ -1,7 +1,7 @@
 // The boundary: thin functions on byte and number slices over the layers. golavimes_c exports them to C.
 #![tactic(auto)]
 
-ghost use Rattle.std.specs.Prelude.{◌≡◌, ◌-◌, get_or};
+ghost use Rattle.std.specs.Prelude.{◌≡◌, get_or};
 ghost use Rattle.golavimes.specs.Answers.{written_numbers, decoded_numbers, table_left, reading_numbers, writing_numbers, converted_numbers, finishing_numbers, refused_head, editions_head, plan_numbers, state_numbers, record_numbers, boards_numbers, searches_numbers, WroteOut, ReadOut, EditionOut, WritingOut, LinOut, PlanOut, StateOut, BehindOut, BoardsOut, SearchesOut, FinishOut};
 ghost use Rattle.tables.specs.Letters.{built_in};
 ghost use Rattle.tables.specs.Tables.{digits_text, header_text, rows_text, table_of_digits, table_of_rows};
@@ -270,8 +270,8 @@ fn state_numbers(r: Editions, s: BoardState) -> [u64; 5]
         h.refusal,
         h.edition,
         h.carried,
-        planning::state::state_number(s),
-        planning::state::from_of(s),
+        s.number(),
+        s.source(),
     ]
 }
 
@@ -307,24 +307,20 @@ pub fn golavimes_state(
     numbers[0]
 }
 
-// e - a, or 0.
-fn less(e: u64, a: u64) -> u64
-    ensures { result ≡ e - a }
-{
-    if e <= a {
-        return 0;
-    }
-    e - a
-}
-
-fn behind_numbers(r: Editions, b: Behind) -> [u64; 6]
+fn behind_numbers(r: Editions, b: Option<Behind>) -> [u64; 6]
     ensures { result ≡ record_numbers r b }
 {
     let h = editions_head(r);
     match b {
-        Behind::InOld(a, e) => [h.refusal, h.edition, h.carried, 1, a, less(e, a)],
-        Behind::InNew(a, e) => [h.refusal, h.edition, h.carried, 2, a, less(e, a)],
-        Behind::Nothing => [h.refusal, h.edition, h.carried, 0, 0, 0],
+        Some(p) => [
+            h.refusal,
+            h.edition,
+            h.carried,
+            p.edition.number(),
+            p.start,
+            p.end.saturating_sub(p.start),
+        ],
+        None => [h.refusal, h.edition, h.carried, 0, 0, 0],
     }
 }
 

@@ -12,6 +12,10 @@ use tables::letters::Conventions;
 use tables::page::Page;
 use writer::tokens::put_call;
 
+const X: u8 = 36;
+
+const XX: u8 = 37;
+
 // n or ns is 1, e or ew 2, b, both or all 3, anything else 0.
 #[tactic(auto, unfolding(crate::specs::Bidding::vulnerability_in))]
 pub(crate) fn vulnerability_in(t: &[u8]) -> u8
@@ -50,10 +54,10 @@ pub(crate) fn call_in(c: Conventions, value: &[u8]) -> u8
 {
     let t = less_alerts(value);
     if same_word(b"D", t) {
-        return 36;
+        return X;
     }
     if same_word(b"R", t) {
-        return 37;
+        return XX;
     }
     call_code(c, t).unwrap_or(47)
 }
@@ -71,7 +75,8 @@ pub(crate) fn call_at(c: Conventions, p: PairAt) -> Option<u8>
     None
 }
 
-// The last bid, 0 where there is none; the seat that made it, counted from the dealer; the last X (36) or XX (37) behind it, or 0.
+// The last bid, 0 where there is none; the seat that made it, counted from the dealer; the last X or XX behind it, or 0. An Option would be
+// no plainer: the plain board that the specs compare with has codes for none too, 4 for declarer and trump, to which each use would go back.
 #[derive(Clone, Copy)]
 pub struct Contract {
     pub bid: u8,
@@ -86,10 +91,9 @@ fn is_bid(code: u8) -> bool
 }
 
 pub(crate) fn next_seat(seat: u8) -> u8
-    requires { seat ≤ 4 }
     ensures { (result ≡ next_seat seat) × (result ≤ 3) }
 {
-    (seat + 1) % 4
+    (seat % 4 + 1) % 4
 }
 
 // The contract after one more call, by a seat.
@@ -104,7 +108,7 @@ pub(crate) fn with_call(seat: u8, k: Contract, code: u8) -> Contract
             doubling: 0,
         };
     }
-    if ((code == 36) | (code == 37)) & (0 < k.bid) {
+    if ((code == X) | (code == XX)) & (0 < k.bid) {
         return Contract {
             doubling: code,
             ..k

@@ -73,7 +73,6 @@ fn put_auction(page: &mut Page, c: Conventions, text: &[u8], s: Survey)
 
 // The play, where there are a bid and cards.
 fn put_play(page: &mut Page, c: Conventions, text: &[u8], s: Survey, declarer: u8)
-    requires { declarer ≤ 4 }
     ensures { Puts page.old (lin_play_text c s declarer (pairs_of text.now)) page.new }
 {
     let bid = s.contract.bid;
@@ -90,9 +89,10 @@ fn put_play(page: &mut Page, c: Conventions, text: &[u8], s: Survey, declarer: u
 }
 
 // The declarer, 4 without a bid.
+#[tactic(auto, unfolding(crate::specs::Bidding::declarer_of))]
 fn declarer_of(c: Conventions, text: &[u8], dealer: usize, k: Contract) -> u8
     requires { dealer ≤ 3 }
-    ensures { (result ≡ declarer_of dealer k (calls_from c (pairs_of text.now))) × (result ≤ 4) }
+    ensures { result ≡ declarer_of dealer k (calls_from c (pairs_of text.now)) }
 {
     if k.bid == 0 {
         return 4;

@@ -10,7 +10,11 @@ use reader::words::card_number;
 use tables::letters::{Conventions, rank_of, suit_of};
 use tables::text::{first_character, from, index_of, is_inside, trim, upto};
 
-// A hand that is being read: the cards so far, with those of the hands before it, how many are its own, and its suit.
+// All 52 cards.
+const DECK: u64 = 4503599627370495;
+
+// A hand that is being read: the cards so far, with those of the hands before it, how many are its own, and its suit. That it is sound
+// stands in the contracts, and not in a ghost field, since the specs make parts too and would have to prove it at each.
 #[derive(Clone, Copy)]
 pub struct LinPart {
     pub cards: u64,
@@ -141,7 +145,7 @@ fn read_hands(c: Conventions, s: &[u8], w: &[u8], n: &[u8], e: &[u8]) -> Option<
     if (trim(e).len() == 0) & ((south.count == 13) & ((west.count == 13) & (north.count == 13))) {
         return Some(Hands {
             north: north.cards - west.cards,
-            east: 4503599627370495 - north.cards,
+            east: DECK - north.cards,
             south: south.cards,
             west: west.cards - south.cards,
         });

@@ -38,7 +38,8 @@ pub(crate) fn card_at(c: Conventions, p: PairAt) -> Option<u8>
     None
 }
 
-// A trick of at most four cards: its leader, its cards, and how many they are.
+// A trick of at most four cards: its leader, its cards, and how many they are. That it is fine stands in the contracts, and not in a ghost
+// field, since the specs make tricks too and would have to prove it at each.
 #[derive(Clone, Copy)]
 pub struct LinTrick {
     pub leader: usize,

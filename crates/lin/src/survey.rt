@@ -1,5 +1,5 @@
 // A board's dealing, vulnerability and contract, and whether it has calls and cards, in one walk over its pairs.
-ghost use Rattle.std.specs.Prelude.{◌≡◌, ◌≤◌};
+ghost use Rattle.std.specs.Prelude.{◌≡◌};
 ghost use Rattle.lin.specs.Pairs.{pairs_of};
 ghost use Rattle.lin.specs.PairSteps.{pair_of};
 ghost use Rattle.lin.specs.SurveySteps.{no_survey, survey_call, surveyed, survey_from};
@@ -25,7 +25,7 @@ pub struct Survey {
 
 // Before the first pair.
 fn no_survey() -> Survey
-    ensures { (result ≡ no_survey) × (result.seat ≤ 3) }
+    ensures { result ≡ no_survey }
 {
     Survey {
         deal: LinDealing {
@@ -52,8 +52,7 @@ fn no_survey() -> Survey
 // One more call, where the code is one.
 #[tactic(auto, unfolding(crate::specs::SurveySteps::survey_call))]
 fn survey_call(s: Survey, code: u8) -> Survey
-    requires { s.seat ≤ 3 }
-    ensures { (result ≡ survey_call s code) × (result.seat ≤ 3) }
+    ensures { result ≡ survey_call s code }
 {
     if code < 47 {
         return Survey {
@@ -69,8 +68,7 @@ fn survey_call(s: Survey, code: u8) -> Survey
 // One more pair.
 #[tactic(auto, unfolding(crate::specs::SurveySteps::surveyed))]
 fn survey_step(c: Conventions, s: Survey, p: PairAt) -> Survey
-    requires { s.seat ≤ 3 }
-    ensures { (result ≡ surveyed c s (pair_of p.entry)) × (result.seat ≤ 3) }
+    ensures { result ≡ surveyed c s (pair_of p.entry) }
 {
     let value = p.value;
     match p.command {
@@ -93,7 +91,7 @@ fn survey_step(c: Conventions, s: Survey, p: PairAt) -> Survey
 
 // All pairs of a board.
 pub(crate) fn survey_of(c: Conventions, text: &[u8]) -> Survey
-    ensures { (result ≡ survey_from c no_survey (pairs_of text.now)) × (result.seat ≤ 3) }
+    ensures { result ≡ survey_from c no_survey (pairs_of text.now) }
 {
     let mut s = no_survey();
     for p in pairs_in(text) {

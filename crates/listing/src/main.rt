@@ -2,6 +2,7 @@
 #![tactic(auto)]
 
 use listing_text::listing::list;
+use planning::editions::LentBoxes;
 use std::io::{Read, Write};
 use std::rt::Files;
 use std::{fs, io};
@@ -27,17 +28,13 @@ fn print_listing(rt: &impl Print, old: &[u8], new: &[u8]) -> io::Result<()> {
     let mut new_entries = [0u32; 8192];
     let mut slips = [0u64; 640];
     let mut page = [0u8; 8192];
-    let written = list(
-        old,
-        new,
-        16384,
-        &mut old_cards,
-        &mut old_entries,
-        &mut new_cards,
-        &mut new_entries,
-        &mut slips,
-        &mut page,
-    );
+    let mut boxes = LentBoxes {
+        old_cards: &mut old_cards,
+        old_entries: &mut old_entries,
+        new_cards: &mut new_cards,
+        new_entries: &mut new_entries,
+    };
+    let written = list(old, new, 16384, &mut boxes, &mut slips, &mut page);
     match written {
         Ok(n) => io::writer(rt).write_all(upto(&page, n as usize)),
         Err(_) => Ok(()),

@@ -24,16 +24,10 @@ use Rattle.planning.specs.declared.state.BoardState.TheVariants.{Blank, Own, Old
 use Rattle.planning.specs.declared.editions.EditionsRefusal.TheVariants.{Old as OldRefused, New as NewRefused}
 use Rattle.planning.specs.declared.plan.PlanRefusal.{PlanRefusal}
 use Rattle.planning.specs.declared.plan.PlanRefusal.TheVariants.{Edition}
-use Rattle.planning.specs.declared.editions.Editions.{Editions}
-use Rattle.planning.specs.declared.editions.Editions.TheVariants.{Both}
-use Rattle.planning.specs.declared.editions.Editions.TheVariants as editions
 use Rattle.planning.specs.declared.plan.Totals.{Totals}
-use Rattle.planning.specs.declared.plan.Planning.{Planning}
-use Rattle.planning.specs.declared.plan.Planning.TheVariants.{Planned}
-use Rattle.planning.specs.declared.plan.Planning.TheVariants as planning
 use Rattle.planning.specs.States.{BoardPlan, board_plans, from_of}
 use Rattle.planning.specs.Slips.{totals_of}
-use Rattle.planning.specs.Plans.{plan_number, plan_edition, Boxes, old_reading, both_after, are_both, plans_of, planned_by, is_planned, editions_of, planning_of}
+use Rattle.planning.specs.Plans.{plan_number, plan_edition, Boxes, old_reading, both_after, plans_of, planned_by, editions_of, planning_of, Editions, Planning}
 use Rattle.listing_text.specs.Limited.{limited_of, limited_both}
 use Rattle.listing_text.specs.Listing.{pair, state_text, board_line, listing_lines, total_line, refused_line, list_text, listing_plan, slips_short, PageEnough, PageNeverFull, SlipsEnough}
 use Rattle.planning.proofs.BoxLaws.{taken_fits}
@@ -123,11 +117,11 @@ LinesFew [] = omega arith
 LinesFew (j ∷ js) = omega (arith, few (board_line j.position j.state) (listing_lines js) 60 (60 * length js) (board_few j.position j.state) (LinesFew js))
 
 -- THEOREM. The text of at most n boards, or of a refusal, has at most 60 n + 200 bytes.
-pub TextFew : (p : Planning) (js : List BoardPlan) (n : ℕ) → (is_planned p ≡ true → length js ≤ n) → length (list_text p js) ≤ 60 * n + 200
-TextFew (Planned t) js n h =
+pub TextFew : (p : Planning) (js : List BoardPlan) (n : ℕ) → (is_ok p ≡ true → length js ≤ n) → length (list_text p js) ≤ 60 * n + 200
+TextFew (Ok t) js n h =
     let k = h refl in
     omega (arith, k, few (listing_lines js) (total_line t) (60 * length js) 200 (LinesFew js) (total_few t))
-TextFew (planning.Refused f) js n h = omega (arith, refused_few f)
+TextFew (Err f) js n h = omega (arith, refused_few f)
 
 -- ---- what a taken edition is
 
@@ -141,9 +135,9 @@ taken_few c text lc le h = go (reading_of c text lc le) refl h
 limited_few : (c : Conventions) (limit : ℕ) (text : List ℕ) (lc le : ℕ) → is_ok (limited_of c limit text lc le) ≡ true → 64 * length (cards_of c text) ≤ lc
 limited_few c limit text lc le h = taken_few c text lc le (sym (ap is_ok (limited_taken c limit text lc le h)) ∙ h)
 
-planned_both : (e : Editions) (l : ℕ) (t : Totals) → is_planned (planned_by e l t) ≡ true → are_both e ≡ true
-planned_both (Both m n) l t h = refl
-planned_both (editions.Refused f) l t h = clash h
+planned_both : (e : Editions) (l : ℕ) (t : Totals) → is_ok (planned_by e l t) ≡ true → is_ok e ≡ true
+planned_both (Ok n) l t h = refl
+planned_both (Err f) l t h = clash h
 
 boards_are_cards : (c : Conventions) (old new : List ℕ) → length (plans_of c old new) ≡ length (cards_of c new)
 unfolding board_plans
@@ -151,7 +145,7 @@ boards_are_cards c old new = plans_count (cards_of c old) (cards_of c new) 1 [] 
 
 -- ---- what the listing program lends
 
-boards_few : (c : Conventions) (limit : ℕ) (old new : List ℕ) (boxes : Boxes) (ls : ℕ) → length boxes.new_cards ≡ 8192 → is_planned (listing_plan c limit old new boxes ls) ≡ true
+boards_few : (c : Conventions) (limit : ℕ) (old new : List ℕ) (boxes : Boxes) (ls : ℕ) → length boxes.new_cards ≡ 8192 → is_ok (listing_plan c limit old new boxes ls) ≡ true
     → length (plans_of c old new) ≤ 128
 unfolding listing_plan limited_both
 boards_few c limit old new boxes ls room h =
@@ -194,16 +188,16 @@ module _ (c : Conventions) (limit : ℕ) (old new : List ℕ) (boxes : Boxes) (l
   WithinLimit h g = rw (le-ltb limit (length old) h, le-ltb limit (length new) g)
 
   -- THEOREM. An old edition longer than the limit is refused with its length, whatever the new one is.
-  pub OldOverlong : limit < length old → listing_plan c limit old new boxes ls ≡ planning.Refused (Edition (OldRefused (Overlong (length old))))
+  pub OldOverlong : limit < length old → listing_plan c limit old new boxes ls ≡ Err (Edition (OldRefused (Overlong (length old))))
   unfolding listing_plan limited_both limited_of
   OldOverlong h = rw (lt-ltb limit (length old) h)
 
   -- THEOREM. Any other refusal of the old edition is told too, whatever the new one is.
-  pub OldFirst : {f : ReadRefusal} → length old ≤ limit → old_reading c old boxes ≡ Err f → listing_plan c limit old new boxes ls ≡ planning.Refused (Edition (OldRefused f))
+  pub OldFirst : {f : ReadRefusal} → length old ≤ limit → old_reading c old boxes ≡ Err f → listing_plan c limit old new boxes ls ≡ Err (Edition (OldRefused f))
   unfolding listing_plan limited_both limited_of
   OldFirst h e = rw (le-ltb limit (length old) h, e)
 
   -- THEOREM. Where the old edition is taken, a new one longer than the limit is refused with its length.
-  pub NewOverlong : {n : Counts} → length old ≤ limit → old_reading c old boxes ≡ Ok n → limit < length new → listing_plan c limit old new boxes ls ≡ planning.Refused (Edition (NewRefused (Overlong (length new))))
+  pub NewOverlong : {n : Counts} → length old ≤ limit → old_reading c old boxes ≡ Ok n → limit < length new → listing_plan c limit old new boxes ls ≡ Err (Edition (NewRefused (Overlong (length new))))
   unfolding listing_plan limited_both limited_of
   NewOverlong h e g = rw (le-ltb limit (length old) h, e, lt-ltb limit (length new) g)

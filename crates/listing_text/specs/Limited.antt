@@ -5,8 +5,7 @@ use Rattle.reader.specs.declared.edition.Counts.{Counts}
 use Rattle.reader.specs.declared.edition.ReadRefusal.{ReadRefusal}
 use Rattle.reader.specs.declared.edition.ReadRefusal.TheVariants.{Overlong}
 use Rattle.reader.specs.Editions.{reading_of}
-use Rattle.planning.specs.declared.editions.Editions.{Editions}
-use Rattle.planning.specs.Plans.{Boxes, both_after}
+use Rattle.planning.specs.Plans.{Boxes, both_after, Editions}
 
 -- An edition longer than the limit is refused with 1, whatever else it is; any other is read.
 unfoldable pub limited_of : Conventions → ℕ → List ℕ → ℕ → ℕ → Result Counts ReadRefusal

@@ -1,23 +1,22 @@
 -- What the inner functions of the listing promise.
-use Rattle.std.specs.Prelude.{ℕ, ◌/◌, ◌<◌, ◌≡◌, cond, List, leb, length, Result}
+use Rattle.std.specs.Prelude.{ℕ, ◌/◌, ◌<◌, ◌≡◌, cond, List, leb, length, is_ok, Result}
 use Rattle.tables.specs.Page.{Wrote}
 use Rattle.tables.specs.PageSteps.{PageEnded}
 use Rattle.reader.specs.Store.{zeros, put_all}
 use Rattle.planning.specs.declared.plan.Totals.{Totals}
 use Rattle.planning.specs.States.{BoardPlan}
 use Rattle.planning.specs.Slips.{slips_of, totals_of}
-use Rattle.planning.specs.Plans.{Boxes, slips_answer, are_both, BoxesAfter}
+use Rattle.planning.specs.Plans.{Boxes, slips_answer, BoxesAfter, Editions}
 use Rattle.planning.specs.PlanSteps.{BoxesKept}
 use Rattle.listing_text.specs.Listing.{list_text, well_on}
 use Rattle.tables.specs.declared.letters.Conventions.{Conventions}
-use Rattle.planning.specs.declared.editions.Editions.{Editions}
 use Rattle.listing_text.specs.Limited.{limited_both}
 use Rattle.tables.specs.declared.refusal.Refusal.{Refusal}
 
 -- Both editions are read, if neither is longer than the limit.
 pub record BothLimited (c : Conventions) (limit : ℕ) (old new : List ℕ) (boxes boxes' : Boxes) (r : Editions) : Type 0 where
   pub answer : r ≡ limited_both c limit old new boxes
-  pub boxes_left : BoxesAfter c (are_both r) old new boxes boxes'
+  pub boxes_left : BoxesAfter c (is_ok r) old new boxes boxes'
 
 -- Totals that a listing can write: each has 32 bits.
 pub record Countable (t : Totals) : Type 0 where

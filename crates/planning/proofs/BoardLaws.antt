@@ -4,15 +4,15 @@ use mathlib.Core.Path.{◌≡◌, refl, sym, ap, ◌∙◌}
 use mathlib.Core.List.{List, [], ◌∷◌, ◌++◌}
 use mathlib.Core.Option.{none, some}
 use native.Mathlib.Omega.{arith}
-use lib.ListN.{length, take, drop, get_or, get_or-eq_default, drop_of_length-le}
+use lib.ListN.{length, take, drop, get_or-eq_default, drop_of_length-le}
 use lib.Seq.{drop-drop, drop-cons, take-suc}
 use Rattle.planning.specs.declared.state.BoardState.{BoardState}
 use Rattle.planning.specs.declared.state.BoardState.TheVariants.{Blank}
 use Rattle.planning.specs.declared.behind.Behind.{Behind}
-use Rattle.planning.specs.declared.behind.Behind.TheVariants.{InOld, InNew, Nothing}
+use Rattle.std.specs.Prelude.{Some, None}
 use Rattle.planning.specs.PlanSteps.{plan_here}
 use Rattle.planning.specs.States.{BoardPlan, state_of, board_plans_from, board_plans, plan_from, plan_at, state_in, state_at}
-use Rattle.planning.specs.Slips.{card_from, card_at, behind_state, behind_in, behind_at, behind_numbers}
+use Rattle.planning.specs.Slips.{card_from, card_at, behind_state, behind_in, behind_at}
 
 -- ---- the cards at positions
 
@@ -104,15 +104,9 @@ module _ (os ns : List (List ℕ)) (k : ℕ) where
   state_past e h = sym (ap state_in (board_past e h))
 
   pub behind_here : {p : ℕ} {s : BoardState} {b : Behind} → p ≡ k + 1 → k < length ns → s ≡ state_of os ns (take k ns) (card_from ns k)
-      → b ≡ behind_state os ns (card_at ns p) s → b ≡ behind_at os ns (board_plans os ns) p
+      → b ≡ behind_state os ns (card_at ns p) s → Some b ≡ behind_at os ns (board_plans os ns) p
   behind_here {p} {s} {b} e h f i =
-      i ∙ ap (λ (z : List ℕ). behind_state os ns z s) (card_at_lem ns p k e) ∙ ap (behind_state os ns (card_from ns k)) f ∙ sym (ap (behind_in os ns) (board_here_lem e h))
+      ap Some (i ∙ ap (λ (z : List ℕ). behind_state os ns z s) (card_at_lem ns p k e) ∙ ap (behind_state os ns (card_from ns k)) f) ∙ sym (ap (behind_in os ns) (board_here_lem e h))
 
-  pub behind_past : {p : ℕ} → p ≡ k + 1 → length ns ≤ k → Nothing ≡ behind_at os ns (board_plans os ns) p
+  pub behind_past : {p : ℕ} → p ≡ k + 1 → length ns ≤ k → None ≡ behind_at os ns (board_plans os ns) p
   behind_past e h = sym (ap (behind_in os ns) (board_past e h))
-
--- The record behind a board as three numbers.
-pub behind_three : (b : Behind) → behind_numbers b ≡ get_or (behind_numbers b) 0 0 ∷ get_or (behind_numbers b) 1 0 ∷ get_or (behind_numbers b) 2 0 ∷ []
-behind_three (InOld a e) = refl
-behind_three (InNew a e) = refl
-behind_three Nothing = refl

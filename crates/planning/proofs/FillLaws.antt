@@ -4,15 +4,14 @@ use mathlib.Core.Path.{◌≡◌, refl, sym, ap, ◌∙◌}
 use mathlib.Core.Bool.{Bool, true, false, cond}
 use mathlib.Core.List.{List, [], ◌∷◌, ◌++◌, map, append_assoc}
 use native.Mathlib.Omega.{arith}
-use lib.ListN.{length, get_or, set, take, drop, drop_of_length-le, length-append, length-map}
+use lib.ListN.{length, get_or, set, take, drop, replicate, drop_of_length-le, length-append, length-map}
 use lib.Seq.{drop-drop}
-use borrow.Author.Tests.{eq-eqb, ne_eqb}
 use Rattle.reader.specs.Store.{flat, padded}
 use Rattle.planning.specs.declared.state.BoardState.{BoardState}
 use Rattle.planning.specs.declared.slips.Slip.{Slip}
 use Rattle.planning.specs.declared.slips.NextSlip.{NextSlip}
 use Rattle.planning.specs.PlanSteps.{plan_here}
-use Rattle.planning.specs.States.{BoardPlan, board_plans, is_solve, state_number, state_of}
+use Rattle.planning.specs.States.{BoardPlan, board_plans, is_solve, state_of}
 use Rattle.planning.specs.Slips.{slip_of, slips_of, five_of, slip_numbers, card_from}
 use Rattle.planning.specs.SlipSteps.{slip_struct, no_slip, slip_from, next_of, filled_from}
 use Rattle.planning.proofs.BoardLaws.{left_first, left_step, left_drop, boards_count}
@@ -33,20 +32,20 @@ pub record Sought (olds news : List (List ℕ)) (k i : ℕ) : Type 0 where
 
 module _ {olds news : List (List ℕ)} {k i : ℕ} (inv : Sought olds news k i) where
   -- The board at index i is to be solved.
-  pub next_here : {s : BoardState} {n : ℕ} {x : Slip} → i < length news → s ≡ state_of olds news (take i news) (card_from news i) → n ≡ state_number s → n ≡ 5
+  pub next_here : {s : BoardState} {x : Slip} → i < length news → s ≡ state_of olds news (take i news) (card_from news i) → is_solve s ≡ true
       → x ≡ slip_struct (i + 1) (card_from news i) → record { next = i + 1; slip = x } ≡ next_of olds news k
   unfolding next_of
-  next_here {s} {n} {x} h e en f ex =
-      let g : is_solve (state_of olds news (take i news) (card_from news i)) ≡ true = rw (← e, ← en) (eq-eqb n 5 f) in
+  next_here {s} {x} h e f ex =
+      let g : is_solve (state_of olds news (take i news) (card_from news i)) ≡ true = rw (← e) f in
       let q : next_of olds news i ≡ record { next = i + 1; slip = x } = rw (left_at olds news i h, g, ex) in
       sym q ∙ inv.same
 
   -- It is not.
-  pub next_more : {s : BoardState} {n : ℕ} → i < length news → s ≡ state_of olds news (take i news) (card_from news i) → n ≡ state_number s → (n ≡ 5 → ⊥)
+  pub next_more : {s : BoardState} → i < length news → s ≡ state_of olds news (take i news) (card_from news i) → is_solve s ≡ false
       → Sought olds news k (i + 1)
   unfolding next_of
-  next_more {s} {n} h e en f =
-      let g : is_solve (state_of olds news (take i news) (card_from news i)) ≡ false = rw (← e, ← en) (ne_eqb n 5 f) in
+  next_more {s} h e f =
+      let g : is_solve (state_of olds news (take i news) (card_from news i)) ≡ false = rw (← e) f in
       let q : next_of olds news i ≡ next_of olds news (i + 1) = rw (left_at olds news i h, g) in
       record { same = sym q ∙ inv.same }
 
@@ -161,6 +160,14 @@ pub numbers_length : (slips : List Slip) → length (slip_numbers slips) ≡ 5 *
 unfolding slip_numbers
 numbers_length [] = refl
 numbers_length (s ∷ ss) = omega (arith, numbers_length ss)
+
+-- Structs of zeros.
+pub none_numbers : (n : ℕ) → slip_numbers (replicate n no_slip) ≡ replicate (5 * n) 0
+unfolding slip_numbers
+none_numbers zero = refl
+none_numbers (suc n) =
+    let e : 5 * suc n ≡ suc (suc (suc (suc (suc (5 * n))))) = omega arith in
+    rw (e, none_numbers n)
 
 -- As many structs as there are slips, or more: the slips' numbers, and zeros behind them.
 pub slips_filled : (js : List BoardPlan) (n : ℕ) → length (slips_of js) ≤ n → slip_numbers (filled_from (λ i. slip_from i (drop i js)) 0 n) ≡ padded (5 * n) (flat (slips_of js))

@@ -1,13 +1,12 @@
 -- What the inner functions of planning answer: a board of lent cards, a board of a search, totals board by board, and the end of planning.
-use Rattle.std.specs.Prelude.{ℕ, ◌+◌, ◌≤◌, ◌/◌, zero, suc, ◌≡◌, Bool, cond, ◌&&◌, ◌||◌, not, List, [], ◌∷◌, eqb, length, get_or, take, drop}
+use Rattle.std.specs.Prelude.{ℕ, ◌+◌, ◌≤◌, ◌/◌, zero, suc, ◌≡◌, Bool, cond, ◌&&◌, ◌||◌, not, List, [], ◌∷◌, eqb, length, get_or, take, drop, is_ok}
 use Rattle.reader.specs.Store.{zeros}
 use Rattle.planning.specs.declared.state.BoardState.{BoardState}
 use Rattle.planning.specs.declared.plan.Totals.{Totals}
-use Rattle.planning.specs.declared.plan.Planning.{Planning}
 use Rattle.planning.specs.Cards.{has_table}
 use Rattle.planning.specs.States.{BoardPlan, state_of, state_number}
 use Rattle.planning.specs.Slips.{card_from}
-use Rattle.planning.specs.Plans.{Boxes, slips_answer, is_planned}
+use Rattle.planning.specs.Plans.{Boxes, Planning, slips_answer}
 
 -- The first n cards of lent words.
 abbrev pub cards_in : ℕ → List ℕ → List (List ℕ)
@@ -68,10 +67,10 @@ pub record BoxesKept (well : Bool) (boxes boxes' : Boxes) : Type 0 where
 -- The answer for the totals where so many slips have room, and the four boxes: as they were, or zeros after a refusal.
 pub record Settled (boxes : Boxes) (room : ℕ) (t : Totals) (r : Planning) (boxes' : Boxes) : Type 0 where
   pub answer : r ≡ slips_answer room t
-  pub boxes_left : BoxesKept (is_planned r) boxes boxes'
+  pub boxes_left : BoxesKept (is_ok r) boxes boxes'
 
 -- The answer for the totals, and all lent words: as they were, or zeros after a refusal.
 pub record PlanEnded (boxes : Boxes) (slips : List ℕ) (t : Totals) (r : Planning) (boxes' : Boxes) (slips' : List ℕ) : Type 0 where
   pub answer : r ≡ slips_answer (length slips / 5) t
-  pub boxes_left : BoxesKept (is_planned r) boxes boxes'
-  pub slips_after : slips' ≡ cond (is_planned r) slips (zeros slips)
+  pub boxes_left : BoxesKept (is_ok r) boxes boxes'
+  pub slips_after : slips' ≡ cond (is_ok r) slips (zeros slips)

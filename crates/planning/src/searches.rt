@@ -5,19 +5,19 @@ ghost use Rattle.reader.specs.Store.{put_all};
 ghost use Rattle.planning.specs.PlanSteps.{plan_here};
 ghost use Rattle.planning.specs.States.{board_plans};
 ghost use Rattle.planning.specs.Searches.{search_numbers, searches_from, words_in_all};
-ghost use Rattle.planning.specs.Plans.{SearchesTold};
+ghost use Rattle.planning.specs.Plans.{words_of, SameLent, SearchesTold};
 
-use crate::cards::{Card, cards_in, deal_at};
-use crate::editions::{Editions, read_both};
+use crate::cards::{Card, deal_at};
+use crate::editions::{EditionsRefusal, LentBoxes, read_both};
 use crate::numbers::{put_five, zero_numbers};
 use crate::search::search_with;
-use crate::state::{from_of, state_number, state_of};
+use crate::state::state_of;
 use tables::letters::{Conventions, built_in};
 
-// Whether both editions were taken, and the words compared for all boards, 0 after a refusal.
-#[derive(Clone, Copy)]
+// The boards of the new edition, and the words compared for all of them.
+#[derive(Clone, Copy, Debug, PartialEq, Eq)]
 pub struct Searched {
-    pub editions: Editions,
+    pub boards: usize,
     pub words: u64,
 }
 
@@ -28,8 +28,8 @@ fn search_numbers(olds: &[Card], news: &[Card], k: usize) -> [u64; 5]
     ensures { result ≡ search_numbers olds.now news.now (plan_here olds.now news.now k) }
 {
     let s = state_of(olds, news, k);
-    let state = state_number(s);
-    let from = from_of(s);
+    let state = s.number();
+    let from = s.source();
     if state < 2 {
         return [state, from, 0, 0, 0];
     }
@@ -72,29 +72,20 @@ pub fn plan_searches_with(
     c: Conventions,
     old: &[u8],
     new: &[u8],
-    old_cards: &mut [u32],
-    old_entries: &mut [u32],
-    new_cards: &mut [u32],
-    new_entries: &mut [u32],
+    boxes: &mut LentBoxes,
     numbers: &mut [u64],
-) -> Searched
-    ensures { SearchesTold c old.now new.now
-        (record { old_cards = old_cards.old; old_entries = old_entries.old; new_cards = new_cards.old; new_entries = new_entries.old })
-        numbers.old
-        (record { old_cards = old_cards.new; old_entries = old_entries.new; new_cards = new_cards.new; new_entries = new_entries.new })
-        numbers.new result.editions result.words }
+) -> Result<Searched, EditionsRefusal>
+    ensures told { SearchesTold c old.now new.now (words_of boxes.old) numbers.old (words_of boxes.new) numbers.new result }
+    ensures same { SameLent boxes.old boxes.new }
 {
     zero_numbers(numbers);
-    let editions = read_both(c, old, new, old_cards, old_entries, new_cards, new_entries);
-    match editions {
-        Editions::Refused(_) => Searched { editions, words: 0 },
-        Editions::Both(m, n) => {
-            let olds = cards_in(old_cards, m as usize);
-            let news = cards_in(new_cards, n as usize);
-            let words = put_searches(olds, news, numbers);
-            Searched { editions, words }
-        }
-    }
+    let both = read_both(c, old, new, boxes)?;
+    let (olds, news) = boxes.cards(both);
+    let words = put_searches(olds, news, numbers);
+    Ok(Searched {
+        boards: both.new.boards,
+        words,
+    })
 }
 
 // Five numbers a board: its state, its source board, and the hand words compared in the searches for old, near and twin, 0 for a search that is
@@ -102,26 +93,11 @@ pub fn plan_searches_with(
 pub fn plan_searches(
     old: &[u8],
     new: &[u8],
-    old_cards: &mut [u32],
-    old_entries: &mut [u32],
-    new_cards: &mut [u32],
-    new_entries: &mut [u32],
+    boxes: &mut LentBoxes,
     numbers: &mut [u64],
-) -> Searched
-    ensures { SearchesTold built_in old.now new.now
-        (record { old_cards = old_cards.old; old_entries = old_entries.old; new_cards = new_cards.old; new_entries = new_entries.old })
-        numbers.old
-        (record { old_cards = old_cards.new; old_entries = old_entries.new; new_cards = new_cards.new; new_entries = new_entries.new })
-        numbers.new result.editions result.words }
+) -> Result<Searched, EditionsRefusal>
+    ensures told { SearchesTold built_in old.now new.now (words_of boxes.old) numbers.old (words_of boxes.new) numbers.new result }
+    ensures same { SameLent boxes.old boxes.new }
 {
-    plan_searches_with(
-        built_in(),
-        old,
-        new,
-        old_cards,
-        old_entries,
-        new_cards,
-        new_entries,
-        numbers,
-    )
+    plan_searches_with(built_in(), old, new, boxes, numbers)
 }

@@ -1,13 +1,13 @@
 // The state of a board.
 ghost use Rattle.std.specs.Prelude.{◌≡◌, ◌+◌, ◌≤◌, ◌<◌, length, take};
-ghost use Rattle.planning.specs.States.{state_of, state_number, from_of};
+ghost use Rattle.planning.specs.States.{state_of, state_number, from_of, is_solve};
 ghost use Rattle.planning.specs.Slips.{card_from};
 
 use crate::cards::{Card, deal_at, has_table, is_whole};
 use crate::search::first_with;
 
 // The state of a board, the first that fits; a source board counts from 1.
-#[derive(Clone, Copy)]
+#[derive(Clone, Copy, PartialEq, Eq, Debug)]
 pub enum BoardState {
     Blank,
     Own,
@@ -45,26 +45,35 @@ pub fn state_of(olds: &[Card], news: &[Card], k: usize) -> BoardState
     BoardState::Solve
 }
 
-// The states by their numbers, 0 to 5.
-pub fn state_number(s: BoardState) -> u64
-    ensures { result ≡ state_number s }
-{
-    match s {
-        BoardState::Blank => 0,
-        BoardState::Own => 1,
-        BoardState::Old(_) => 2,
-        BoardState::Near(_) => 3,
-        BoardState::Twin(_) => 4,
-        BoardState::Solve => 5,
+impl BoardState {
+    // The states by their numbers, 0 to 5.
+    pub fn number(self) -> u64
+        ensures { result ≡ state_number self }
+    {
+        match self {
+            BoardState::Blank => 0,
+            BoardState::Own => 1,
+            BoardState::Old(_) => 2,
+            BoardState::Near(_) => 3,
+            BoardState::Twin(_) => 4,
+            BoardState::Solve => 5,
+        }
     }
-}
 
-// The source board, 0 where there is none.
-pub fn from_of(s: BoardState) -> u64
-    ensures { result ≡ from_of s }
-{
-    match s {
-        BoardState::Old(k) | BoardState::Near(k) | BoardState::Twin(k) => k,
-        BoardState::Blank | BoardState::Own | BoardState::Solve => 0,
+    // The source board, 0 where there is none.
+    pub fn source(self) -> u64
+        ensures { result ≡ from_of self }
+    {
+        match self {
+            BoardState::Old(k) | BoardState::Near(k) | BoardState::Twin(k) => k,
+            BoardState::Blank | BoardState::Own | BoardState::Solve => 0,
+        }
+    }
+
+    // Is the board to be solved?
+    pub fn is_solve(self) -> bool
+        ensures { result ≡ is_solve self }
+    {
+        matches!(self, BoardState::Solve)
     }
 }

@@ -1,7 +1,6 @@
 -- Laws of walking a section's data.
-use Prim.Native.Nat.{ℕ, suc, ◌+◌, ◌-◌, ◌*◌, ◌≤◌, ◌<◌}
+use Prim.Native.Nat.{ℕ, ◌+◌, ◌-◌, ◌*◌, ◌≤◌}
 use mathlib.Core.Path.{◌≡◌, refl, sym, ap, ◌∙◌}
-use mathlib.Core.Bool.{Bool, true, false, cond}
 use mathlib.Core.List.{List, [], ◌∷◌, ◌++◌, append_assoc, append-nil}
 use native.Mathlib.Omega.{arith}
 use lib.Dec.{eqb}
@@ -17,12 +16,12 @@ use Rattle.reader.specs.declared.section.Next.{Next}
 use Rattle.reader.specs.declared.section.Open.{Open}
 use Rattle.reader.specs.declared.section.Rows.{Rows}
 use Rattle.reader.specs.declared.section.Walk.{Walk}
-use Rattle.reader.specs.Pieces.{Piece, Out, and_then, out_all, raw_lines}
+use Rattle.reader.specs.Pieces.{Piece, Out, and_then, out_all}
 use Rattle.reader.specs.PieceSteps.{Emits}
 use Rattle.reader.specs.Auction.{called_piece}
 use Rattle.reader.specs.Play.{played_piece}
 use Rattle.reader.specs.TokenSteps.{Seated}
-use Rattle.reader.specs.Sections.{data_in, split_piece, lines_data, section_data, row_stored, rowed_piece, walked, no_walk, walked_all}
+use Rattle.reader.specs.Sections.{split_piece, lines_data, section_data, row_stored, rowed_piece, walked, no_walk, walked_all}
 use Rattle.reader.specs.SectionSteps.{data_from, PieceFrom, walk_count, Walks}
 use Rattle.reader.proofs.EntryLaws.{out_count}
 use Rattle.reader.proofs.AuctionLaws.{calls_counted}

@@ -240,6 +240,7 @@ fn seat_open(kind: usize, seat: usize, at: usize, split: Span) -> Open
 }
 
 // The section that a tag opens.
+#[tactic(auto, unfolding(crate::specs::Boards::open_by))]
 pub(crate) fn open_by(
     c: Conventions,
     k: Option<TagName>,

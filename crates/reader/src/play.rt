@@ -66,6 +66,7 @@ pub(crate) fn no_tricks() -> Tricks
 }
 
 // A card's weight in a trick.
+#[tactic(auto, unfolding(crate::specs::Play::weight))]
 fn weigh(trump: usize, led: usize, card: usize) -> usize
     requires { card ≤ 255 }
     ensures { result ≡ weight trump led card }
@@ -80,6 +81,7 @@ fn weigh(trump: usize, led: usize, card: usize) -> usize
 }
 
 // The first of the heaviest.
+#[tactic(auto, unfolding(crate::specs::Play::best_slot))]
 fn best_slot(p: usize, q: usize, r: usize, s: usize) -> usize
     ensures { (result ≡ best_slot p q r s) × (result ≤ 3) }
 {
@@ -239,6 +241,7 @@ fn play_card(lead: usize, trump: usize, t: Tricks, card: usize) -> Tricks
     )
 }
 
+#[tactic(auto, unfolding(crate::specs::Play::is_gap))]
 fn is_dash(token: &[u8]) -> bool
     ensures { result ≡ is_gap token.now }
 {

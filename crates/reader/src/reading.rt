@@ -67,6 +67,7 @@ fn auction_closed(b: Board, o: Open, n: usize, w: Walk) -> Board
 }
 
 // The board after a play with tokens.
+#[tactic(auto, unfolding(crate::specs::Play::last_trick))]
 fn play_closed(b: Board, o: Open, n: usize, w: Walk) -> Board
     requires { (n < 2 ^ 62) × (w.tricks.count < 2 ^ 62) }
     ensures { result ≡ play_closed b o n w }
@@ -334,6 +335,7 @@ fn with_commentary(s: State, commentary: bool, block: usize) -> State
 }
 
 // A line that begins with `{`.
+#[tactic(auto, unfolding(crate::specs::Boards::braced))]
 fn brace_line(r: &[u8], s: State, p: usize, l: &[u8], entries: &mut Entries) -> State
     requires { (entries.old.start + p + length l.now ≤ 16777215) × (entries.old.count ≤ 2 ^ 57) × (s.n ≤ 2 ^ 57) }
     ensures { Emits entries.old entries.new result (braced r.now s p l.now) × (result.block ≤ p + length l.now + 1) }
@@ -346,6 +348,7 @@ fn brace_line(r: &[u8], s: State, p: usize, l: &[u8], entries: &mut Entries) -> 
 }
 
 // A line inside commentary.
+#[tactic(auto, unfolding(crate::specs::Boards::in_commentary))]
 fn commentary_line(r: &[u8], s: State, p: usize, l: &[u8], entries: &mut Entries) -> State
     requires { (entries.old.start + p + length l.now ≤ 16777215) × (entries.old.count ≤ 2 ^ 57) × (s.n ≤ 2 ^ 57) × (s.block ≤ p + 1) }
     ensures { Emits entries.old entries.new result (in_commentary r.now s p l.now) × (result.block ≤ p + 1) }

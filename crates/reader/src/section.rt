@@ -77,6 +77,7 @@ pub struct Next {
     pub at: usize,
 }
 
+#[tactic(auto, unfolding(crate::specs::SectionSteps::visit_of))]
 fn visit_line(commentary: bool, l: &[u8]) -> Visit
     ensures { result ≡ visit_of commentary l.now }
 {

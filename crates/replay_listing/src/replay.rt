@@ -1,6 +1,7 @@
 // Cases replayed through the listing, and compared.
 use crate::cases::Case;
 use listing_text::listing::list;
+use planning::editions::LentBoxes;
 use recorded::bytes::Bytes;
 use recorded::cases::{Counting, Fault};
 use recorded::pages::holds;
@@ -21,17 +22,13 @@ fn list_on(page: &mut [u8], old: &[u8], new: &[u8], limit: usize) -> Result<u64,
     let mut new_cards = [170u32; 319];
     let mut new_entries = [170u32; 67];
     let mut slips = [170u64; 14];
-    list(
-        old,
-        new,
-        limit,
-        &mut old_cards,
-        &mut old_entries,
-        &mut new_cards,
-        &mut new_entries,
-        &mut slips,
-        page,
-    )
+    let mut boxes = LentBoxes {
+        old_cards: &mut old_cards,
+        old_entries: &mut old_entries,
+        new_cards: &mut new_cards,
+        new_entries: &mut new_entries,
+    };
+    list(old, new, limit, &mut boxes, &mut slips, page)
 }
 
 // Whether the case gives the expected answer. The page has no zeros before, so that a byte which should have become 0 is seen.

@@ -39,39 +39,39 @@ fn told_read(r: Result<[u8; 20], Refusal>) -> Told {
     }
 }
 
-fn write(kind: Kind, table: &[u8; 20], page: &mut [u8]) -> Result<u64, Refusal> {
-    match kind {
-        Kind::DigitsWritten => dd_table_to_pbn(table, page),
-        Kind::HeaderWritten => optimum_result_table_header(table, page),
-        _ => optimum_result_table_rows(table, page),
-    }
-}
-
-// The page has no zeros before, so that a byte which should have become 0 is seen.
-fn is_written(case: Case) -> bool {
+// Whether a table is written as recorded. The page has no zeros before, so that a byte which should have become 0 is seen.
+fn is_written<F: Fn(&[u8; 20], &mut [u8]) -> Result<u64, Refusal>>(case: Case, write: F) -> bool
+    requires { F.IsAlwaysCallable write }
+{
     let Some(table) = case.input.first_chunk::<20>() else {
         return false;
     };
     let mut lent = [170; 512];
     let page = &mut lent[..case.page];
-    let told = told_written(write(case.kind, table, page));
+    let told = told_written(write(table, page));
     (told == case.told) & holds(page, case.output)
 }
 
-fn read(kind: Kind, text: &[u8]) -> Result<[u8; 20], Refusal> {
-    if kind == Kind::DigitsRead {
-        return dd_table_from_pbn(text);
-    }
-    optimum_result_table_from_rows(text)
-}
-
-fn is_read(case: Case) -> bool {
-    let r = read(case.kind, case.input);
+// Whether a text is read as recorded.
+fn is_read<F: Fn(&[u8]) -> Result<[u8; 20], Refusal>>(case: Case, read: F) -> bool
+    requires { F.IsAlwaysCallable read }
+{
+    let r = read(case.input);
     let table = match r {
         Ok(cells) => cells,
         Err(_) => [0; 20],
     };
     (told_read(r) == case.told) & (table.as_slice() == case.output)
+}
+
+fn is_same(case: Case) -> bool {
+    match case.kind {
+        Kind::DigitsWritten => is_written(case, dd_table_to_pbn),
+        Kind::HeaderWritten => is_written(case, optimum_result_table_header),
+        Kind::RowsWritten => is_written(case, optimum_result_table_rows),
+        Kind::DigitsRead => is_read(case, dd_table_from_pbn),
+        Kind::RowsRead => is_read(case, optimum_result_table_from_rows),
+    }
 }
 
 // The number of compared cases of each kind.
@@ -83,12 +83,7 @@ pub struct Counts {
 impl Counting for Counts {
     fn replay_next(&mut self, cases: &mut Bytes) -> Result<(), Fault> {
         let case = Case::take(cases).ok_or(Fault::NotWhole)?;
-        let same = if case.kind.is_read() {
-            is_read(case)
-        } else {
-            is_written(case)
-        };
-        if !same {
+        if !is_same(case) {
             return Err(Fault::Different);
         }
         one_more(&mut self.kinds, case.kind as usize);

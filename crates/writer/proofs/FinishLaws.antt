@@ -22,11 +22,8 @@ use Rattle.reader.proofs.StoreLaws.{length_flat}
 use Rattle.reader.proofs.EditionLaws.{card_blocks}
 use Rattle.reader.proofs.CardLength.{CardsWhole}
 use Rattle.planning.specs.declared.editions.EditionsRefusal.{EditionsRefusal}
-use Rattle.planning.specs.declared.editions.Editions.{Editions}
-use Rattle.planning.specs.declared.editions.Editions.TheVariants.{Both}
-use Rattle.planning.specs.declared.editions.Editions.TheVariants as editions
 use Rattle.planning.specs.States.{BoardPlan, board_plans}
-use Rattle.planning.specs.Plans.{Boxes, old_reading, new_reading, both_after, editions_of, are_both, plans_of, BoxesAfter, BothRead}
+use Rattle.planning.specs.Plans.{Boxes, old_reading, new_reading, both_after, editions_of, plans_of, BoxesAfter, BothRead, Editions}
 use Rattle.planning.specs.PlanSteps.{BoxesKept}
 use Rattle.planning.proofs.BothLaws.{both_are_taken}
 use Rattle.planning.proofs.AnswerLaws.{SameRoom, boxes_kept, there, boards_are}
@@ -210,12 +207,12 @@ read_holds cards entries (Err f) a t ec ee = clash t
 module _ {c : Conventions} {old new : List ℕ} {boxes boxes₁ : Boxes} {q : Editions} {m n : ℕ}
     (b : BothRead c old new boxes boxes₁ q) (e : q ≡ Both m n) where
   filled : BoxesAfter c true old new boxes boxes₁
-  filled = rw (ap are_both e) at b.boxes_left
+  filled = rw (ap is_ok e) at b.boxes_left
 
   new_holds : Holds c new boxes₁.new_cards boxes₁.new_entries
   unfolding editions_of
   new_holds =
-      let t : are_both (both_after (old_reading c old boxes) (new_reading c new boxes)) ≡ true = sym (ap are_both b.answer) ∙ ap are_both e in
+      let t : is_ok (both_after (old_reading c old boxes) (new_reading c new boxes)) ≡ true = sym (ap is_ok b.answer) ∙ ap is_ok e in
       let taken = (both_are_taken (old_reading c old boxes) (new_reading c new boxes) t).1 in
       read_holds boxes.new_cards boxes.new_entries (new_reading c new boxes) refl taken filled.new_cards filled.new_entries
 
@@ -295,10 +292,10 @@ module _ {c : Conventions} {old new : List ℕ} {boxes boxes₁ : Boxes} {q : Ed
 
 -- An edition was refused.
 pub finish_refused : {c : Conventions} {old new : List ℕ} {boxes boxes' : Boxes} {q : Editions} {f : EditionsRefusal}
-    {answers page page' : List ℕ} → BothRead c old new boxes boxes' q → q ≡ editions.Refused f → page' ≡ zeros page
+    {answers page page' : List ℕ} → BothRead c old new boxes boxes' q → q ≡ Err f → page' ≡ zeros page
     → IsFinished c old new boxes answers page (Err (Edition f)) boxes' page'
 unfolding finishing_of
 finish_refused {c} {old} {new} {boxes} {q = q} {f = f} b e z =
-    let well : are_both q ≡ false = ap are_both e in
-    let a : editions_of c old new boxes ≡ editions.Refused f = sym b.answer ∙ e in
+    let well : is_ok q ≡ false = ap is_ok e in
+    let a : editions_of c old new boxes ≡ Err f = sym b.answer ∙ e in
     record { answer = rw a; boxes_left = rw well at b.boxes_left; page_left = z }

@@ -2,11 +2,8 @@
 use Rattle.std.specs.Result.{result_and}
 use Rattle.std.specs.Prelude.{ℕ, ◌+◌, ◌*◌, ◌≡◌, cond, List, [], ◌∷◌, eqb, leb, ltb, length, Result, Ok, Err, is_ok}
 use Rattle.tables.specs.declared.letters.Conventions.{Conventions}
-use Rattle.planning.specs.declared.editions.Editions.{Editions}
-use Rattle.planning.specs.declared.editions.Editions.TheVariants.{Both}
-use Rattle.planning.specs.declared.editions.Editions.TheVariants as editions
 use Rattle.planning.specs.Slips.{totals_of}
-use Rattle.planning.specs.Plans.{editions_number, editions_carries, edition_refused, Boxes, editions_of, plans_of, BoxesAfter}
+use Rattle.planning.specs.Plans.{editions_number, editions_carries, edition_refused, Boxes, editions_of, plans_of, BoxesAfter, Editions}
 use Rattle.writer.specs.declared.finish.FinishRefusal.{FinishRefusal}
 use Rattle.writer.specs.declared.finish.FinishRefusal.TheVariants.{Edition, Answers, Impossible, PageFull}
 use Rattle.writer.specs.Writings.{page_after}
@@ -56,8 +53,8 @@ abbrev pub answered_by : ℕ → List ℕ → Result ℕ FinishRefusal → Resul
 answered_by solve answers done = result_and (checked_of solve answers) done
 
 abbrev pub finished_by : Editions → ℕ → List ℕ → Result ℕ FinishRefusal → Result ℕ FinishRefusal
-finished_by (Both m n) solve answers done = answered_by solve answers done
-finished_by (editions.Refused f) solve answers done = Err (Edition f)
+finished_by (Ok n) solve answers done = answered_by solve answers done
+finished_by (Err f) solve answers done = Err (Edition f)
 
 -- For both texts, with these boxes, answers and a page of m bytes lent.
 unfoldable pub finishing_of : Conventions → List ℕ → List ℕ → Boxes → List ℕ → ℕ → Result ℕ FinishRefusal

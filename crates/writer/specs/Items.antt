@@ -11,6 +11,7 @@ use Rattle.tables.specs.Numbers.{Number, number_of, decimal}
 use Rattle.writer.specs.Tags.{WrittenTag}
 use Rattle.writer.specs.PresentSteps.{is_tag_written, is_any}
 use Rattle.writer.specs.declared.items.Items.{Items}
+use Rattle.writer.specs.declared.notes.Notes.{Notes}
 use Rattle.writer.specs.Held.{entry_word, place_bytes, items_at}
 
 -- ---- entries in a row
@@ -227,6 +228,10 @@ deal_place text entries first count =
     cond (ltb (name_index (ascii "Deal") (items_at text entries first count)) count) (name_index (ascii "Deal") (items_at text entries first count)) 0
 
 -- ---- notes
+
+-- What is said of the notes of an auction: the text and the entries, and the places of their values.
+abbrev pub of_notes : {A : Type 0} → (List ℕ → List ℕ → List ℕ → A) → Notes → A
+of_notes f ns = f ns.items.text.now ns.items.entries.now ns.places
 
 -- A number that was read, 256 where it is none.
 abbrev pub or_none : Number → ℕ

@@ -8,7 +8,7 @@ ghost use Rattle.writer.specs.Given.{answer_at};
 ghost use Rattle.writer.specs.GivenCards.{cells_at, source_cells, Gave};
 
 use planning::cards::cards_in;
-use planning::state::{BoardState, state_number, state_of};
+use planning::state::{BoardState, state_of};
 use reader::store::copy_in;
 
 // The cells of the card at index k; zeros where there is no such card.
@@ -74,7 +74,7 @@ fn slip_after(slip: usize, s: BoardState) -> usize
     requires { slip ≤ 2 ^ 60 }
     ensures { result ≡ tally 5 s slip }
 {
-    if state_number(s) == 5 {
+    if s.is_solve() {
         return slip + 1;
     }
     slip

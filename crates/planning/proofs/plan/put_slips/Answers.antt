@@ -1,9 +1,14 @@
 use native.Mathlib.Omega.{arith}
+use mathlib.Core.Path.{◌≡◌}
+use borrow.Author.Rules.{rules}
+use Rattle.planning.specs.PlanSteps.{no_totals}
 use Rattle.planning.proofs.PlanLaws.{turn_first, turn_next, turn_end, turn_within}
 use Rattle.planning.proofs.plan.put_slips.Goals as goal
 
 pub loop-k-init : goal.loop-k-init
-loop-k-init c = turn_first c.args.olds.now c.args.news.now c.args.slips.now
+loop-k-init c =
+    let e : c.default-t.result ≡ no_totals = search rules in
+    rw e (turn_first c.args.olds.now c.args.news.now c.args.slips.now)
 
 pub counted-t-requires : goal.counted-t-requires
 counted-t-requires c = turn_within c.loop-k.invariant (omega arith)

@@ -16,14 +16,14 @@ returns-then-state-lt2 c =
     let olds = a.olds.now in
     let news = a.news.now in
     let j = plan_here olds news a.k in
-    none_made olds news j c.state_of-s.ensures.0 c.state_number-state.ensures c.from_of-from.ensures c.if-state-lt2.true
+    none_made olds news j c.state_of-s.ensures.0 c.number-state.ensures c.source-from.ensures c.if-state-lt2.true
 
 pub search_with-old-requires : goal.search_with-old-requires
 search_with-old-requires c =
     let a = c.args in
     let olds = a.olds.now in
     let news = a.news.now in
-    deal_whole _ (card_from news a.k) (searched_whole olds news (take a.k news) (card_from news a.k) c.state_of-s.ensures.0 c.state_number-state.ensures c.if-state-lt2.false) c.deal_at-d.ensures
+    deal_whole _ (card_from news a.k) (searched_whole olds news (take a.k news) (card_from news a.k) c.state_of-s.ensures.0 c.number-state.ensures c.if-state-lt2.false) c.deal_at-d.ensures
 
 pub returns-then-state-lt3 : goal.returns-then-state-lt3
 returns-then-state-lt3 c =
@@ -31,14 +31,14 @@ returns-then-state-lt3 c =
     let olds = a.olds.now in
     let news = a.news.now in
     let j = plan_here olds news a.k in
-    old_made olds news j c.state_of-s.ensures.0 c.state_number-state.ensures c.from_of-from.ensures c.deal_at-d.ensures c.search_with-old.ensures.0 c.if-state-lt2.false c.if-state-lt3.true
+    old_made olds news j c.state_of-s.ensures.0 c.number-state.ensures c.source-from.ensures c.deal_at-d.ensures c.search_with-old.ensures.0 c.if-state-lt2.false c.if-state-lt3.true
 
 pub search_with-near-requires : goal.search_with-near-requires
 search_with-near-requires c =
     let a = c.args in
     let olds = a.olds.now in
     let news = a.news.now in
-    deal_whole _ (card_from news a.k) (searched_whole olds news (take a.k news) (card_from news a.k) c.state_of-s.ensures.0 c.state_number-state.ensures c.if-state-lt2.false) c.deal_at-d.ensures
+    deal_whole _ (card_from news a.k) (searched_whole olds news (take a.k news) (card_from news a.k) c.state_of-s.ensures.0 c.number-state.ensures c.if-state-lt2.false) c.deal_at-d.ensures
 
 pub returns-then-state-lt4 : goal.returns-then-state-lt4
 returns-then-state-lt4 c =
@@ -46,14 +46,14 @@ returns-then-state-lt4 c =
     let olds = a.olds.now in
     let news = a.news.now in
     let j = plan_here olds news a.k in
-    near_made olds news j c.state_of-s.ensures.0 c.state_number-state.ensures c.from_of-from.ensures c.deal_at-d.ensures c.search_with-old.ensures.0 c.search_with-near.ensures.0 c.if-state-lt3.false c.if-state-lt4.true
+    near_made olds news j c.state_of-s.ensures.0 c.number-state.ensures c.source-from.ensures c.deal_at-d.ensures c.search_with-old.ensures.0 c.search_with-near.ensures.0 c.if-state-lt3.false c.if-state-lt4.true
 
 pub search_with-twin-requires : goal.search_with-twin-requires
 search_with-twin-requires c =
     let a = c.args in
     let olds = a.olds.now in
     let news = a.news.now in
-    deal_whole _ (card_from news a.k) (searched_whole olds news (take a.k news) (card_from news a.k) c.state_of-s.ensures.0 c.state_number-state.ensures c.if-state-lt2.false) c.deal_at-d.ensures
+    deal_whole _ (card_from news a.k) (searched_whole olds news (take a.k news) (card_from news a.k) c.state_of-s.ensures.0 c.number-state.ensures c.if-state-lt2.false) c.deal_at-d.ensures
 
 pub returns : goal.returns
 returns c =
@@ -63,4 +63,4 @@ returns c =
     let j = plan_here olds news a.k in
     let z : a.k + 1 - 1 ≡ a.k = omega arith in
     let e : take a.k news ≡ take (a.k + 1 - 1) news = rw z in
-    twin_made olds news j c.state_of-s.ensures.0 c.state_number-state.ensures c.from_of-from.ensures c.deal_at-d.ensures c.search_with-old.ensures.0 c.search_with-near.ensures.0 (c.search_with-twin.ensures.0 ∙ ap (searched false _) e) c.if-state-lt4.false
+    twin_made olds news j c.state_of-s.ensures.0 c.number-state.ensures c.source-from.ensures c.deal_at-d.ensures c.search_with-old.ensures.0 c.search_with-near.ensures.0 (c.search_with-twin.ensures.0 ∙ ap (searched false _) e) c.if-state-lt4.false

@@ -13,11 +13,6 @@ returns-then-b-2 c =
     let x = c.args in
     step_annotation x.c x.b (piece x.at x.t.now) c.if-b.false (sym c.call_token.ensures.0 ∙ c.in-Annotation.is) c.if-b-2.true c.put_annotation.ensures c.bid-then-b-2.ensures
 
-pub put_call-requires : goal.put_call-requires
-put_call-requires c =
-    let h = rw c.in-Call.is at c.call_token.ensures.1 in
-    (c.requires.0, c.requires.1, c.requires.2, h)
-
 pub returns-in-Plus : goal.returns-in-Plus
 returns-in-Plus c =
     let x = c.args in

@@ -1,9 +1,7 @@
-use Prim.Native.Nat.{ℕ, ◌+◌, ◌*◌, ◌≤◌, ◌<◌}
+use Prim.Native.Nat.{◌+◌, ◌*◌, ◌≤◌, ◌<◌}
 use native.Mathlib.Omega.{arith}
 use mathlib.Core.Path.{◌≡◌, refl}
-use mathlib.Core.List.{List}
 use lib.ListN.{length}
-use Rattle.reader.specs.declared.board.Board.{Board}
 use borrow.Author.Tests.{le-leb, lt-leb}
 use Rattle.reader.specs.Store.{put}
 use Rattle.reader.specs.Editions.{card_words, back_words}

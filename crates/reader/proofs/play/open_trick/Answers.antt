@@ -1,12 +1,6 @@
 use native.Mathlib.Omega.{arith}
-use Rattle.reader.proofs.PlayLaws.{open_full, open_same, open_first, next_low}
+use Rattle.reader.proofs.PlayLaws.{open_full, open_same, open_first}
 use Rattle.reader.proofs.play.open_trick.Goals as goal
-
-pub new_trick-requires : goal.new_trick-requires
-new_trick-requires c =
-    let x = c.args in
-    let s = c.requires.1 in
-    next_low x.t.winner x.t.leader c.next_leader.ensures s.leader_low s.winner_low
 
 pub returns-then-t-eq4 : goal.returns-then-t-eq4
 returns-then-t-eq4 c =

@@ -23,11 +23,6 @@ last_entries-k-requires c =
     let n : walk_count c.walk_section-w.result ≡ length (walked_all a.c a.r.now a.s.section a.s.board.contract).entries = ap walk_count w.emits.answer ∙ section_count a.c a.r.now a.s.section a.s.board.contract in
     (w.seated, omega (arith, p.0, w.emits.adds.start), omega (arith, p.0, p.1, few, n, w.emits.adds.count), omega (arith, p.0, few))
 
-pub after_section-requires : goal.after_section-requires
-after_section-requires c =
-    let p = c.requires in
-    omega (arith, c.last_entries-k.ensures.few, c.walk_section-w.ensures.few, p.0, p.2, p.3.split_before)
-
 pub returns : goal.returns
 returns c =
     let a = c.args in

@@ -1,5 +1,4 @@
 use Rattle.reader.proofs.ReadingLaws.{block_zero}
-use Rattle.reader.proofs.PieceLaws.{adds_none}
 use Rattle.reader.specs.Boards.{in_commentary}
 use native.Mathlib.Omega.{arith}
 use Rattle.reader.proofs.reading.commentary_line.Goals as goal
@@ -9,13 +8,3 @@ unfolding in_commentary
 returns-then-has_brace c =
     let e = c.block_step.ensures in
     (rw (← c.has_brace.ensures, c.if-has_brace.true, ← c.last_brace.ensures.0) e, omega (arith, block_zero _ _ _ _ _ e))
-
-pub returns : goal.returns
-unfolding in_commentary
-returns c = (
-  record {
-    answer = rw (← c.has_brace.ensures, c.if-has_brace.false);
-    adds = rw (← c.has_brace.ensures, c.if-has_brace.false) (adds_none c.args.entries.now);
-  },
-  c.requires.3,
-)

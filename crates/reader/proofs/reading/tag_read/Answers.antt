@@ -1,16 +1,9 @@
-use Rattle.reader.proofs.TagStepLaws.{tag_inside, read_plain, read_comment, read_data}
+use Rattle.reader.proofs.TagStepLaws.{read_comment, read_data}
 use Rattle.reader.specs.declared.board.State.{State}
 use Rattle.reader.specs.Boards.{tagged}
 use mathlib.Core.Path.{ap}
-use lib.ListN.{length}
 use native.Mathlib.Omega.{arith}
 use Rattle.reader.proofs.reading.tag_read.Goals as goal
-
-pub tag_step-next-requires : goal.tag_step-next-requires
-tag_step-next-requires c =
-    let a = c.args in
-    let s = c.requires in
-    (s.0, s.1, s.2, s.3, s.4, tag_inside a.t (length a.l.now) c.tag_of-tag.ensures s.5, c.split_of-split.ensures.1)
 
 pub directive_step-requires : goal.directive_step-requires
 unfolding tagged
@@ -27,11 +20,6 @@ data_step-requires c =
     let k = rw c.in-WithData.is at s.5 in
     let e = c.tag_step-next.ensures.emits in
     (omega (arith, s.0, k.1, e.adds.start), omega (arith, s.1, e.adds.count), omega (arith, s.2, ap (λ (x : State). x.n) e.answer))
-
-pub returns-in-Plain : goal.returns-in-Plain
-returns-in-Plain c =
-    let a = c.args in
-    read_plain a.c a.s a.p a.l.now c.in-Plain.is c.tag_of-tag.ensures c.split_of-split.ensures.0 c.tag_step-next.ensures
 
 pub returns-in-WithComment : goal.returns-in-WithComment
 returns-in-WithComment c =

@@ -2,15 +2,6 @@ use native.Mathlib.Omega.{arith}
 use Rattle.reader.proofs.TagStepLaws.{tag_stepped}
 use Rattle.reader.proofs.reading.tag_step.Goals as goal
 
-pub overflow_add-s : goal.overflow_add-s
-overflow_add-s c = omega (arith, c.requires.2)
-
-pub overflow_add-p : goal.overflow_add-p
-overflow_add-p c = omega (arith, c.requires.0)
-
-pub overflow_add-result : goal.overflow_add-result
-overflow_add-result c = omega (arith, c.requires.2)
-
 pub returns : goal.returns
 returns c =
     tag_stepped c.args.c c.args.l.now c.args.tag c.args.split c.requires.3 (omega arith) c.requires.6

@@ -1,5 +1,4 @@
 use lib.ListN.{length}
-use native.Mathlib.Omega.{arith}
 use Rattle.reader.specs.PieceSteps.{piece}
 use Rattle.reader.proofs.WalkLaws.{piece_called, piece_played, piece_row}
 use Rattle.reader.proofs.section.walk_piece.Goals as goal
@@ -9,10 +8,6 @@ returns-then-o-eq-AUCTION c =
     let a = c.args in
     let e = c.call_piece-bid.ensures in
     piece_called a.c a.o a.trump a.w (piece a.at a.s.now) (length a.s.now) _ _ _ c.if-o-eq-AUCTION.true e.0 e.1 c.requires.0
-
-pub play_piece-played-requires : goal.play_piece-played-requires
-play_piece-played-requires c =
-    (c.requires.4 c.if-o-eq-PLAY.true, c.requires.0, c.requires.1, c.requires.2, omega (arith, c.requires.3))
 
 pub returns-then-o-eq-PLAY : goal.returns-then-o-eq-PLAY
 returns-then-o-eq-PLAY c =

@@ -1,6 +1,6 @@
 use Prim.Native.Nat.{◌+◌, ◌-◌}
 use mathlib.Core.Path.{◌≡◌}
-use mathlib.Core.List.{◌++◌, append_assoc}
+use mathlib.Core.List.{append_assoc}
 use native.Mathlib.Omega.{arith}
 use lib.ListN.{length, take, drop}
 use lib.Seq.{sets-eq, drop-drop}
