@@ -71,11 +71,13 @@ fn hand_step(c: Conventions, h: LinPart, b: u8) -> Option<LinPart>
     requires { SoundPart h × (h.count < 2 ^ 63) }
     ensures { (result ≡ letter_step c h b) × IsSoundStep h result }
 {
-    let suit = suit_of(c, b);
-    if suit < 4 {
+    if let Some(suit) = suit_of(c, b) {
         return Some(LinPart { suit, ..h });
     }
-    let Some(k) = card_number(h.suit, rank_of(c, b)) else {
+    let Some(rank) = rank_of(c, b) else {
+        return Some(h);
+    };
+    let Some(k) = card_number(h.suit, rank) else {
         return Some(h);
     };
     card_to(h, k)
