@@ -7,25 +7,23 @@ use native.Mathlib.Omega.{arith}
 use lib.Dec.{ltb, leb, eqb}
 use lib.ListN.{length, get_or}
 use borrow.Author.Tests.{ltb-true, ltb-false, lt-leb, le-leb, eqb-true, eqb-false, eq-eqb, ne_eqb}
+use Rattle.std.specs.Prelude.{Result, Ok, Err, is_ok}
 use Rattle.tables.specs.declared.letters.Conventions.{Conventions}
 use Rattle.tables.proofs.Laws.{by_cases}
 use Rattle.tables.proofs.TextLaws.{front_few}
 use Rattle.planning.specs.declared.editions.EditionsRefusal.{EditionsRefusal}
 use Rattle.planning.specs.declared.editions.EditionsRefusal.TheVariants.{Old, New}
-use Rattle.planning.specs.declared.editions.Editions.{Editions}
-use Rattle.planning.specs.declared.editions.Editions.TheVariants.{Both}
-use Rattle.planning.specs.declared.editions.Editions.TheVariants as editions
-use Rattle.planning.specs.Plans.{Boxes, editions_number, editions_carries, edition_refused, editions_of, are_both}
+use Rattle.planning.specs.Plans.{Boxes, editions_number, editions_carries, edition_refused, editions_of, Editions}
 use Rattle.writer.specs.declared.finish.FinishRefusal.TheVariants.{Edition, Answers, Impossible, PageFull}
-use Rattle.writer.specs.declared.finish.Finishing.{Finishing}
-use Rattle.writer.specs.declared.finish.Finishing.TheVariants.{Finished, Refused}
+use Rattle.writer.specs.declared.finish.FinishRefusal.{FinishRefusal}
 use Rattle.writer.specs.Given.{finished_text}
-use Rattle.writer.specs.Finishings.{first_above, finished_on, finished_by, finishing_of, is_finished}
+use Rattle.writer.specs.Finishings.{first_above, finished_on, finished_by, finishing_of}
 use Rattle.golavimes.specs.Answers.{finishing_numbers}
 use Rattle.demands.specs.Demand1.{Refusal, refusal, of_editions, solve_in, NotTwentyEach, possible, SomeAbove, NoValues, FinishRefuses}
 use Rattle.demands.specs.Demand1 as demand
 use Rattle.demands.proofs.Listing.{read_number_lem}
 use Rattle.demands.proofs.Refusing.{Says, Met, nothing, this, later, met_by, met_below, editions_met, first_that_holds, boxes_zero}
+use Rattle.std.specs.Prelude.{Err, is_ok}
 
 -- ---- the first byte above 13
 
@@ -38,15 +36,15 @@ possible_few bs = front_few (λ b. not (ltb 13 b)) bs
 
 -- ---- the answer
 
-says_finishing : (w : Finishing) (answer : List ℕ) (number edition carries : ℕ) → answer ≡ finishing_numbers w
+says_finishing : (w : Result ℕ FinishRefusal) (answer : List ℕ) (number edition carries : ℕ) → answer ≡ finishing_numbers w
     → get_or (finishing_numbers w) 0 0 ≡ number → get_or (finishing_numbers w) 1 0 ≡ edition → get_or (finishing_numbers w) 2 0 ≡ carries
     → Says answer number edition carries
 says_finishing w answer number edition carries e a b d = rw e (record { number_said = a; edition_said = b; carried_said = d })
 
 -- A finishing whose answer does not begin with 0 is none that was finished.
-finishing_not : (w : Finishing) → (get_or (finishing_numbers w) 0 0 ≡ 0 → ⊥) → (is_finished w ≡ false) × NoValues 1 (finishing_numbers w)
-finishing_not (Finished n) h = absurd (h refl)
-finishing_not (Refused f) h = (refl, refl)
+finishing_not : (w : Result ℕ FinishRefusal) → (get_or (finishing_numbers w) 0 0 ≡ 0 → ⊥) → (is_ok w ≡ false) × NoValues 1 (finishing_numbers w)
+finishing_not (Ok n) h = absurd (h refl)
+finishing_not (Err f) h = (refl, refl)
 
 -- The refusals behind those of the editions: 5, 6 and 7.
 abbrev of_page : List ℕ → List ℕ → List Refusal
@@ -61,11 +59,11 @@ of_answers c old new answers page =
 
 module _ (c : Conventions) (old new : List ℕ) (boxes : Boxes) (answers page answer : List ℕ)
     (told : answer ≡ finishing_numbers (finishing_of c old new boxes answers (length page))) where
-  refused_says : (f : EditionsRefusal) → editions_of c old new boxes ≡ editions.Refused f
+  refused_says : (f : EditionsRefusal) → editions_of c old new boxes ≡ Err f
       → Says answer (editions_number f) (edition_refused f) (editions_carries f)
   unfolding finishing_of
   refused_says f q =
-      says_finishing (Refused (Edition f)) answer (editions_number f) (edition_refused f) (editions_carries f) (rw q at told) refl refl refl
+      says_finishing (Err (Edition f)) answer (editions_number f) (edition_refused f) (editions_carries f) (rw q at told) refl refl refl
 
   page_met : (m n : ℕ) → editions_of c old new boxes ≡ Both m n → eqb (length answers) (20 * solve_in c old new) ≡ true
       → eqb (first_above answers) (length answers) ≡ true → Met answer (of_page (finished_text c old new answers) page)
@@ -74,10 +72,10 @@ module _ (c : Conventions) (old new : List ℕ) (boxes : Boxes) (answers page an
       let size = length (finished_text c old new answers) in
       met_below 7 0 size (length page) size
       (λ v.
-      says_finishing (Refused (PageFull size)) answer 7 0 size
+      says_finishing (Err (PageFull size)) answer 7 0 size
       (rw (q, t, u, lt-leb size (length page) (ltb-true (length page) size v)) at told) refl refl refl)
       (λ v.
-      nothing (says_finishing (Finished size) answer 0 0 0
+      nothing (says_finishing (Ok size) answer 0 0 0
       (rw (q, t, u, le-leb size (length page) (ltb-false (length page) size v)) at told) refl refl refl))
 
   above_met : (m n : ℕ) → editions_of c old new boxes ≡ Both m n → eqb (length answers) (20 * solve_in c old new) ≡ true
@@ -90,7 +88,7 @@ module _ (c : Conventions) (old new : List ℕ) (boxes : Boxes) (answers page an
       (λ u.
       let z : eqb (first_above answers) size ≡ false =
       ne_eqb (first_above answers) size (λ e. omega (arith, first_above_lem answers, ltb-true k size u)) in
-      says_finishing (Refused (Impossible (first_above answers))) answer 6 0 k (rw (q, t, z) at told) refl refl (first_above_lem answers))
+      says_finishing (Err (Impossible (first_above answers))) answer 6 0 k (rw (q, t, z) at told) refl refl (first_above_lem answers))
       (λ u.
       page_met m n q t
       (eq-eqb (first_above answers) size (omega (arith, first_above_lem answers, possible_few answers, ltb-false k size u))))
@@ -101,19 +99,19 @@ module _ (c : Conventions) (old new : List ℕ) (boxes : Boxes) (answers page an
       met_by (eqb (length answers) (20 * solve_in c old new))
       (λ t. later (λ h. h (eqb-true (length answers) (20 * solve_in c old new) t)) (above_met m n q t))
       (λ t. this (eqb-false (length answers) (20 * solve_in c old new) t)
-      (says_finishing (Refused (Answers (solve_in c old new))) answer 5 0 (solve_in c old new) (rw (q, t) at told) refl refl refl))
+      (says_finishing (Err (Answers (solve_in c old new))) answer 5 0 (solve_in c old new) (rw (q, t) at told) refl refl refl))
 
 pub finish_refuses : FinishRefuses
 finish_refuses c old new boxes answers page boxes' page' answer' r o =
     let w = finishing_of c old new boxes answers (length page) in
-    let refused : (r ≡ 0 → ⊥) → (is_finished w ≡ false) × NoValues 1 (finishing_numbers w) =
+    let refused : (r ≡ 0 → ⊥) → (is_ok w ≡ false) × NoValues 1 (finishing_numbers w) =
     λ h. finishing_not w (λ z. h (o.returned ∙ ap (λ (l : List ℕ). get_or l 0 0) o.told ∙ z)) in
     record {
       refused = first_that_holds (of_editions c old new boxes ++ of_answers c old new answers page) answer' refl
           (editions_met c old new boxes answer' (of_answers c old new answers page)
           (refused_says c old new boxes answers page answer' o.told) (taken_met c old new boxes answers page answer' o.told));
       returned = o.returned;
-      boxes_zero = λ h. boxes_zero c (is_finished w) old new boxes boxes' (refused h).0 o.lent_after.boxes_left;
+      boxes_zero = λ h. boxes_zero c (is_ok w) old new boxes boxes' (refused h).0 o.lent_after.boxes_left;
       page_zero = λ h. o.lent_after.page_left ∙ rw (refused h).0;
       no_values = λ h. rw o.told (refused h).1;
     }
@@ -122,10 +120,10 @@ finish_refuses c old new boxes answers page boxes' page' answer' r o =
 
 -- An answer that begins with 0: both editions were taken, 20 possible bytes for each slip, and n bytes are written.
 pub record IsDone (e : Editions) (solve : ℕ) (answers : List ℕ) (n m : ℕ) : Type 0 where
-  pub taken : are_both e ≡ true
+  pub taken : is_ok e ≡ true
   pub twenty : length answers ≡ 20 * solve
   pub possible : first_above answers ≡ length answers
-  pub is : finished_by e solve answers (finished_on n m) ≡ Finished n
+  pub is : finished_by e solve answers (finished_on n m) ≡ Ok n
 
 pub is_done : (e : Editions) (solve : ℕ) (answers : List ℕ) (n m : ℕ)
     → get_or (finishing_numbers (finished_by e solve answers (finished_on n m))) 0 0 ≡ 0
@@ -146,5 +144,5 @@ is_done (Both a b) solve answers n m z =
     (λ v. let y = rw (t, u, v) at z in absurd (omega arith)))
     (λ u. let y = rw (t, u) at z in absurd (omega arith)))
     (λ t. let y = rw t at z in absurd (omega arith))
-is_done (editions.Refused (Old f)) solve answers n m z = absurd (read_number_lem f z)
-is_done (editions.Refused (New f)) solve answers n m z = absurd (read_number_lem f z)
+is_done (Err (Old f)) solve answers n m z = absurd (read_number_lem f z)
+is_done (Err (New f)) solve answers n m z = absurd (read_number_lem f z)

@@ -8,6 +8,7 @@ use lib.Dec.{ltb, leb}
 use lib.ListN.{length, get_or, replicate}
 use lib.Seq.{take_at, take_all}
 use borrow.Author.Tests.{ltb-true, ltb-false, le-leb, ne_eqb}
+use Rattle.std.specs.Prelude.{Result, Ok, Err}
 use Rattle.tables.specs.declared.letters.Conventions.{Conventions}
 use Rattle.tables.specs.Letters.{Accepted, every}
 use Rattle.tables.proofs.Laws.{by_cases, clash}
@@ -15,21 +16,17 @@ use Rattle.reader.specs.declared.deal.Hands.{Hands}
 use Rattle.reader.specs.Store.{flat, padded, lent}
 use Rattle.reader.specs.Editions.{reading_of, cards_of, entries_of}
 use Rattle.planning.specs.declared.editions.EditionsRefusal.TheVariants.{Old, New}
-use Rattle.planning.specs.declared.editions.Editions.{Editions}
-use Rattle.planning.specs.declared.editions.Editions.TheVariants.{Both}
-use Rattle.planning.specs.declared.editions.Editions.TheVariants as editions
 use Rattle.planning.specs.declared.plan.Totals.{Totals}
 use Rattle.planning.specs.Cards.{is_whole, has_table, card_here}
 use Rattle.planning.specs.States.{BoardPlan, state_number, from_of, state_at}
 use Rattle.planning.specs.Slips.{slips_of, count_of, card_from}
-use Rattle.planning.specs.Plans.{Boxes, editions_of, are_both, plans_of, BoxesAfter, state_by}
+use Rattle.planning.specs.Plans.{Boxes, editions_of, plans_of, BoxesAfter, state_by, Editions}
 use Rattle.planning.specs.Demands.{Among, WithDeal, Tabled, Some, slip_here}
 use Rattle.planning.proofs.AnswerLaws.{solve_sum}
 use Rattle.planning.proofs.CardLaws.{CardsHanded}
 use Rattle.planning.proofs.FoundLaws.{card_among, numbered}
 use Rattle.planning.proofs.SlipLaws.{slips_count}
-use Rattle.writer.specs.declared.finish.Finishing.{Finishing}
-use Rattle.writer.specs.declared.finish.Finishing.TheVariants.{Finished, Refused}
+use Rattle.writer.specs.declared.finish.FinishRefusal.{FinishRefusal}
 use Rattle.writer.specs.declared.finish.FinishRefusal.TheVariants.{Edition, Answers, Impossible, PageFull}
 use Rattle.writer.specs.Pages.{written_text}
 use Rattle.writer.specs.Writings.{writing_of}
@@ -46,17 +43,18 @@ use Rattle.demands.proofs.ReadAlike.{cards_handed}
 use Rattle.demands.proofs.FinishedBack.{finished_back, none_wanted}
 use Rattle.demands.proofs.FinishRefusing.{finish_refuses, is_done}
 use Rattle.demands.proofs.FinishedTables.{whole_kind, own_cells, blank_has, blank_kind, blank_cells, cells_from}
+use Rattle.std.specs.Prelude.{Ok, Err, is_ok}
 
 -- ---- when it is finished
 
 -- An answer that begins with 0 names no edition.
-no_edition : (w : Finishing) → get_or (finishing_numbers w) 0 0 ≡ 0 → get_or (finishing_numbers w) 1 0 ≡ 0
-no_edition (Finished n) e = refl
-no_edition (Refused (Edition (Old f))) e = absurd (read_number_lem f e)
-no_edition (Refused (Edition (New f))) e = absurd (read_number_lem f e)
-no_edition (Refused (Answers n)) e = refl
-no_edition (Refused (Impossible n)) e = refl
-no_edition (Refused (PageFull n)) e = refl
+no_edition : (w : Result ℕ FinishRefusal) → get_or (finishing_numbers w) 0 0 ≡ 0 → get_or (finishing_numbers w) 1 0 ≡ 0
+no_edition (Ok n) e = refl
+no_edition (Err (Edition (Old f))) e = absurd (read_number_lem f e)
+no_edition (Err (Edition (New f))) e = absurd (read_number_lem f e)
+no_edition (Err (Answers n)) e = refl
+no_edition (Err (Impossible n)) e = refl
+no_edition (Err (PageFull n)) e = refl
 
 pub finished_when_answered : FinishedWhenAnswered
 finished_when_answered c old new boxes answers page boxes' page' answer' r o =
@@ -105,7 +103,7 @@ none_above (b ∷ bs) e =
 
 -- Both editions were taken, the answers were let through, and the finished edition is its text.
 record Done (c : Conventions) (old new : List ℕ) (boxes : Boxes) (answers page' answer' : List ℕ) : Type 0 where
-  both_taken : are_both (editions_of c old new boxes) ≡ true
+  both_taken : is_ok (editions_of c old new boxes) ≡ true
   answered : Answered c old new answers
   part : finished_part page' answer' ≡ finished_text c old new answers
 
@@ -144,9 +142,9 @@ slipped c old new boxes slips boxes' slips' answer' o =
 
 state_told : (e : Editions) (js : List BoardPlan) (p : ℕ) (answer : List ℕ) → answer ≡ state_numbers e (state_by e js p) → 0 ≡ get_or answer 0 0
     → (get_or answer 3 0 ≡ state_number (state_at js p)) × (get_or answer 4 0 ≡ from_of (state_at js p))
-state_told (Both m n) js p answer e z = rw e (refl, refl)
-state_told (editions.Refused (Old f)) js p answer e z = absurd (read_number_lem f (sym (rw e at z)))
-state_told (editions.Refused (New f)) js p answer e z = absurd (read_number_lem f (sym (rw e at z)))
+state_told (Ok n) js p answer e z = rw e (refl, refl)
+state_told (Err (Old f)) js p answer e z = absurd (read_number_lem f (sym (rw e at z)))
+state_told (Err (New f)) js p answer e z = absurd (read_number_lem f (sym (rw e at z)))
 
 -- ---- the boards of the finished edition
 
@@ -299,10 +297,10 @@ pub boxes_are : (c : Conventions) (well : Bool) (old new : List ℕ) (boxes : Bo
 boxes_are c well old new boxes = record { old_cards = refl; old_entries = refl; new_cards = refl; new_entries = refl }
 
 -- golavimes_state can be asked once both editions were taken.
-asked : (e : Editions) (js : List BoardPlan) (p : ℕ) → are_both e ≡ true
+asked : (e : Editions) (js : List BoardPlan) (p : ℕ) → is_ok e ≡ true
     → (0 ≡ get_or (state_numbers e (state_by e js p)) 0 0) × (get_or (state_numbers e (state_by e js p)) 3 0 ≡ state_number (state_at js p))
-asked (Both m n) js p t = (refl, refl)
-asked (editions.Refused f) js p t = clash t
+asked (Ok n) js p t = (refl, refl)
+asked (Err f) js p t = clash t
 
 -- What golavimes_write puts on the page.
 written_part : (c : Conventions) (text cards entries page cards' entries' page' answer' : List ℕ)
@@ -325,7 +323,7 @@ written_when_none_wanted c old new boxes answers page boxes' page' answer' o car
     let low : (p : ℕ) → state_number (state_at js p) < 2 =
     λ p.
     let s = asked e js p d.both_taken in
-    let l = h p boxes (boxes_after c (are_both e) old new boxes) (state_numbers e (state_by e js p))
-    (record { told = refl; boxes_left = boxes_are c (are_both e) old new boxes; returned = s.0 }) in
+    let l = h p boxes (boxes_after c (is_ok e) old new boxes) (state_numbers e (state_by e js p))
+    (record { told = refl; boxes_left = boxes_are c (is_ok e) old new boxes; returned = s.0 }) in
     rw s.1 at l in
     d.part ∙ none_wanted c old new answers low ∙ sym (written_part c new cards entries w_page cards' entries' w_page' w_answer' wo)

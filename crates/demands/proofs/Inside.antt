@@ -4,29 +4,24 @@ use mathlib.Core.Path.{◌≡◌, refl, sym, ◌∙◌, ap}
 use mathlib.Core.Bool.{true}
 use mathlib.Core.List.{List, [], ◌∷◌, ◌++◌}
 use native.Mathlib.Omega.{arith}
-use lib.Dec.{ltb}
 use lib.ListN.{length, get_or, length-append}
-use borrow.Author.Tests.{ltb-false}
 use Rattle.tables.specs.declared.letters.Conventions.{Conventions}
-use Rattle.tables.proofs.Laws.{by_cases, clash}
 use Rattle.reader.specs.declared.deal.Hands.{Hands}
-use Rattle.reader.specs.declared.edition.Reading.{Reading}
-use Rattle.reader.specs.declared.edition.Reading.TheVariants.{Taken}
-use Rattle.reader.specs.declared.edition.Reading.TheVariants as reading
 use Rattle.reader.specs.Deals.{hands_of_words}
 use Rattle.reader.specs.Records.{AlikeBut}
-use Rattle.reader.specs.Editions.{is_taken, card_of, cards_of}
+use Rattle.reader.specs.Editions.{card_of, cards_of}
 use Rattle.reader.specs.Fellows.{Stands, Fellow}
 use Rattle.reader.proofs.CardShape.{word_back}
 use Rattle.reader.proofs.Fellows.{EveryBoard, RecordEnds, InsideOnly, AlikeOther, InsideOrFellow}
 use Rattle.planning.specs.Cards.{hands_of}
 use Rattle.planning.specs.Slips.{card_from}
-use Rattle.planning.specs.Plans.{Boxes, old_reading, new_reading, both_after, editions_of, are_both}
+use Rattle.planning.specs.Plans.{Boxes, old_reading, new_reading, editions_of}
 use Rattle.planning.specs.Demands.{Among, here, WithDeal, Tabled, None, InFront, InStretch, InBack, AllSolved, ListedInside}
 use Rattle.planning.proofs.BothLaws.{both_are_taken, taken_short}
 use Rattle.planning.proofs.FoundLaws.{numbered, among_right}
 use Rattle.planning.proofs.CardLaws.{SameDeal, SameWhole}
 use Rattle.demands.proofs.Listed.{told, listed_exactly_once}
+use Rattle.std.specs.Prelude.{is_ok}
 
 -- ---- cards and their boards
 
@@ -49,7 +44,7 @@ ends_at c a n r h = word_back c a n r 23 ∙ omega arith
 
 -- ---- both editions were taken
 
-new_short : (c : Conventions) (old new : List ℕ) (boxes : Boxes) → are_both (editions_of c old new boxes) ≡ true → length new ≤ 16777215
+new_short : (c : Conventions) (old new : List ℕ) (boxes : Boxes) → is_ok (editions_of c old new boxes) ≡ true → length new ≤ 16777215
 unfolding editions_of
 new_short c old new boxes e =
     taken_short c new (length boxes.new_cards) (length boxes.new_entries) (both_are_taken (old_reading c old boxes) (new_reading c new boxes) e).1

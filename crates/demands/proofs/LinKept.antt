@@ -9,6 +9,7 @@ use lib.Dec.{eqb, ltb, leb}
 use lib.ListN.{length, get_or, replicate}
 use lib.Seq.{take_at, get_or_at}
 use borrow.Author.Tests.{eqb-true, ltb-true, ne_eqb}
+use Rattle.std.specs.Prelude.{Ok}
 use Rattle.tables.specs.declared.letters.Conventions.{Conventions}
 use Rattle.tables.specs.Letters.{Accepted, every}
 use Rattle.tables.proofs.Laws.{by_cases, both}
@@ -25,7 +26,6 @@ use Rattle.reader.proofs.Fellows.{EveryBoard}
 use Rattle.writer.specs.Tags.{vulnerability}
 use Rattle.writer.specs.Held.{entry_word, card_word, item_at, items_at, section_items, auction_held, play_held, board_held, shown, seen}
 use Rattle.writer.proofs.HeldBoards.{Holds, board_is}
-use Rattle.lin.specs.declared.convert.Converted.TheVariants.{Page}
 use Rattle.lin.specs.Playing.{slots, tricks_from}
 use Rattle.lin.specs.LinBoards.{LinBoard, lin_boards, any_card, all_deals, has_bid, opening_leader, trump_of, lin_tricks, plain_call, auction_of, play_with, play_of, lin_page, lin_text}
 use Rattle.lin.specs.Conversions.{gives_deals, converted_of}
@@ -268,7 +268,7 @@ LinPageKept c ok bs a cards entries o =
 -- A text that was converted: its boards make deals, and the answer has the bytes and the boards.
 record WasConverted (c : Conventions) (text : List ℕ) (m : ℕ) : Type 0 where
   each_deal : all_deals (lin_boards c text) ≡ true
-  is : converted_of c text m ≡ Page (length (lin_text c text)) (length (lin_boards c text))
+  is : converted_of c text m ≡ Ok (record { bytes = length (lin_text c text); boards = length (lin_boards c text) })
 
 was_converted : (c : Conventions) (text : List ℕ) (m : ℕ) → get_or (converted_numbers (converted_of c text m)) 0 0 ≡ 0 → WasConverted c text m
 unfolding converted_of
@@ -296,7 +296,7 @@ unfolding lin_text
 lin_told c text page page' answer' o =
     let v = was_converted c text (length page) (sym (ap (λ (l : List ℕ). get_or l 0 0) o.told) ∙ sym o.returned) in
     let t = lin_page c (lin_boards c text) in
-    let a : answer' ≡ converted_numbers (Page (length t) (length (lin_boards c text))) = o.told ∙ ap converted_numbers v.is in
+    let a : answer' ≡ converted_numbers (Ok (record { bytes = length t; boards = length (lin_boards c text) })) = o.told ∙ ap converted_numbers v.is in
     let p : page' ≡ t ++ replicate (length page - length t) 0 = o.lent_after.page_left ∙ rw v.is in
     record {
       all_well = BoardsWell c text v.each_deal;

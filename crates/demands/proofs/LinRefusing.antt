@@ -7,17 +7,18 @@ use native.Mathlib.Omega.{arith}
 use lib.Dec.{eqb}
 use lib.ListN.{length, get_or}
 use borrow.Author.Tests.{eqb-true, eqb-false, eq-eqb, ne_eqb, ltb-true, ltb-false, leb-true, leb-false, lt-leb, le-leb, not-true}
+use Rattle.std.specs.Prelude.{Result, Ok, Err, is_ok}
 use Rattle.tables.specs.declared.letters.Conventions.{Conventions}
 use Rattle.tables.specs.Letters.{among, distinct}
 use Rattle.tables.proofs.Laws.{by_cases, both, either, neither, clash}
 use Rattle.reader.proofs.CardSets.{distinct_back}
 use Rattle.reader.proofs.TagsBack.{among_append}
 use Rattle.lin.specs.declared.convert.Converted.{Converted}
-use Rattle.lin.specs.declared.convert.Converted.TheVariants.{Page, Refused}
+use Rattle.lin.specs.declared.convert.LinRefusal.{LinRefusal}
 use Rattle.lin.specs.declared.convert.LinRefusal.TheVariants as refused
 use Rattle.lin.specs.Dealing.{Dealing, all_cards, has_card, is_hand, is_deal}
 use Rattle.lin.specs.LinBoards.{LinBoard, lin_boards, any_card, all_deals, lin_text}
-use Rattle.lin.specs.Conversions.{gives_deals, converted_of, is_converted}
+use Rattle.lin.specs.Conversions.{gives_deals, converted_of}
 use Rattle.golavimes.specs.Answers.{converted_numbers}
 use Rattle.demands.specs.Demand1.{Refusal, refusal, Overlong, PageFull, SomeBoard, HasCard, CardTwice, HandOver, north_over, east_over, south_over, west_over, NoDeal, no_card, card_twice, hand_over, NoValues, LinRefuses}
 use Rattle.demands.proofs.Refusing.{Says, Met, nothing, this, later, met_by, met_below, first_that_holds}
@@ -163,18 +164,18 @@ DealsAre bs e n =
 
 -- ---- the refusals
 
-says_converted : (w : Converted) (answer : List ℕ) (number carries : ℕ) → answer ≡ converted_numbers w
+says_converted : (w : Result Converted LinRefusal) (answer : List ℕ) (number carries : ℕ) → answer ≡ converted_numbers w
     → get_or (converted_numbers w) 0 0 ≡ number → get_or (converted_numbers w) 1 0 ≡ 0 → get_or (converted_numbers w) 2 0 ≡ carries → Says answer number 0 carries
 says_converted w answer number carries e a b d = rw e (record { number_said = a; edition_said = b; carried_said = d })
 
 -- A conversion whose answer does not begin with 0 gave no page.
-converted_not : (w : Converted) → (get_or (converted_numbers w) 0 0 ≡ 0 → ⊥) → (is_converted w ≡ false) × NoValues 2 (converted_numbers w)
-converted_not (Page n boards) h = absurd (h refl)
-converted_not (Refused f) h = (refl, refl)
+converted_not : (w : Result Converted LinRefusal) → (get_or (converted_numbers w) 0 0 ≡ 0 → ⊥) → (is_ok w ≡ false) × NoValues 2 (converted_numbers w)
+converted_not (Ok k) h = absurd (h refl)
+converted_not (Err f) h = (refl, refl)
 
-converted_one : (w : Converted) → get_or (converted_numbers w) 1 0 ≡ 0
-converted_one (Page n boards) = refl
-converted_one (Refused f) = refl
+converted_one : (w : Result Converted LinRefusal) → get_or (converted_numbers w) 1 0 ≡ 0
+converted_one (Ok k) = refl
+converted_one (Err f) = refl
 
 abbrev lin_refusals : Conventions → List ℕ → List ℕ → List Refusal
 lin_refusals c text page =
@@ -186,20 +187,20 @@ converted_met c text page answer told =
     let n = length (lin_text c text) in
     let bs = lin_boards c text in
     met_below 1 0 (length text) 16777215 (length text)
-    (λ t. says_converted (Refused (refused.Overlong (length text))) answer 1 (length text) (rw t at told) refl refl refl)
+    (λ t. says_converted (Err (refused.Overlong (length text))) answer 1 (length text) (rw t at told) refl refl refl)
     (λ t.
     met_by (gives_deals bs)
     (λ u.
     later (DealsAre bs u)
     (met_below 7 0 n (length page) n
-    (λ v. says_converted (Refused (refused.PageFull n)) answer 7 n (rw (t, u, lt-leb n (length page) (ltb-true (length page) n v)) at told) refl refl refl)
-    (λ v. nothing (says_converted (Page n (length bs)) answer 0 0 (rw (t, u, le-leb n (length page) (ltb-false (length page) n v)) at told) refl refl refl))))
-    (λ u. this (NoDealIs bs u) (says_converted (Refused refused.NoDeal) answer 16 0 (rw (t, u) at told) refl refl refl)))
+    (λ v. says_converted (Err (refused.PageFull n)) answer 7 n (rw (t, u, lt-leb n (length page) (ltb-true (length page) n v)) at told) refl refl refl)
+    (λ v. nothing (says_converted (Ok (record { bytes = n; boards = length bs })) answer 0 0 (rw (t, u, le-leb n (length page) (ltb-false (length page) n v)) at told) refl refl refl))))
+    (λ u. this (NoDealIs bs u) (says_converted (Err refused.NoDeal) answer 16 0 (rw (t, u) at told) refl refl refl)))
 
 pub lin_refuses : LinRefuses
 lin_refuses c text page page' answer' r o =
     let w = converted_of c text (length page) in
-    let refused : (r ≡ 0 → ⊥) → (is_converted w ≡ false) × NoValues 2 (converted_numbers w) =
+    let refused : (r ≡ 0 → ⊥) → (is_ok w ≡ false) × NoValues 2 (converted_numbers w) =
     λ h. converted_not w (λ z. h (o.returned ∙ ap (λ (l : List ℕ). get_or l 0 0) o.told ∙ z)) in
     record {
       refused = first_that_holds (lin_refusals c text page) answer' refl (converted_met c text page answer' o.told);

@@ -18,7 +18,7 @@ use Rattle.reader.specs.declared.board.TableCard.{TableCard}
 use Rattle.reader.specs.Names.{tag_names, tag_number}
 use Rattle.reader.specs.Words.{vulnerability_of, vulnerability_token}
 use Rattle.reader.specs.Deals.{card_count, hand_bits, hand_words, hands_of_words, deal_of, deal_text, Proper}
-use Rattle.reader.specs.declared.deal.DealRead.TheVariants.{Dealt}
+use Rattle.std.specs.Prelude.{Some, None}
 use Rattle.reader.specs.Pieces.{raw_lines}
 use Rattle.reader.specs.Boards.{identity_by, deal_by, no_board}
 use Rattle.reader.specs.Plain.{TagPair, PlainPlay, PlainBoard, plain_of}
@@ -122,7 +122,7 @@ unfolding lin_plain deal_by
 deal_back c ok b w =
     let h = dealt_hands b.dealing in
     let dealer = b.dealing.dealer in
-    let q : deal_of c (deal_text c (first_seat dealer) (hands_of_words (hand_words h))) ≡ Dealt h =
+    let q : deal_of c (deal_text c (first_seat dealer) (hands_of_words (hand_words h))) ≡ Some h =
     rw (HandsBack h, lt-ltb dealer 4 w.dealer_low) (DealBack c ok dealer w.dealer_low h (LinProper b w)) in
     deal_told c (lin_plain c b) (lin_play c b) ∙ rw q
 

@@ -13,13 +13,10 @@ use Rattle.tables.specs.Text.{is_white, is_word, lead, trim_start, trim_end, tri
 use Rattle.tables.specs.Letters.{every, among}
 use Rattle.tables.proofs.Laws.{by_cases, both, either, neither, clash}
 use Rattle.reader.specs.declared.tag.Tag.{Tag as TagPlaces}
-use Rattle.reader.specs.declared.tag.TagLine.{TagLine}
-use Rattle.reader.specs.declared.tag.TagLine.TheVariants.{NoTag, Plain as PlainTag, WithComment as CommentTag}
-use Rattle.reader.specs.declared.tag.Split.{Split}
-use Rattle.reader.specs.declared.tag.Split.TheVariants.{Data as DataTag, NoData}
+use Rattle.std.specs.Prelude.{Some, None}
 use Rattle.reader.specs.declared.line.Line.TheVariants.{Brace, Directive, Tag, Data}
 use Rattle.reader.specs.declared.line.TagReading.TheVariants.{Plain, WithComment, WithData}
-use Rattle.reader.specs.Tag.{cut, trim_span, is_comment, split_of, tag_line as readTagLine, tag_text}
+use Rattle.reader.specs.Tag.{TagLine, Split, cut, trim_span, is_comment, split_of, tag_line as readTagLine, tag_text}
 use Rattle.reader.specs.TagBytes.{TagBytes, tag_bytes, read_tag, good_name, good_value, unclosed}
 use Rattle.reader.specs.Lines.{is_blank, has_brace, last_brace, kind_by, split_as, split_line, bracket_as, bracket_line, line_kind}
 use Rattle.reader.specs.Pieces.{join_line, raw_lines}
@@ -87,8 +84,8 @@ pub wrong : {P : Type 0} → ◌≡◌ {A = ℕ} 0 1 → P
 wrong e = absurd (omega arith)
 
 split_not_plain : {P : Type 0} (x : Split) {t : TagPlaces} → split_as x ≡ Tag (Plain t) → P
-split_not_plain NoData e = wrong cc
-split_not_plain (DataTag u d) {t} e = let z : WithData u d ≡ Plain t = cc in wrong cc
+split_not_plain None e = wrong cc
+split_not_plain (Some (u, d)) {t} e = let z : WithData u d ≡ Plain t = cc in wrong cc
 
 -- The bytes at the places of the tag `[name "value"]`.
 name_cut : (n v : List ℕ) → cut (places_of n v).name (tag_text n v) ≡ n
@@ -108,12 +105,12 @@ bracket_first s = kind_first 91 s refl
 
 plain_bytes : (n v : List ℕ) (x : TagLine) → bracket_as x (tag_text n v) ≡ Tag (Plain (places_of n v)) → tag_bytes x (tag_text n v) ≡ some (record { name = n; value = v; comment = none })
 unfolding split_line
-plain_bytes n v NoTag e = split_not_plain (split_of (tag_text n v)) e
-plain_bytes n v (PlainTag t) e =
+plain_bytes n v None e = split_not_plain (split_of (tag_text n v)) e
+plain_bytes n v (Some (t, None)) e =
     let z : Plain t ≡ Plain (places_of n v) = cc in
     let y : t ≡ places_of n v = cc in
     rw (y, name_cut n v, value_cut n v)
-plain_bytes n v (CommentTag t c) e = let z : WithComment t c ≡ Plain (places_of n v) = cc in wrong cc
+plain_bytes n v (Some (t, Some c)) e = let z : WithComment t c ≡ Plain (places_of n v) = cc in wrong cc
 
 tag_bytes_lem : (n v : List ℕ) → Good n v → read_tag (tag_text n v) ≡ some (record { name = n; value = v; comment = none })
 unfolding bracket_line tag_text
@@ -123,11 +120,11 @@ tag_bytes_lem n v g =
 
 -- A line that starts with a bracket and whose bytes are those of a tag without a comment.
 plain_by : (n v l : List ℕ) (x : TagLine) → line_kind l ≡ bracket_as x l → tag_bytes x l ≡ some (record { name = n; value = v; comment = none }) → ReadsAs (tag_line n v) (l ∷ [])
-plain_by n v l NoTag k e = never e
-plain_by n v l (PlainTag t) k e =
+plain_by n v l None k e = never e
+plain_by n v l (Some (t, None)) k e =
     let z = some_inj e in
     tag {t = t} k (ap (λ (b : TagBytes). b.name) z) (ap (λ (b : TagBytes). b.value) z)
-plain_by n v l (CommentTag t c) k e =
+plain_by n v l (Some (t, Some c)) k e =
     let z : some (cut c l) ≡ none = ap (λ (b : TagBytes). b.comment) (some_inj e) in
     never (sym z)
 

@@ -8,26 +8,22 @@ use lib.Dec.{ltb}
 use lib.ListN.{length, get_or, take, drop, replicate, length-append, length-replicate}
 use lib.Seq.{drop_at, drop-drop, get_or-take, get_or-drop}
 use borrow.Author.Tests.{ltb-true, ltb-false, le-ltb}
+use Rattle.std.specs.Prelude.{Result, Ok, Err, is_ok}
 use Rattle.tables.specs.declared.letters.Conventions.{Conventions}
 use Rattle.tables.proofs.Laws.{by_cases, clash}
 use Rattle.reader.specs.declared.deal.Hands.{Hands}
-use Rattle.reader.specs.declared.edition.Reading.{Reading}
-use Rattle.reader.specs.declared.edition.Reading.TheVariants.{Taken}
-use Rattle.reader.specs.declared.edition.Reading.TheVariants as reading
+use Rattle.reader.specs.declared.edition.Counts.{Counts}
+use Rattle.reader.specs.declared.edition.ReadRefusal.{ReadRefusal}
 use Rattle.reader.specs.Store.{flat, padded}
 use Rattle.reader.specs.Deals.{ones, card_count, whole_hands}
 use Rattle.reader.proofs.DealLaws.{WholeHands}
-use Rattle.reader.specs.Editions.{is_taken, cards_of}
+use Rattle.reader.specs.Editions.{cards_of}
 use Rattle.planning.specs.declared.state.BoardState.TheVariants.{Solve}
-use Rattle.planning.specs.declared.editions.Editions.{Editions}
-use Rattle.planning.specs.declared.editions.Editions.TheVariants.{Both}
-use Rattle.planning.specs.declared.editions.Editions.TheVariants as editions
 use Rattle.planning.specs.declared.plan.Totals.{Totals}
-use Rattle.planning.specs.declared.plan.Planning.TheVariants.{Planned}
 use Rattle.planning.specs.Cards.{card_deal, hands_of, is_whole, has_table, fits}
 use Rattle.planning.specs.States.{BoardPlan, first_from, board_plans_from, board_plans, state_at, state_number}
 use Rattle.planning.specs.Slips.{slip_of, slips_of, totals_of, count_of, card_from, card_at}
-use Rattle.planning.specs.Plans.{Boxes, old_reading, new_reading, both_after, editions_of, are_both, planned_by, planning_of, plans_of, IsPlanned}
+use Rattle.planning.specs.Plans.{Boxes, old_reading, new_reading, both_after, editions_of, planned_by, planning_of, plans_of, IsPlanned, Editions}
 use Rattle.planning.specs.Demands.{Among, WithDeal, First, slip_here, Holds, Unsolved, OfSolve, ListedOnce, ListedExactlyOnce, PlannedIfTaken, NothingListed, TotalsTold}
 use Rattle.planning.proofs.AnswerLaws.{solve_sum}
 use Rattle.planning.proofs.FoundLaws.{Tells, zero_none, found_is_first, card_among, take_card}
@@ -239,17 +235,17 @@ module _ (olds news : List (List ℕ)) (so : Handed olds) (sn : Handed news) whe
 pub record PlanAnswered (e : Editions) (lent : ℕ) (u t : Totals) : Type 0 where
   pub totals : t ≡ u
   pub enough : u.solve ≤ lent
-  pub taken : are_both e ≡ true
+  pub taken : is_ok e ≡ true
 
-pub plan_listed : (e : Editions) (lent : ℕ) (u t : Totals) → Planned t ≡ planned_by e lent u → PlanAnswered e lent u t
-plan_listed (Both m n) lent u t q =
+pub plan_listed : (e : Editions) (lent : ℕ) (u t : Totals) → Ok t ≡ planned_by e lent u → PlanAnswered e lent u t
+plan_listed (Ok n) lent u t q =
     by_cases (ltb lent u.solve)
     (λ b. let z = rw b at q in let y : ◌≡◌ {A = ℕ} 0 1 = cc in absurd (omega arith))
     (λ b. let z = rw b at q in record { totals = cc; enough = ltb-false lent u.solve b; taken = refl })
-plan_listed (editions.Refused f) lent u t q = let y : ◌≡◌ {A = ℕ} 0 1 = cc in absurd (omega arith)
+plan_listed (Err f) lent u t q = let y : ◌≡◌ {A = ℕ} 0 1 = cc in absurd (omega arith)
 
 pub told : (c : Conventions) (old new : List ℕ) (boxes : Boxes) (slips : List ℕ) (boxes' : Boxes) (slips' : List ℕ) (t : Totals)
-    → IsPlanned c old new boxes slips boxes' slips' (Planned t)
+    → IsPlanned c old new boxes slips boxes' slips' (Ok t)
     → PlanAnswered (editions_of c old new boxes) (length slips / 5) (totals_of (plans_of c old new)) t
 unfolding planning_of
 told c old new boxes slips boxes' slips' t p =
@@ -274,10 +270,10 @@ totals_told c old new boxes slips boxes' slips' t p =
 
 -- ---- when planning is not refused
 
-both_are : (x y : Reading) (lent : ℕ) (u : Totals) → is_taken x ≡ true → is_taken y ≡ true → u.solve ≤ lent → planned_by (both_after x y) lent u ≡ Planned u
-both_are (Taken m n) (Taken k l) lent u a b h = rw (le-ltb lent u.solve h)
-both_are (Taken m n) (reading.Refused f) lent u a b h = clash b
-both_are (reading.Refused f) y lent u a b h = clash a
+both_are : (x y : Result Counts ReadRefusal) (lent : ℕ) (u : Totals) → is_ok x ≡ true → is_ok y ≡ true → u.solve ≤ lent → planned_by (both_after x y) lent u ≡ Ok u
+both_are (Ok m) (Ok n) lent u a b h = rw (le-ltb lent u.solve h)
+both_are (Ok m) (Err f) lent u a b h = clash b
+both_are (Err f) y lent u a b h = clash a
 
 pub planned_if_taken : PlannedIfTaken
 unfolding planning_of editions_of

@@ -10,17 +10,15 @@ use Rattle.reader.specs.declared.edition.ReadRefusal.TheVariants.{Overlong, BoxF
 use Rattle.planning.specs.declared.editions.EditionsRefusal.TheVariants.{Old, New}
 use Rattle.planning.specs.declared.plan.PlanRefusal.TheVariants.{Edition, SlipsShort}
 use Rattle.planning.specs.declared.plan.Totals.{Totals}
-use Rattle.planning.specs.declared.plan.Planning.{Planning}
-use Rattle.planning.specs.declared.plan.Planning.TheVariants.{Planned}
-use Rattle.planning.specs.declared.plan.Planning.TheVariants as planning
 use Rattle.reader.specs.Editions.{read_number}
-use Rattle.planning.specs.Plans.{Boxes, planning_of, IsPlanned}
+use Rattle.planning.specs.Plans.{Boxes, planning_of, IsPlanned, Planning}
 use Rattle.demands.proofs.Listed.{listed_exactly_once}
 use Rattle.demands.proofs.Inside.{listed_inside}
 use Rattle.golavimes.specs.Answers.{plan_numbers, PlanOut}
 use Rattle.demands.specs.Demand1.{Refusal}
 use Rattle.demands.specs.Demand3.{PlannedWhenTaken, ListedExactly, OneSlip, RestZero, InsideAlone}
 use Rattle.demands.proofs.Refusing.{Met, nothing, this, later, plan_met}
+use Rattle.std.specs.Prelude.{Ok, Err}
 
 -- ---- both taken, and slips enough
 
@@ -80,18 +78,18 @@ read_number_lem (ListFull n) e = omega arith
 -- The answer that begins with 0 is a list, with its totals.
 pub record HasTotals (p : Planning) : Type 0 where
   pub totals : Totals
-  pub is : p ≡ Planned totals
+  pub is : p ≡ Ok totals
 
 listed_zero : (p : Planning) → get_or (plan_numbers p) 0 0 ≡ 0 → HasTotals p
-listed_zero (Planned t) e = record { totals = t; is = refl }
-listed_zero (planning.Refused (Edition (Old f))) e = absurd (read_number_lem f e)
-listed_zero (planning.Refused (Edition (New f))) e = absurd (read_number_lem f e)
-listed_zero (planning.Refused (SlipsShort n)) e = absurd (omega arith)
+listed_zero (Ok t) e = record { totals = t; is = refl }
+listed_zero (Err (Edition (Old f))) e = absurd (read_number_lem f e)
+listed_zero (Err (Edition (New f))) e = absurd (read_number_lem f e)
+listed_zero (Err (SlipsShort n)) e = absurd (omega arith)
 
 -- What was promised of planning itself, and the boards to solve in the answer.
 pub record Promised (c : Conventions) (old new : List ℕ) (boxes : Boxes) (slips : List ℕ) (boxes' : Boxes) (slips' answer' : List ℕ) : Type 0 where
   pub totals : Totals
-  pub planned : IsPlanned c old new boxes slips boxes' slips' (Planned totals)
+  pub planned : IsPlanned c old new boxes slips boxes' slips' (Ok totals)
   pub solve_told : get_or answer' 9 0 ≡ totals.solve
   pub boards_told : get_or answer' 3 0 ≡ totals.boards
 

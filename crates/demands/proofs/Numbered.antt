@@ -12,7 +12,7 @@ use Rattle.reader.specs.Store.{put, put_all, flat, padded}
 use Rattle.reader.specs.Editions.{cards_of}
 use Rattle.reader.proofs.StoreLaws.{Blocks, none, one, blocks_map, length_flat, put_zeros, put_all_append}
 use Rattle.planning.specs.declared.behind.Behind.{Behind}
-use Rattle.planning.specs.declared.behind.Behind.TheVariants.{InOld, InNew, Nothing}
+use Rattle.std.specs.Prelude.{Some}
 use Rattle.planning.specs.States.{BoardPlan, board_plans, state_number, from_of}
 use Rattle.planning.specs.Searches.{search_numbers, searches_from}
 use Rattle.planning.specs.Slips.{behind_of, behind_numbers, board_numbers, numbers_from}
@@ -56,10 +56,8 @@ put_fitting L xs b =
 
 -- ---- the numbers of a board
 
-five_long : (b : Behind) (s f : ℕ) → length (s ∷ f ∷ behind_numbers b) ≡ 5
-five_long (InOld a e) s f = refl
-five_long (InNew a e) s f = refl
-five_long Nothing s f = refl
+five_long : (b : Behind) (s f : ℕ) → length (s ∷ f ∷ behind_numbers (Some b)) ≡ 5
+five_long b s f = refl
 
 numbers_five : (os ns : List (List ℕ)) (js : List BoardPlan) → Blocks 5 (numbers_from os ns js)
 unfolding board_numbers

@@ -8,7 +8,9 @@ use Rattle.reader.specs.declared.deal.Hands.{Hands}
 use Rattle.reader.specs.Deals.{ones, card_count, whole_hands, hand_words, hands_of_words}
 use Rattle.planning.specs.declared.state.BoardState.{BoardState}
 use Rattle.planning.specs.declared.state.BoardState.TheVariants.{Blank, Own, Old, Near, Twin, Solve}
-use Rattle.planning.specs.declared.behind.Behind.TheVariants.{InOld, InNew, Nothing}
+use Rattle.std.specs.Prelude.{Option, Some, None}
+use Rattle.planning.specs.declared.behind.Behind.{Behind}
+use Rattle.planning.specs.declared.behind.Edition.TheVariants as edition
 use Rattle.planning.specs.Cards.{card_deal, is_whole, has_table, has_deal, fits}
 use Rattle.planning.specs.States.{BoardPlan, first_with, state_of, board_plans}
 use Rattle.planning.specs.Slips.{slip_of, slips_of, totals_of, behind_at}
@@ -52,8 +54,15 @@ pin_totals : totals_of (board_plans olds news) ≡ record { boards = 4; blank = 
 unfolding ones card_count whole_hands hand_words hands_of_words card_deal is_whole has_table has_deal fits first_with state_of board_plans totals_of
 pin_totals = refl
 
+-- A record of the old edition, and of the new.
+abbrev in_old : ℕ → ℕ → Option Behind
+in_old start end = Some (record { edition = edition.Old; start = start; end = end })
+
+abbrev in_new : ℕ → ℕ → Option Behind
+in_new start end = Some (record { edition = edition.New; start = start; end = end })
+
 -- The record behind each: the old board's, its own, the first b's, its own; none at 0 and past the last.
-pin_behind : map (behind_at olds news (board_plans olds news)) (0 ∷ 1 ∷ 2 ∷ 3 ∷ 4 ∷ 5 ∷ []) ≡ Nothing ∷ InOld 0 100 ∷ InNew 80 160 ∷ InNew 80 160 ∷ InNew 240 253 ∷ Nothing ∷ []
+pin_behind : map (behind_at olds news (board_plans olds news)) (0 ∷ 1 ∷ 2 ∷ 3 ∷ 4 ∷ 5 ∷ []) ≡ None ∷ in_old 0 100 ∷ in_new 80 160 ∷ in_new 80 160 ∷ in_new 240 253 ∷ None ∷ []
 unfolding ones card_count whole_hands hand_words hands_of_words card_deal is_whole has_table has_deal fits first_with state_of board_plans
 pin_behind = refl
 

@@ -8,16 +8,17 @@ use lib.Dec.{ltb, eqb}
 use lib.ListN.{length, get_or, drop, replicate, length-map}
 use lib.Seq.{take_at, drop_at}
 use borrow.Author.Tests.{ltb-true, ltb-false, eqb-true, ne_eqb, le-leb, lt-leb}
+use Rattle.std.specs.Prelude.{Result, Ok}
 use Rattle.tables.specs.declared.letters.Conventions.{Conventions}
 use Rattle.tables.proofs.Laws.{by_cases}
 use Rattle.reader.specs.declared.tag.Span.{Span}
-use Rattle.reader.specs.declared.edition.Reading.{Reading}
-use Rattle.reader.specs.declared.edition.Reading.TheVariants.{Taken}
+use Rattle.reader.specs.declared.edition.Counts.{Counts}
+use Rattle.reader.specs.declared.edition.ReadRefusal.{ReadRefusal}
 use Rattle.reader.specs.Store.{flat, entry_words}
 use Rattle.reader.specs.Boards.{record_out}
-use Rattle.reader.specs.Records.{records_of, spans_from, spans_of, Filled, none, one, AlikeBut}
+use Rattle.reader.specs.Records.{records_of, spans_from, spans_of, Filled, one, AlikeBut}
 use Rattle.reader.specs.declared.store.Entry.{Entry}
-use Rattle.reader.specs.Editions.{reading_of, card_of, cards_of, entries_of}
+use Rattle.reader.specs.Editions.{reading_of, card_of, cards_of, entries_of, counts_of}
 use Rattle.reader.specs.Editions as editions
 use Rattle.reader.specs.Fellows.{Stands, span_at, BoardAt, Fellow, moved_by, CardMoved, moved_entry, Relocated}
 use Rattle.reader.proofs.StoreLaws.{Blocks, blocks_append, blocks_map, length_flat}
@@ -304,8 +305,8 @@ outside_read_alike c front middle middle' back cards entries cards' entries' al 
 
 -- ---- how many there are
 
-read_counts : (r : Reading) (boards entries b e : ℕ) → r ≡ Taken b e → b ≡ boards → e ≡ entries → (get_or (reading_numbers r) 3 0 ≡ boards) × (get_or (reading_numbers r) 4 0 ≡ entries)
-read_counts r boards entries b e q x y = rw q (x, y)
+read_counts : (r : Result Counts ReadRefusal) (n k : Counts) → r ≡ Ok k → k ≡ n → (get_or (reading_numbers r) 3 0 ≡ n.boards) × (get_or (reading_numbers r) 4 0 ≡ n.entries)
+read_counts r n k q e = rw (q, e) (refl, refl)
 
 pub counts_told : CountsTold
 counts_told =
@@ -313,8 +314,8 @@ counts_told =
       by_read = λ c text cards entries cards' entries' answer' o.
           let q = reading_of c text (length cards) (length entries) in
           let t = taken_as q (reading_zero q (sym (ap (λ (a : List ℕ). get_or a 0 0) o.told) ∙ sym o.returned)) in
-          let f = taken_fits c text (length cards) (length entries) t.boards t.count t.is in
-          rw o.told (read_counts q (length (cards_of c text)) (length (entries_of c text)) t.boards t.count t.is f.boards_are f.entries_are);
+          let f = taken_fits c text (length cards) (length entries) t.counts t.is in
+          rw o.told (read_counts q (counts_of c text) t.counts t.is f.counts_are);
       by_plan = λ c old new boxes slips boxes' slips' answer' o.
           let p = promised c old new boxes slips boxes' slips' answer' o in
           let t = (told c old new boxes slips boxes' slips' p.totals p.planned).totals in (

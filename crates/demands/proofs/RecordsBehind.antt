@@ -6,13 +6,13 @@ use mathlib.Core.List.{List, [], ◌∷◌, ◌++◌}
 use native.Mathlib.Omega.{arith}
 use lib.ListN.{length, get_or, take, drop}
 use lib.Seq.{take_at, drop_at}
+use Rattle.std.specs.Prelude.{Some, Result, Ok, Err, is_ok}
 use Rattle.tables.specs.declared.letters.Conventions.{Conventions}
 use Rattle.tables.proofs.Laws.{clash}
-use Rattle.reader.specs.declared.edition.Reading.{Reading}
-use Rattle.reader.specs.declared.edition.Reading.TheVariants.{Taken}
-use Rattle.reader.specs.declared.edition.Reading.TheVariants as reading
+use Rattle.reader.specs.declared.edition.Counts.{Counts}
+use Rattle.reader.specs.declared.edition.ReadRefusal.{ReadRefusal}
 use Rattle.reader.specs.Records.{records_of}
-use Rattle.reader.specs.Editions.{is_taken, card_of, cards_of}
+use Rattle.reader.specs.Editions.{card_of, cards_of}
 use Rattle.reader.specs.Fellows.{Stands}
 use Rattle.reader.proofs.Fellows.{EveryBoard, RecordFilled, RecordEnds}
 use Rattle.planning.specs.declared.state.BoardState.{BoardState}
@@ -66,7 +66,7 @@ whole_record c text k short h =
 -- ---- a board and its state
 
 behind_here : (olds news : List (List ℕ)) (i : ℕ) → i < length news
-    → behind_at olds news (board_plans olds news) (suc i) ≡ behind_state olds news (card_from news i) (state_at (board_plans olds news) (suc i))
+    → behind_at olds news (board_plans olds news) (suc i) ≡ Some (behind_state olds news (card_from news i) (state_at (board_plans olds news) (suc i)))
 behind_here olds news i h = rw (plan_here_lem olds news i h)
 
 -- The record at a position from 1.
@@ -81,7 +81,7 @@ module _ (c : Conventions) (old new : List ℕ) (short_old : length old ≤ 1677
   in_new k h = whole_record c new k short_new h
 
   behind_is : (i : ℕ) → i < length (cards_of c new) → (s : BoardState) → Reaches (length (cards_of c old)) (length (cards_of c new)) s
-      → IsBehind old new (suc i) s (part_of old new (behind_state (cards_of c old) (cards_of c new) (card_from (cards_of c new) i) s))
+      → IsBehind old new (suc i) s (part_of old new (Some (behind_state (cards_of c old) (cards_of c new) (card_from (cards_of c new) i) s)))
   behind_is i h Blank r = record { is = at_position new i (in_new i h); filled = (in_new i h).filled }
   behind_is i h Own r = record { is = at_position new i (in_new i h); filled = (in_new i h).filled }
   behind_is i h (Old zero) r = absurd (omega (arith, r.0))
@@ -101,11 +101,11 @@ places_behind c old new (suc i) so sn o l =
 
 -- ---- as handed back
 
-both_behind : (x y : Reading) (c : Conventions) (old new : List ℕ) (p : ℕ) → is_taken x ≡ true → is_taken y ≡ true
+both_behind : (x y : Result Counts ReadRefusal) (c : Conventions) (old new : List ℕ) (p : ℕ) → is_ok x ≡ true → is_ok y ≡ true
     → behind_by (both_after x y) c old new p ≡ behind_at (cards_of c old) (cards_of c new) (plans_of c old new) p
-both_behind (Taken m n) (Taken k l) c old new p a b = refl
-both_behind (Taken m n) (reading.Refused f) c old new p a b = clash b
-both_behind (reading.Refused f) y c old new p a b = clash a
+both_behind (Ok m) (Ok n) c old new p a b = refl
+both_behind (Ok m) (Err f) c old new p a b = clash b
+both_behind (Err f) y c old new p a b = clash a
 
 pub records_behind : RecordsBehind
 unfolding editions_of

@@ -6,29 +6,22 @@ use mathlib.Core.List.{List, [], ◌∷◌, ◌++◌}
 use lib.Dec.{ltb, eqb}
 use lib.ListN.{length, get_or, replicate}
 use borrow.Author.Tests.{ltb-true, eq-eqb, lt-ltb}
+use Rattle.std.specs.Prelude.{Result, Ok, Err, is_ok}
 use Rattle.tables.specs.declared.letters.Conventions.{Conventions}
 use Rattle.tables.proofs.Laws.{clash, both}
 use Rattle.reader.specs.declared.edition.ReadRefusal.{ReadRefusal}
 use Rattle.reader.specs.declared.edition.ReadRefusal.TheVariants as readRefusal
-use Rattle.reader.specs.declared.edition.Reading.{Reading}
-use Rattle.reader.specs.declared.edition.Reading.TheVariants.{Taken}
-use Rattle.reader.specs.declared.edition.Reading.TheVariants as reading
-use Rattle.reader.specs.Editions.{read_number, read_carries, is_taken, reading_of, cards_of, entries_of}
+use Rattle.reader.specs.declared.edition.Counts.{Counts}
+use Rattle.reader.specs.Editions.{read_number, read_carries, reading_of, cards_of, entries_of, counts_of}
 use Rattle.planning.specs.declared.state.BoardState.{BoardState}
 use Rattle.planning.specs.declared.editions.EditionsRefusal.{EditionsRefusal}
 use Rattle.planning.specs.declared.editions.EditionsRefusal.TheVariants.{Old, New}
-use Rattle.planning.specs.declared.editions.Editions.{Editions}
-use Rattle.planning.specs.declared.editions.Editions.TheVariants.{Both}
-use Rattle.planning.specs.declared.editions.Editions.TheVariants as editions
-use Rattle.planning.specs.declared.plan.Planning.{Planning}
-use Rattle.planning.specs.declared.plan.Planning.TheVariants.{Planned}
-use Rattle.planning.specs.declared.plan.Planning.TheVariants as planning
 use Rattle.planning.specs.States.{state_number, from_of}
 use Rattle.planning.specs.Searches.{searches_from}
 use Rattle.planning.specs.Slips.{totals_of, numbers_from}
-use Rattle.planning.specs.Plans.{Boxes, editions_number, editions_carries, edition_refused, editions_of, are_both, planning_of, is_planned, plans_of, state_by, behind_by, fives_after, words_by, BoxesAfter}
+use Rattle.planning.specs.Plans.{Boxes, editions_number, editions_carries, edition_refused, editions_of, planning_of, plans_of, state_by, behind_by, fives_after, words_by, BoxesAfter, Editions, Planning}
 use Rattle.golavimes.specs.Answers.{reading_numbers, editions_head, head_then, plan_numbers, part_numbers, new_boards}
-use Rattle.demands.specs.Demand1.{Refusal, refusal, Begins, GivenFrom, FirstThatHolds, Overlong, BoxFull, ListFull, of_edition, of_editions, solve_in, SlipsShort, BoxesZero, NoValues, ReadRefuses, PlanRefuses, PositionRefusals, StateRefuses, BehindRefuses, NumbersRefusals, BoardsRefuse, SearchesRefuse}
+use Rattle.demands.specs.Demand1.{Refusal, refusal, Begins, GivenFrom, FirstThatHolds, of_edition, of_editions, solve_in, SlipsShort, BoxesZero, NoValues, ReadRefuses, PlanRefuses, PositionRefusals, StateRefuses, BehindRefuses, NumbersRefusals, BoardsRefuse, SearchesRefuse}
 
 -- ---- the first whose condition holds
 
@@ -118,8 +111,8 @@ met_below number edition carries a b f g =
 
 -- Where it is refused, the answer says so; where it is taken, the refusals behind its own are met or none.
 pub edition_met : (e : ℕ) (c : Conventions) (text cards entries answer : List ℕ) (fs : List Refusal)
-    → ((f : ReadRefusal) → reading_of c text (length cards) (length entries) ≡ reading.Refused f → Says answer (read_number f) e (read_carries f))
-    → ((m n : ℕ) → reading_of c text (length cards) (length entries) ≡ Taken m n → Met answer fs)
+    → ((f : ReadRefusal) → reading_of c text (length cards) (length entries) ≡ Err f → Says answer (read_number f) e (read_carries f))
+    → ((n : Counts) → reading_of c text (length cards) (length entries) ≡ Ok n → Met answer fs)
     → Met answer (of_edition e c text cards entries ++ fs)
 unfolding reading_of
 edition_met e c text cards entries answer fs refused taken =
@@ -133,31 +126,31 @@ edition_met e c text cards entries answer fs refused taken =
     (λ u.
     met_below 3 e count (length entries / 4) count
     (λ v. refused (readRefusal.ListFull count) (rw (t, u, v)))
-    (λ v. taken boards count (rw (t, u, v)))))
+    (λ v. taken (counts_of c text) (rw (t, u, v)))))
 
-reading_says : (r : Reading) (answer : List ℕ) (f : ReadRefusal) → answer ≡ reading_numbers r → r ≡ reading.Refused f → Says answer (read_number f) 0 (read_carries f)
+reading_says : (r : Result Counts ReadRefusal) (answer : List ℕ) (f : ReadRefusal) → answer ≡ reading_numbers r → r ≡ Err f → Says answer (read_number f) 0 (read_carries f)
 reading_says r answer f e q = rw (e, q) (record { number_said = refl; edition_said = refl; carried_said = refl })
 
-reading_taken : (r : Reading) (answer : List ℕ) (m n : ℕ) → answer ≡ reading_numbers r → r ≡ Taken m n → Says answer 0 0 0
-reading_taken r answer m n e q = rw (e, q) (record { number_said = refl; edition_said = refl; carried_said = refl })
+reading_taken : (r : Result Counts ReadRefusal) (answer : List ℕ) (n : Counts) → answer ≡ reading_numbers r → r ≡ Ok n → Says answer 0 0 0
+reading_taken r answer n e q = rw (e, q) (record { number_said = refl; edition_said = refl; carried_said = refl })
 
 -- A reading whose answer does not begin with 0 is none that was taken.
-reading_not : (r : Reading) → (get_or (reading_numbers r) 0 0 ≡ 0 → ⊥) → (is_taken r ≡ false) × NoValues 2 (reading_numbers r)
-reading_not (Taken m n) h = absurd (h refl)
-reading_not (reading.Refused f) h = (refl, refl)
+reading_not : (r : Result Counts ReadRefusal) → (get_or (reading_numbers r) 0 0 ≡ 0 → ⊥) → (is_ok r ≡ false) × NoValues 2 (reading_numbers r)
+reading_not (Ok n) h = absurd (h refl)
+reading_not (Err f) h = (refl, refl)
 
-reading_one : (r : Reading) → get_or (reading_numbers r) 1 0 ≡ 0
-reading_one (Taken m n) = refl
-reading_one (reading.Refused f) = refl
+reading_one : (r : Result Counts ReadRefusal) → get_or (reading_numbers r) 1 0 ≡ 0
+reading_one (Ok n) = refl
+reading_one (Err f) = refl
 
 pub read_refuses : ReadRefuses
 read_refuses c text cards entries cards' entries' answer' r o =
     let q = reading_of c text (length cards) (length entries) in
-    let refused : (r ≡ 0 → ⊥) → (is_taken q ≡ false) × NoValues 2 (reading_numbers q) =
+    let refused : (r ≡ 0 → ⊥) → (is_ok q ≡ false) × NoValues 2 (reading_numbers q) =
     λ h. reading_not q (λ z. h (o.returned ∙ ap (λ (l : List ℕ). get_or l 0 0) o.told ∙ z)) in
     record {
       refused = first_that_holds (of_edition 0 c text cards entries) answer' refl
-          (edition_met 0 c text cards entries answer' [] (λ f e. reading_says q answer' f o.told e) (λ m n e. nothing (reading_taken q answer' m n o.told e)));
+          (edition_met 0 c text cards entries answer' [] (λ f e. reading_says q answer' f o.told e) (λ n e. nothing (reading_taken q answer' n o.told e)));
       one_edition = rw o.told (reading_one q);
       returned = o.returned;
       cards_zero = λ h. o.cards_after ∙ rw (refused h).0;
@@ -168,17 +161,17 @@ read_refuses c text cards entries cards' entries' answer' r o =
 -- ---- both editions
 
 pub editions_met : (c : Conventions) (old new : List ℕ) (boxes : Boxes) (answer : List ℕ) (fs : List Refusal)
-    → ((f : EditionsRefusal) → editions_of c old new boxes ≡ editions.Refused f → Says answer (editions_number f) (edition_refused f) (editions_carries f))
+    → ((f : EditionsRefusal) → editions_of c old new boxes ≡ Err f → Says answer (editions_number f) (edition_refused f) (editions_carries f))
     → ((m n : ℕ) → editions_of c old new boxes ≡ Both m n → Met answer fs)
     → Met answer (of_editions c old new boxes ++ fs)
 unfolding editions_of
 editions_met c old new boxes answer fs refused both =
     edition_met 1 c old boxes.old_cards boxes.old_entries answer (of_edition 2 c new boxes.new_cards boxes.new_entries ++ fs)
     (λ f e. refused (Old f) (rw e))
-    (λ m n e.
+    (λ m e.
     edition_met 2 c new boxes.new_cards boxes.new_entries answer fs
     (λ f d. refused (New f) (rw (e, d)))
-    (λ k l d. both m k (rw (e, d))))
+    (λ n d. both m.boards n.boards (rw (e, d))))
 
 -- An answer that begins with the head of what reading both came to.
 headed_met : (c : Conventions) (old new : List ℕ) (boxes : Boxes) (answer : List ℕ) (values : List ℕ)
@@ -199,9 +192,9 @@ boxes_zero c well old new boxes boxes' w b =
 
 -- ---- planning
 
-planned_not : (p : Planning) → (get_or (plan_numbers p) 0 0 ≡ 0 → ⊥) → (is_planned p ≡ false) × NoValues 7 (plan_numbers p)
-planned_not (Planned t) h = absurd (h refl)
-planned_not (planning.Refused f) h = (refl, refl)
+planned_not : (p : Planning) → (get_or (plan_numbers p) 0 0 ≡ 0 → ⊥) → (is_ok p ≡ false) × NoValues 7 (plan_numbers p)
+planned_not (Ok t) h = absurd (h refl)
+planned_not (Err f) h = (refl, refl)
 
 pub plan_met : (c : Conventions) (old new : List ℕ) (boxes : Boxes) (slips answer : List ℕ) → answer ≡ plan_numbers (planning_of c old new boxes (length slips))
     → Met answer (of_editions c old new boxes ++ (refusal 4 0 (solve_in c old new) (SlipsShort c old new slips) ∷ []))
@@ -218,12 +211,12 @@ plan_met c old new boxes slips answer e =
 pub plan_refuses : PlanRefuses
 plan_refuses c old new boxes slips boxes' slips' answer' r o =
     let q = planning_of c old new boxes (length slips) in
-    let refused : (r ≡ 0 → ⊥) → (is_planned q ≡ false) × NoValues 7 (plan_numbers q) =
+    let refused : (r ≡ 0 → ⊥) → (is_ok q ≡ false) × NoValues 7 (plan_numbers q) =
     λ h. planned_not q (λ z. h (o.returned ∙ ap (λ (l : List ℕ). get_or l 0 0) o.told ∙ z)) in
     record {
       refused = first_that_holds (of_editions c old new boxes ++ (refusal 4 0 (solve_in c old new) (SlipsShort c old new slips) ∷ [])) answer' refl (plan_met c old new boxes slips answer' o.told);
       returned = o.returned;
-      boxes_zero = λ h. boxes_zero c (is_planned q) old new boxes boxes' (refused h).0 o.boxes_left;
+      boxes_zero = λ h. boxes_zero c (is_ok q) old new boxes boxes' (refused h).0 o.boxes_left;
       slips_zero = λ h. o.slips_after ∙ rw (refused h).0;
       no_values = λ h. rw o.told (refused h).1;
     }
@@ -231,14 +224,14 @@ plan_refuses c old new boxes slips boxes' slips' answer' r o =
 -- ---- a position, and all boards
 
 -- What holds of every refusal holds of what reading both came to, where the answer does not begin with 0.
-refused_has : (P : Editions → Type 0) → ((f : EditionsRefusal) → P (editions.Refused f)) → (e : Editions) → ((editions_head e).refusal ≡ 0 → ⊥) → P e
-refused_has P h (Both m n) z = absurd (z refl)
-refused_has P h (editions.Refused f) z = h f
+refused_has : (P : Editions → Type 0) → ((f : EditionsRefusal) → P (Err f)) → (e : Editions) → ((editions_head e).refusal ≡ 0 → ⊥) → P e
+refused_has P h (Ok n) z = absurd (z refl)
+refused_has P h (Err f) z = h f
 
 -- An answer of the head and so many values, which are zero after a refusal.
-module _ (values : ℕ) (of : Editions → List ℕ) (none : (f : EditionsRefusal) → of (editions.Refused f) ≡ replicate values 0) (c : Conventions) (old new : List ℕ)
+module _ (values : ℕ) (of : Editions → List ℕ) (none : (f : EditionsRefusal) → of (Err f) ≡ replicate values 0) (c : Conventions) (old new : List ℕ)
     (boxes boxes' : Boxes) (answer' : List ℕ) (r : ℕ) (told : answer' ≡ head_then (editions_head (editions_of c old new boxes)) (of (editions_of c old new boxes)))
-    (after : BoxesAfter c (are_both (editions_of c old new boxes)) old new boxes boxes') (returned : r ≡ get_or answer' 0 0) where
+    (after : BoxesAfter c (is_ok (editions_of c old new boxes)) old new boxes boxes') (returned : r ≡ get_or answer' 0 0) where
   not_zero : (r ≡ 0 → ⊥) → (editions_head (editions_of c old new boxes)).refusal ≡ 0 → ⊥
   not_zero h z = h (returned ∙ ap (λ (l : List ℕ). get_or l 0 0) told ∙ z)
 
@@ -248,7 +241,7 @@ module _ (values : ℕ) (of : Editions → List ℕ) (none : (f : EditionsRefusa
       record {
         refused = first_that_holds (of_editions c old new boxes) answer' refl (headed_met c old new boxes answer' (of q) told);
         returned = returned;
-        boxes_zero = λ h. boxes_zero c (are_both q) old new boxes boxes' (refused_has (λ e. are_both e ≡ false) (λ f. refl) q (not_zero h)) after;
+        boxes_zero = λ h. boxes_zero c (is_ok q) old new boxes boxes' (refused_has (λ e. is_ok e ≡ false) (λ f. refl) q (not_zero h)) after;
         no_values = λ h. rw told (refused_has (λ e. of e ≡ replicate values 0) none q (not_zero h));
       }
 

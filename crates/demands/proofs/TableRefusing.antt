@@ -3,7 +3,6 @@ use Prim.Native.Nat.{ℕ, zero, suc, ◌+◌, ◌≤◌, ◌<◌}
 use mathlib.Core.Path.{◌≡◌, refl, sym, ap, ◌∙◌}
 use mathlib.Core.Bool.{true, false}
 use mathlib.Core.List.{List, [], ◌∷◌, map}
-use mathlib.Core.Option.{Option, none, some}
 use native.Mathlib.Omega.{arith}
 use lib.Dec.{ltb, eqb, leb}
 use lib.ListN.{length, get_or, replicate}
@@ -11,20 +10,17 @@ use borrow.Author.Tests.{ltb-true, ltb-false, leb-true, leb-false, eqb-true, eqb
 use Rattle.tables.specs.declared.letters.Conventions.{Conventions}
 use Rattle.tables.specs.declared.refusal.Refusal.{Refusal as TableRefusal}
 use Rattle.tables.specs.declared.refusal.Refusal.TheVariants.{Length, Digit, Fields, Declarer, Denomination, Outcome, Over, Missing}
-use Rattle.tables.specs.declared.dd.Row.{Row}
-use Rattle.tables.specs.declared.dd.Row.TheVariants.{Blank, Cell, Fault}
-use Rattle.tables.specs.declared.numbers.Number.{Number}
-use Rattle.tables.specs.declared.numbers.Number.TheVariants.{Value, Bad}
 use Rattle.tables.specs.Text.{fields, lines, first_character}
-use Rattle.tables.specs.Numbers.{number_of}
+use Rattle.tables.specs.Numbers.{Number, number_of}
 use Rattle.tables.specs.Letters.{seat_of, strain_of}
 use Rattle.tables.specs.Refusals.{refusal_number, refusal_carries}
 use Rattle.tables.specs.Page.{answer_of, page_of}
-use Rattle.tables.specs.Tables.{TableReading, holds, refuses, table_read, digit_of, first_bad, digits_reading, table_of_digits, cell_of, result_row, fields_row, row_with, row_of, stored_row, gathered, unless, gather, table_of_rows}
+use Rattle.tables.specs.Tables.{TableReading, digit_of, first_bad, digits_reading, table_of_digits, cell_of, result_row, fields_row, row_with, row_of, stored_row, gathered, unless, gather, table_of_rows, Row}
 use Rattle.tables.proofs.Laws.{by_cases, clash}
-use Rattle.golavimes.specs.Answers.{written_numbers, decoded_numbers}
+use Rattle.golavimes.specs.Answers.{written_numbers, decoded_numbers, table_left}
 use Rattle.demands.specs.Demand1.{refusal, PageFull, value_characters, digits_before, of_digits, is_fault, rows_before, field, NotThree, BadSeat, BadStrain, NoNumber, Above, InRow, cells_after, absent, of_rows, NoValues, WriterRefuses, DigitsRefuse, RowsRefuse}
 use Rattle.demands.proofs.Refusing.{Says, Met, nothing, this, later, met_by, first_that_holds}
+use Rattle.std.specs.Prelude.{Option, Some, None, Ok, Err}
 
 -- ---- pages
 
@@ -58,37 +54,37 @@ writer_refuses text page page' answer' r o =
 -- ---- tables that are read
 
 -- A table that is refused is all zero, and its answer says the refusal.
-table_not : (t : TableReading) → (get_or (decoded_numbers (table_read t).answer) 0 0 ≡ 0 → ⊥) → (table_read t).table ≡ replicate 20 0
-table_not (holds cells) h = absurd (h refl)
-table_not (refuses f) h = refl
+table_not : (t : TableReading) → (get_or (decoded_numbers t) 0 0 ≡ 0 → ⊥) → table_left t ≡ replicate 20 0
+table_not (Ok cells) h = absurd (h refl)
+table_not (Err f) h = refl
 
-table_one : (t : TableReading) → get_or (decoded_numbers (table_read t).answer) 1 0 ≡ 0
-table_one (holds cells) = refl
-table_one (refuses f) = refl
+table_one : (t : TableReading) → get_or (decoded_numbers t) 1 0 ≡ 0
+table_one (Ok cells) = refl
+table_one (Err f) = refl
 
-refused_says : (t : TableReading) (answer : List ℕ) (f : TableRefusal) → answer ≡ decoded_numbers (table_read t).answer → t ≡ refuses f → Says answer (refusal_number f) 0 (refusal_carries f)
+refused_says : (t : TableReading) (answer : List ℕ) (f : TableRefusal) → answer ≡ decoded_numbers t → t ≡ Err f → Says answer (refusal_number f) 0 (refusal_carries f)
 refused_says t answer f e q = rw (e, q) (record { number_said = refl; edition_said = refl; carried_said = refl })
 
-holds_says : (t : TableReading) (answer cells : List ℕ) → answer ≡ decoded_numbers (table_read t).answer → t ≡ holds cells → Says answer 0 0 0
+holds_says : (t : TableReading) (answer cells : List ℕ) → answer ≡ decoded_numbers t → t ≡ Ok cells → Says answer 0 0 0
 holds_says t answer cells e q = rw (e, q) (record { number_said = refl; edition_said = refl; carried_said = refl })
 
 -- ---- digits
 
-bad_some : (xs : List ℕ) (i k : ℕ) → first_bad xs i ≡ some k → (k ≡ i + length (digits_before xs)) × (length (digits_before xs) < length xs)
+bad_some : (xs : List ℕ) (i k : ℕ) → first_bad xs i ≡ Some k → (k ≡ i + length (digits_before xs)) × (length (digits_before xs) < length xs)
 bad_some [] i k e = let z : ◌≡◌ {A = ℕ} 0 1 = cc in absurd (omega arith)
 bad_some (x ∷ xs) i k e =
     by_cases (ltb 13 (digit_of x))
-    (λ t. let q : some i ≡ some k = rw t at e in let z : i ≡ k = cc in rw t (omega arith, omega arith))
+    (λ t. let q : Some i ≡ Some k = rw t at e in let z : i ≡ k = cc in rw t (omega arith, omega arith))
     (λ t. let h = bad_some xs (i + 1) k (rw t at e) in rw t (omega arith, omega arith))
 
-bad_none : (xs : List ℕ) (i : ℕ) → first_bad xs i ≡ none → length (digits_before xs) < length xs → ⊥
+bad_none : (xs : List ℕ) (i : ℕ) → first_bad xs i ≡ None → length (digits_before xs) < length xs → ⊥
 bad_none [] i e h = omega arith
 bad_none (x ∷ xs) i e h =
     by_cases (ltb 13 (digit_of x))
-    (λ t. let q : some i ≡ none = rw t at e in let z : ◌≡◌ {A = ℕ} 0 1 = cc in absurd (omega arith))
+    (λ t. let q : Some i ≡ None = rw t at e in let z : ◌≡◌ {A = ℕ} 0 1 = cc in absurd (omega arith))
     (λ t. bad_none xs (i + 1) (rw t at e) (let g = rw t at h in omega arith))
 
-digits_met : (value answer : List ℕ) → answer ≡ decoded_numbers (table_read (table_of_digits value)).answer → Met answer (of_digits value)
+digits_met : (value answer : List ℕ) → answer ≡ decoded_numbers (table_of_digits value) → Met answer (of_digits value)
 unfolding table_of_digits digits_reading
 digits_met value answer e =
     let xs = value_characters value in
@@ -96,10 +92,10 @@ digits_met value answer e =
     (λ t. later (λ h. h (eqb-true (length xs) 20 t)) (go xs t e (first_bad xs 0) refl))
     (λ t. this (eqb-false (length xs) 20 t) (refused_says (digits_reading xs) answer (Length (length xs)) e (rw t)))
   where
-    go : (xs : List ℕ) → eqb (length xs) 20 ≡ true → answer ≡ decoded_numbers (table_read (digits_reading xs)).answer → (b : Option ℕ) → first_bad xs 0 ≡ b
+    go : (xs : List ℕ) → eqb (length xs) 20 ≡ true → answer ≡ decoded_numbers (digits_reading xs) → (b : Option ℕ) → first_bad xs 0 ≡ b
         → Met answer (refusal 9 0 (length (digits_before xs)) (length (digits_before xs) < length xs) ∷ [])
-    go xs t e none q = later (bad_none xs 0 q) (nothing (holds_says (digits_reading xs) answer (map digit_of xs) e (rw (t, q))))
-    go xs t e (some k) q =
+    go xs t e None q = later (bad_none xs 0 q) (nothing (holds_says (digits_reading xs) answer (map digit_of xs) e (rw (t, q))))
+    go xs t e (Some k) q =
         let h = bad_some xs 0 k q in
         let z : k ≡ length (digits_before xs) = omega arith in
         this h.1 (rw z at (refused_says (digits_reading xs) answer (Digit k) e (rw (t, q))))
@@ -121,8 +117,8 @@ record SameRow (x y : Row) : Type 0 where
   same_stored : (cells : List ℕ) → stored_row cells x ≡ stored_row cells y
 
 result_same : (n m cell : ℕ) (v : Number) → SameRow (result_row n cell v) (result_row m cell v)
-result_same n m cell Bad = record { same_fault = refl; same_stored = λ cells. refl }
-result_same n m cell (Value v) =
+result_same n m cell None = record { same_fault = refl; same_stored = λ cells. refl }
+result_same n m cell (Some v) =
     by_cases (ltb 13 v)
     (λ t. rw t (record { same_fault = refl; same_stored = λ cells. refl }))
     (λ t. rw t (record { same_fault = refl; same_stored = λ cells. refl }))
@@ -157,9 +153,8 @@ data Why (c : Conventions) (n : ℕ) (row : List ℕ) : TableRefusal → Type 0 
   by_over : (NotThree row → ⊥) → (BadSeat c row → ⊥) → (BadStrain c row → ⊥) → (NoNumber row → ⊥) → Above row → Why c n row (Over n)
 
 abbrev fault_in : Row → TableRefusal
-fault_in Blank = Missing 0
-fault_in (Cell k v) = Missing 0
-fault_in (Fault f) = f
+fault_in (Ok x) = Missing 0
+fault_in (Err f) = f
 
 module _ (c : Conventions) (n : ℕ) (row : List ℕ) where
   fields_why : (k : ℕ) → length (fields row) ≡ k → (k ≡ 3 → ⊥) → NotThree row
@@ -184,8 +179,8 @@ module _ (c : Conventions) (n : ℕ) (row : List ℕ) where
       rw (a, b) (result (cell_of (seat_of c (first_character d)) (strain_of c s)) (number_of 255 t) (rw f2) three seat strain (rw (a, b) at h))))
     where
       result : (cell : ℕ) (v : Number) → number_of 255 (field 2 row) ≡ v → (NotThree row → ⊥) → (BadSeat c row → ⊥) → (BadStrain c row → ⊥) → is_fault (result_row n cell v) ≡ true → Why c n row (fault_in (result_row n cell v))
-      result cell Bad q x y z g = by_number x y z q
-      result cell (Value v) q x y z g =
+      result cell None q x y z g = by_number x y z q
+      result cell (Some v) q x y z g =
           by_cases (ltb 13 v)
           (λ u.
           let good : NoNumber row → ⊥ = λ w. let o : ◌≡◌ {A = ℕ} 0 1 = cc in omega arith in
@@ -203,20 +198,18 @@ module _ (c : Conventions) (n : ℕ) (row : List ℕ) where
   unfolding row_of
   row_why h = with_why (fields row) refl h
 
-unless_fault : (x : Row) (r : TableReading) → is_fault x ≡ true → unless x r ≡ refuses (fault_in x)
-unless_fault Blank r e = clash e
-unless_fault (Cell k v) r e = clash e
-unless_fault (Fault f) r e = refl
+unless_fault : (x : Row) (r : TableReading) → is_fault x ≡ true → unless x r ≡ Err (fault_in x)
+unless_fault (Ok x) r e = clash e
+unless_fault (Err f) r e = refl
 
 unless_good : (x : Row) (r : TableReading) → is_fault x ≡ false → unless x r ≡ r
-unless_good Blank r e = refl
-unless_good (Cell k v) r e = refl
-unless_good (Fault f) r e = clash (sym e)
+unless_good (Ok x) r e = refl
+unless_good (Err f) r e = clash (sym e)
 
 -- The rows up to the first that is refused, or all of them.
 rows_fault : (c : Conventions) (rows : List (List ℕ)) (n : ℕ) (cells : List ℕ) → rows_before c rows < length rows
     → (is_fault (row_of c (n + rows_before c rows) (get_or rows (rows_before c rows) [])) ≡ true)
-    × (gather c rows n cells ≡ refuses (fault_in (row_of c (n + rows_before c rows) (get_or rows (rows_before c rows) []))))
+    × (gather c rows n cells ≡ Err (fault_in (row_of c (n + rows_before c rows) (get_or rows (rows_before c rows) []))))
 rows_fault c [] n cells h = absurd (omega arith)
 rows_fault c (row ∷ rows) n cells h =
     by_cases (is_fault (row_of c 0 row))
@@ -271,7 +264,7 @@ why_met c rows n answer f e h w s = rw (← e) (go f w s)
     go f (by_number x y z u) s = later (not_at x) (later (not_at y) (later (not_at z) (this (at u) s)))
     go f (by_over x y z u v) s = later (not_at x) (later (not_at y) (later (not_at z) (later (not_at u) (this (at v) s))))
 
-rows_met : (c : Conventions) (text answer : List ℕ) → answer ≡ decoded_numbers (table_read (table_of_rows c text)).answer → Met answer (of_rows c (lines text))
+rows_met : (c : Conventions) (text answer : List ℕ) → answer ≡ decoded_numbers (table_of_rows c text) → Met answer (of_rows c (lines text))
 unfolding table_of_rows gathered
 rows_met c text answer e =
     let rows = lines text in
@@ -283,7 +276,7 @@ rows_met c text answer e =
     let i = rows_fault c rows 0 cells h in
     let z : 0 + k ≡ k = omega arith in
     let f : is_fault (row_of c k (get_or rows k [])) ≡ true = rw z at i.0 in
-    let g : gather c rows 0 cells ≡ refuses (fault_in (row_of c k (get_or rows k []))) = rw z at i.1 in
+    let g : gather c rows 0 cells ≡ Err (fault_in (row_of c k (get_or rows k []))) = rw z at i.1 in
     why_met c rows k answer (fault_in (row_of c k (get_or rows k []))) refl h (row_why c k (get_or rows k []) f) (refused_says (table_of_rows c text) answer (fault_in (row_of c k (get_or rows k []))) e g))
     (λ t.
     let h = ltb-false k (length rows) t in

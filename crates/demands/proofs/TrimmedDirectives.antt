@@ -9,11 +9,8 @@ use lib.ListN.{length, get_or}
 use Rattle.tables.specs.declared.letters.Conventions.{Conventions}
 use Rattle.tables.specs.Text.{trim_start, trimmed, past_word}
 use Rattle.tables.proofs.Laws.{by_cases, both}
-use Rattle.reader.specs.declared.tag.TagLine.{TagLine}
-use Rattle.reader.specs.declared.tag.TagLine.TheVariants.{NoTag, Plain as PlainTag, WithComment as CommentTag}
-use Rattle.reader.specs.declared.tag.Split.{Split}
-use Rattle.reader.specs.declared.tag.Split.TheVariants.{Data as DataTag, NoData}
-use Rattle.reader.specs.Tag.{cut, trim_span, is_comment, split_of, tag_line}
+use Rattle.std.specs.Prelude.{Some, None}
+use Rattle.reader.specs.Tag.{TagLine, Split, cut, trim_span, is_comment, split_of, tag_line}
 use Rattle.reader.specs.TagBytes.{close, behind, unquote, filled, comment_bytes, TagBytes, tag_bytes, read_tag}
 use Rattle.reader.specs.Lines.{is_blank, split_as, split_line, bracket_as, bracket_line, line_kind}
 use Rattle.reader.specs.Pieces.{raw_lines}
@@ -52,14 +49,14 @@ comment_trimmed l x e q =
     is_trimmed_lem x k.rest (comment_is (trimmed k.rest) (e5 ∙ ap some z))
 
 split_trimmed : (x : Split) (l : List ℕ) (n : ℕ) → all bytes_trimmed (directives_on (split_as x) l n) ≡ true
-split_trimmed NoData l n = refl
-split_trimmed (DataTag t d) l n = refl
+split_trimmed None l n = refl
+split_trimmed (Some (t, d)) l n = refl
 
 bracket_trimmed : (x : TagLine) (l : List ℕ) (n : ℕ) → tag_bytes x l ≡ read_tag l → all bytes_trimmed (directives_on (bracket_as x l) l n) ≡ true
 unfolding split_line
-bracket_trimmed NoTag l n e = split_trimmed (split_of l) l n
-bracket_trimmed (PlainTag t) l n e = refl
-bracket_trimmed (CommentTag t d) l n e = rw (comment_trimmed l (cut d l) (sym e) refl)
+bracket_trimmed None l n e = split_trimmed (split_of l) l n
+bracket_trimmed (Some (t, None)) l n e = refl
+bracket_trimmed (Some (t, Some d)) l n e = rw (comment_trimmed l (cut d l) (sym e) refl)
 
 kind_trimmed : (l : List ℕ) (n : ℕ) → all bytes_trimmed (directives_on (line_kind l) l n) ≡ true
 unfolding line_kind bracket_line

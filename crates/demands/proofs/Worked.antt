@@ -11,7 +11,7 @@ use Rattle.reader.specs.Editions.{reading_of, cards_of}
 use Rattle.planning.specs.Cards.{card_deal, hands_of, is_whole, has_table, has_deal, fits}
 use Rattle.planning.specs.States.{first_with, state_of, board_plans}
 use Rattle.planning.specs.Slips.{slip_of, slips_of, totals_of}
-use Rattle.planning.specs.Plans.{editions_of, planning_of, is_planned, plans_of}
+use Rattle.planning.specs.Plans.{editions_of, planning_of, plans_of}
 use Rattle.planning.specs.Demands.{Among, here, there, Tabled, Some, AllSolved, OnlyInside}
 use Rattle.planning.proofs.FoundLaws.{among_cases}
 use Rattle.writer.specs.Given.{answer_at, table_of, tables_of}
@@ -22,6 +22,7 @@ use Rattle.demands.specs.Demand3.{OutsideAlike}
 use Rattle.demands.proofs.ReadAlike.{outside_read_alike}
 use Rattle.demands.proofs.Listing.{inside_alone}
 use Rattle.demands.proofs.WorkedCards.{front_card, back_card, olds, old_cards, new_cards, old_entries, new_entries, alike}
+use Rattle.std.specs.Prelude.{is_ok}
 
 told : answer' ≡ plan_numbers (planning_of built_in old new boxes 5)
 unfolding ones card_count whole_hands hand_words hands_of_words card_deal is_whole has_table has_deal fits first_with state_of board_plans totals_of reading_of editions_of planning_of
@@ -31,7 +32,7 @@ slips_are : slips' ≡ lent true 5 (slips_of (plans_of built_in old new))
 unfolding ones card_count whole_hands hand_words hands_of_words card_deal is_whole has_table has_deal fits first_with state_of board_plans slip_of
 slips_are = rw (old_cards, new_cards)
 
-is_listed : is_planned (planning_of built_in old new boxes 5) ≡ true
+is_listed : is_ok (planning_of built_in old new boxes 5) ≡ true
 unfolding ones card_count whole_hands hand_words hands_of_words card_deal is_whole has_table has_deal fits first_with state_of board_plans totals_of reading_of editions_of planning_of
 is_listed = rw (old_cards, new_cards, old_entries, new_entries)
 

@@ -8,26 +8,24 @@ use lib.Dec.{ltb}
 use lib.ListN.{length, get_or, length-replicate}
 use lib.Seq.{take_all}
 use borrow.Author.Tests.{ltb-true}
+use Rattle.std.specs.Prelude.{Ok, is_ok}
 use Rattle.tables.specs.declared.letters.Conventions.{Conventions}
 use Rattle.tables.specs.Letters.{built_in}
 use Rattle.tables.proofs.Laws.{by_cases}
 use Rattle.tables.proofs.LetterLaws.{built_in_accepted}
-use Rattle.reader.specs.declared.edition.Reading.TheVariants.{Taken}
 use Rattle.reader.specs.Deals.{ones, card_count, whole_hands, hand_words, hands_of_words}
 use Rattle.reader.specs.Store.{lent}
-use Rattle.reader.specs.Editions.{reading_of, cards_of, entries_of}
+use Rattle.reader.specs.Editions.{reading_of, cards_of, entries_of, counts_of}
 use Rattle.planning.specs.declared.plan.Totals.{Totals}
-use Rattle.planning.specs.declared.plan.Planning.TheVariants.{Planned}
 use Rattle.planning.specs.Cards.{card_deal, is_whole, has_table}
 use Rattle.planning.specs.States.{state_of, board_plans}
 use Rattle.planning.specs.Slips.{card_from, slips_of, totals_of}
 use Rattle.planning.specs.Plans.{Boxes, editions_of, planning_of, plans_of}
 use Rattle.planning.proofs.AnswerLaws.{solve_sum}
 use Rattle.planning.proofs.SlipLaws.{slips_count}
-use Rattle.writer.specs.declared.finish.Finishing.TheVariants.{Finished}
 use Rattle.writer.specs.Given.{finished_text}
 use Rattle.writer.specs.Writings.{page_after}
-use Rattle.writer.specs.Finishings.{finishing_of, is_finished}
+use Rattle.writer.specs.Finishings.{finishing_of}
 use Rattle.writer.proofs.FinishedPages.{FinishedMost}
 use Rattle.golavimes.specs.Answers.{plan_numbers, finishing_numbers, EditionOut, PlanOut, FinishOut}
 use Rattle.demands.specs.Demand1.{boards_in, entries_in, solve_in}
@@ -48,7 +46,7 @@ not_below : (a b : ℕ) → (a < b → ⊥) → ltb a b ≡ false
 not_below a b h = by_cases (ltb a b) (λ e. absurd (h (ltb-true a b e))) (λ e. e)
 
 taken_reading : (c : Conventions) (text cards entries : List ℕ) → IsTaken c text cards entries
-    → reading_of c text (length cards) (length entries) ≡ Taken (boards_in c text) (entries_in c text)
+    → reading_of c text (length cards) (length entries) ≡ Ok (counts_of c text)
 unfolding reading_of
 taken_reading c text cards entries t =
     rw (
@@ -74,7 +72,7 @@ finish_out c old new boxes answers page f l =
     let text = finished_text c old new answers in
     let w = finishing_of c old new boxes answers (length page) in
     let r = get_or (finishing_numbers w) 0 0 in
-    let well = is_finished w in
+    let well = is_ok w in
     let after = boxes_after c well old new boxes in
     let on_page = page_after well text (length page) in
     let z =
@@ -84,7 +82,7 @@ finish_out c old new boxes answers page f l =
       lent_after = record { answer = refl; boxes_left = boxes_are c well old new boxes; page_left = refl };
       returned = refl;
     })).1 f in
-    let e : w ≡ Finished (length text) =
+    let e : w ≡ Ok (length text) =
     (is_done (editions_of c old new boxes) (solve_in c old new) answers (length text) (length page) z).is in
     let n : length text - length text ≡ 0 = omega arith in
     record {
@@ -97,13 +95,13 @@ finish_out c old new boxes answers page f l =
       returned = refl;
     }
 
--- Planned with enough slips lent.
+-- Ok with enough slips lent.
 pub plan_out : (c : Conventions) (old new : List ℕ) (boxes : Boxes) (slips : List ℕ) → Plannable c old new boxes slips
     → PlanOut c old new boxes slips (boxes_after c true old new boxes) (lent true (length slips) (slips_of (plans_of c old new)))
-    (plan_numbers (Planned (totals_of (plans_of c old new)))) 0
+    (plan_numbers (Ok (totals_of (plans_of c old new)))) 0
 unfolding planning_of editions_of
 plan_out c old new boxes slips f =
-    let p : planning_of c old new boxes (length slips) ≡ Planned (totals_of (plans_of c old new)) =
+    let p : planning_of c old new boxes (length slips) ≡ Ok (totals_of (plans_of c old new)) =
     rw (
       taken_reading c old boxes.old_cards boxes.old_entries f.old_taken,
       taken_reading c new boxes.new_cards boxes.new_entries f.new_taken,
@@ -115,7 +113,7 @@ plan_out c old new boxes slips f =
 plan_none : (c : Conventions) (old new : List ℕ) (boxes : Boxes) (t : Totals)
     → IsTaken c old boxes.old_cards boxes.old_entries → IsTaken c new boxes.new_cards boxes.new_entries
     → totals_of (plans_of c old new) ≡ t → t.solve ≡ 0
-    → PlanOut c old new boxes [] (boxes_after c true old new boxes) [] (plan_numbers (Planned t)) 0
+    → PlanOut c old new boxes [] (boxes_after c true old new boxes) [] (plan_numbers (Ok t)) 0
 plan_none c old new boxes t to tn e z =
     let js = plans_of c old new in
     let n = ap (λ (u : Totals). u.solve) e in

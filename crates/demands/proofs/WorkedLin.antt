@@ -5,6 +5,7 @@ use mathlib.Core.List.{[], ◌∷◌}
 use native.Mathlib.Omega.{arith}
 use lib.ListN.{length, get_or, length-replicate}
 use lib.Seq.{take_all}
+use Rattle.std.specs.Prelude.{Ok}
 use Rattle.tables.specs.Text.{is_white, trimmed, is_inside}
 use Rattle.tables.specs.Letters.{built_in, capital, suit_of, honour_of, rank_of}
 use Rattle.tables.proofs.LetterLaws.{built_in_accepted}
@@ -19,7 +20,6 @@ use Rattle.writer.specs.Tags.{seat_text, result_text, early_extras, late_extras,
 use Rattle.writer.specs.Sections.{end_lines, auction_lines, notes_from, note_values}
 use Rattle.writer.specs.Remarks.{directives_of, blocks_of, directives_after, blocks_after, body_lines, line_text}
 use Rattle.writer.specs.Pages.{built_in_header}
-use Rattle.lin.specs.declared.convert.Converted.TheVariants.{Page}
 use Rattle.lin.specs.Pairs.{command_of, pairs_of}
 use Rattle.lin.specs.Pieces.{board_pieces}
 use Rattle.lin.specs.Dealing.{dealt_hands, dealer_of, hand_of, unheld, east_of}
@@ -51,7 +51,7 @@ text_is = rw boards_are page_is
 
 -- ---- it is converted
 
-converted_is : converted_of built_in worked_text (length empty_page) ≡ Page (length worked_page) 2
+converted_is : converted_of built_in worked_text (length empty_page) ≡ Ok (record { bytes = length worked_page; boards = 2 })
 unfolding converted_of
 converted_is = rw (text_is, boards_are)
 

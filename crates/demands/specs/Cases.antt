@@ -1,11 +1,9 @@
 -- The cases that document 01 marks with a dot, as one table about the definitions, in its order. proofs/Cases.antt computes them.
-use Rattle.std.specs.Prelude.{ℕ, ◌≡◌, false, List, [], ◌∷◌, map, get_or}
-use Rattle.tables.specs.declared.dd.Row.{Row}
-use Rattle.tables.specs.declared.dd.Row.TheVariants.{Blank, Cell, Fault}
+use Rattle.std.specs.Prelude.{ℕ, ◌≡◌, false, List, [], ◌∷◌, map, get_or, Some, None, Ok, Err}
 use Rattle.tables.specs.Refusals.{refusal_number, refusal_carries}
 use Rattle.tables.specs.Text.{ascii}
 use Rattle.tables.specs.Letters.{built_in}
-use Rattle.tables.specs.Tables.{TableReading, table_read, table_of_digits, row_of, table_of_rows}
+use Rattle.tables.specs.Tables.{TableReading, table_of_digits, row_of, table_of_rows, Row}
 use Rattle.reader.specs.declared.line.Line.TheVariants.{Bracket}
 use Rattle.reader.specs.Lines.{line_kind}
 use Rattle.reader.specs.Boards.{record_out}
@@ -14,13 +12,13 @@ use Rattle.golavimes.specs.Answers.{decoded_numbers}
 
 -- A row in numbers: 0, its cell and its tricks; or the refusal's number and the number carried.
 abbrev pub row_numbers : Row → List ℕ
-row_numbers Blank = []
-row_numbers (Cell k v) = 0 ∷ k ∷ v ∷ []
-row_numbers (Fault f) = refusal_number f ∷ refusal_carries f ∷ []
+row_numbers (Ok None) = []
+row_numbers (Ok (Some x)) = 0 ∷ x.place ∷ x.tricks ∷ []
+row_numbers (Err f) = refusal_number f ∷ refusal_carries f ∷ []
 
 -- What a C function answers for a table that is read: refusal, edition, carried number.
 abbrev pub table_numbers : TableReading → List ℕ
-table_numbers t = decoded_numbers (table_read t).answer
+table_numbers t = decoded_numbers t
 
 -- A word of every card of a text.
 abbrev pub words_of : ℕ → List ℕ → List ℕ

@@ -8,15 +8,12 @@
 -- The statements hold for every set of letters c; the C functions read with the built-in ones. proofs/Refusing.antt proves
 -- them, proofs/TableRefusing.antt those of tables, proofs/WriteRefusing.antt that of writing, proofs/FinishRefusing.antt that of finishing
 -- and proofs/LinRefusing.antt that of converting a LIN text.
-use Rattle.std.specs.Prelude.{ℕ, suc, ◌*◌, ◌/◌, ◌<◌, ◌≡◌, ◌↔◌, Bool, true, false, not, cond, List, [], ◌∷◌, ◌++◌, ltb, length, get_or, drop, replicate}
+use Rattle.std.specs.Prelude.{ℕ, suc, ◌*◌, ◌/◌, ◌<◌, ◌≡◌, ◌↔◌, Bool, true, false, not, cond, List, [], ◌∷◌, ◌++◌, ltb, length, get_or, drop, replicate, Some, None, Ok, Err}
 use Rattle.tables.specs.declared.letters.Conventions.{Conventions}
-use Rattle.tables.specs.declared.dd.Row.{Row}
-use Rattle.tables.specs.declared.dd.Row.TheVariants.{Blank, Cell, Fault}
-use Rattle.tables.specs.declared.numbers.Number.TheVariants.{Value, Bad}
 use Rattle.tables.specs.Text.{front, trimmed, characters, first_character, fields, lines}
 use Rattle.tables.specs.Numbers.{number_of}
 use Rattle.tables.specs.Letters.{seat_of, strain_of}
-use Rattle.tables.specs.Tables.{digit_of, row_of, stored_row, missing, table_of_digits, table_of_rows}
+use Rattle.tables.specs.Tables.{digit_of, row_of, stored_row, missing, table_of_digits, table_of_rows, Row}
 use Rattle.reader.specs.Store.{zeros}
 use Rattle.reader.specs.Editions.{cards_of, entries_of}
 use Rattle.planning.specs.Slips.{totals_of}
@@ -148,9 +145,8 @@ of_digits value =
 -- ---- 10 to 15: rows
 
 abbrev pub is_fault : Row → Bool
-is_fault Blank = false
-is_fault (Cell k v) = false
-is_fault (Fault f) = true
+is_fault (Ok x) = false
+is_fault (Err f) = true
 
 -- How many rows stand before the first that is refused: the number of that row, from 0. All rows, where none is.
 abbrev pub rows_before : Conventions → List (List ℕ) → ℕ
@@ -172,11 +168,11 @@ abbrev pub BadStrain : Conventions → List ℕ → Type 0
 BadStrain c row = 4 < strain_of c (field 1 row)
 
 abbrev pub NoNumber : List ℕ → Type 0
-NoNumber row = number_of 255 (field 2 row) ≡ Bad
+NoNumber row = number_of 255 (field 2 row) ≡ None
 
 pub record Above (row : List ℕ) : Type 0 where
   pub result : ℕ
-  pub is : number_of 255 (field 2 row) ≡ Value result
+  pub is : number_of 255 (field 2 row) ≡ Some result
   pub above : 13 < result
 
 -- It is the first row that is refused, the row number n, of which P holds.

@@ -1,11 +1,9 @@
 -- What a finished edition reads as, by the definitions: board by board beside the new edition.
-use Rattle.std.specs.Prelude.{ℕ, ◌*◌, ◌<◌, ◌≡◌, Bool, true, not, List, [], eqb, leb, length, get_or}
+use Rattle.std.specs.Prelude.{ℕ, ◌*◌, ◌<◌, ◌≡◌, true, not, List, [], eqb, leb, length, get_or}
 use Rattle.tables.specs.declared.letters.Conventions.{Conventions}
 use Rattle.tables.specs.Letters.{Accepted, every}
 use Rattle.reader.specs.declared.board.TableCard.{TableCard}
 use Rattle.reader.specs.Editions.{cards_of}
-use Rattle.planning.specs.declared.state.BoardState.{BoardState}
-use Rattle.planning.specs.declared.state.BoardState.TheVariants.{Blank, Own}
 use Rattle.planning.specs.Cards.{is_whole, hands_of, has_table}
 use Rattle.planning.specs.States.{state_at, state_number}
 use Rattle.planning.specs.Plans.{plans_of}

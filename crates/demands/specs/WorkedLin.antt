@@ -1,11 +1,10 @@
 -- A worked LIN text that meets every premise of specs/Lin.antt: two boards with calls and cards, the first with a whole deal; it is converted,
 -- and its page is read, and planned beside an empty old edition.
-use Rattle.std.specs.Prelude.{ℕ, ◌*◌, ◌≡◌, true, List, [], ◌∷◌, length, replicate}
+use Rattle.std.specs.Prelude.{ℕ, ◌*◌, ◌≡◌, true, List, [], ◌∷◌, length, replicate, Ok}
 use Rattle.tables.specs.Text.{ascii}
 use Rattle.tables.specs.Letters.{built_in}
 use Rattle.reader.specs.Store.{lent}
 use Rattle.reader.specs.Editions.{cards_of, entries_of}
-use Rattle.planning.specs.declared.plan.Planning.TheVariants.{Planned}
 use Rattle.planning.specs.Slips.{slips_of, totals_of}
 use Rattle.planning.specs.Plans.{Boxes, plans_of}
 use Rattle.lin.specs.LinBoards.{LinBoard, lin_boards}
@@ -83,7 +82,7 @@ abbrev pub lin_slips' : List ℕ
 lin_slips' = lent true (5 * solve_in built_in [] worked_page) (slips_of (plans_of built_in [] worked_page))
 
 abbrev pub lin_plan_answer' : List ℕ
-lin_plan_answer' = plan_numbers (Planned (totals_of (plans_of built_in [] worked_page)))
+lin_plan_answer' = plan_numbers (Ok (totals_of (plans_of built_in [] worked_page)))
 
 -- THEOREM (proofs/WorkedLin.antt).
 pub record WorkedLin : Type 0 where

@@ -1,110 +1,98 @@
 -- What the C functions hand back. An answer array is: refusal number (0 none), edition (0 none), carried number, then the values, which
 -- are 0 after a refusal. Each function also returns the refusal number.
-use Rattle.std.specs.Prelude.{ℕ, ◌-◌, ◌≡◌, List, [], ◌∷◌, length, get_or}
-use Rattle.tables.specs.declared.dd.Decoded.{Decoded}
-use Rattle.tables.specs.declared.dd.Decoded.TheVariants.{Table}
-use Rattle.tables.specs.declared.dd.Decoded.TheVariants as decoded
-use Rattle.tables.specs.declared.page.Written.{Written}
-use Rattle.tables.specs.declared.page.Written.TheVariants.{Bytes}
-use Rattle.tables.specs.declared.page.Written.TheVariants as written
+use Rattle.std.specs.Prelude.{ℕ, ◌-◌, ◌≡◌, List, [], ◌∷◌, length, get_or, replicate, Option, Some, None, Result, Ok, Err, is_ok}
 use Rattle.tables.specs.Refusals.{refusal_number, refusal_carries}
 use Rattle.tables.specs.Page.{answer_of, page_of}
-use Rattle.tables.specs.Tables.{TableReading, table_read}
+use Rattle.tables.specs.Tables.{TableReading}
 use Rattle.tables.specs.declared.letters.Conventions.{Conventions}
-use Rattle.reader.specs.declared.edition.Reading.{Reading}
-use Rattle.reader.specs.declared.edition.Reading.TheVariants.{Taken}
-use Rattle.reader.specs.declared.edition.Reading.TheVariants as edition
+use Rattle.reader.specs.declared.edition.Counts.{Counts}
+use Rattle.reader.specs.declared.edition.ReadRefusal.{ReadRefusal}
 use Rattle.reader.specs.Store.{lent}
-use Rattle.reader.specs.Editions.{read_number, read_carries, reading_of, is_taken, cards_of, entries_of}
+use Rattle.reader.specs.Editions.{read_number, read_carries, reading_of, cards_of, entries_of}
 use Rattle.planning.specs.declared.state.BoardState.{BoardState}
 use Rattle.planning.specs.declared.behind.Behind.{Behind}
-use Rattle.planning.specs.declared.behind.Behind.TheVariants.{InOld, InNew, Nothing}
-use Rattle.planning.specs.declared.editions.Editions.{Editions}
-use Rattle.planning.specs.declared.editions.Editions.TheVariants.{Both}
-use Rattle.planning.specs.declared.editions.Editions.TheVariants as editions
 use Rattle.planning.specs.declared.plan.PlanRefusal.{PlanRefusal}
 use Rattle.planning.specs.declared.plan.PlanRefusal.TheVariants.{Edition}
-use Rattle.planning.specs.declared.plan.Planning.{Planning}
-use Rattle.planning.specs.declared.plan.Planning.TheVariants.{Planned}
-use Rattle.planning.specs.declared.plan.Planning.TheVariants as planning
 use Rattle.planning.specs.States.{state_number, from_of}
-use Rattle.planning.specs.Slips.{slips_of}
-use Rattle.planning.specs.Plans.{plan_number, plan_edition, plan_carries, Boxes, editions_of, are_both, planning_of, is_planned, plans_of, BoxesAfter, state_by, behind_by, boards_after, searches_after, words_by}
-use Rattle.writer.specs.declared.write.Writing.{Writing}
-use Rattle.writer.specs.declared.write.Writing.TheVariants as writing
+use Rattle.planning.specs.Slips.{slips_of, edition_number}
+use Rattle.planning.specs.Plans.{plan_number, plan_edition, plan_carries, Boxes, editions_of, planning_of, plans_of, BoxesAfter, state_by, behind_by, boards_after, searches_after, words_by, Editions, Planning}
+use Rattle.writer.specs.declared.write.WriteRefusal.{WriteRefusal}
 use Rattle.writer.specs.Writings.{write_number, write_carries, writing_of, IsWritten}
-use Rattle.writer.specs.declared.finish.Finishing.{Finishing}
-use Rattle.writer.specs.declared.finish.Finishing.TheVariants as finishing
+use Rattle.writer.specs.declared.finish.FinishRefusal.{FinishRefusal}
 use Rattle.writer.specs.Finishings.{finish_number, finish_edition, finish_carries, finishing_of, IsFinished}
 use Rattle.lin.specs.declared.convert.Converted.{Converted}
-use Rattle.lin.specs.declared.convert.Converted.TheVariants.{Page}
-use Rattle.lin.specs.declared.convert.Converted.TheVariants as converted
+use Rattle.lin.specs.declared.convert.LinRefusal.{LinRefusal}
 use Rattle.lin.specs.Conversions.{lin_number, lin_carries, converted_of, IsConverted}
 use Rattle.golavimes.specs.declared.Head.{Head}
+use Rattle.tables.specs.declared.refusal.Refusal.{Refusal}
 
 -- A writer's answer: the value is the bytes written.
-abbrev pub written_numbers : Written → List ℕ
-written_numbers (Bytes n) = 0 ∷ 0 ∷ 0 ∷ n ∷ []
-written_numbers (written.Refused f) = refusal_number f ∷ 0 ∷ refusal_carries f ∷ 0 ∷ []
+abbrev pub written_numbers : Result ℕ Refusal → List ℕ
+written_numbers (Ok n) = 0 ∷ 0 ∷ 0 ∷ n ∷ []
+written_numbers (Err f) = refusal_number f ∷ 0 ∷ refusal_carries f ∷ 0 ∷ []
 
 -- A reader's answer has no values.
-abbrev pub decoded_numbers : Decoded → List ℕ
-decoded_numbers Table = 0 ∷ 0 ∷ 0 ∷ []
-decoded_numbers (decoded.Refused f) = refusal_number f ∷ 0 ∷ refusal_carries f ∷ []
+abbrev pub decoded_numbers : TableReading → List ℕ
+decoded_numbers (Ok cells) = 0 ∷ 0 ∷ 0 ∷ []
+decoded_numbers (Err f) = refusal_number f ∷ 0 ∷ refusal_carries f ∷ []
+
+-- The table that it leaves, all zero after a refusal.
+abbrev pub table_left : TableReading → List ℕ
+table_left (Ok cells) = cells
+table_left (Err f) = replicate 20 0
 
 -- An edition's answer: its boards and entries.
-abbrev pub reading_numbers : Reading → List ℕ
-reading_numbers (Taken boards entries) = 0 ∷ 0 ∷ 0 ∷ boards ∷ entries ∷ []
-reading_numbers (edition.Refused f) = read_number f ∷ 0 ∷ read_carries f ∷ 0 ∷ 0 ∷ []
+abbrev pub reading_numbers : Result Counts ReadRefusal → List ℕ
+reading_numbers (Ok n) = 0 ∷ 0 ∷ 0 ∷ n.boards ∷ n.entries ∷ []
+reading_numbers (Err f) = read_number f ∷ 0 ∷ read_carries f ∷ 0 ∷ 0 ∷ []
 
 -- A written edition's answer: the bytes written.
-abbrev pub writing_numbers : Writing → List ℕ
-writing_numbers (writing.Written n) = 0 ∷ 0 ∷ 0 ∷ n ∷ []
-writing_numbers (writing.Refused f) = write_number f ∷ 0 ∷ write_carries f ∷ 0 ∷ []
+abbrev pub writing_numbers : Result ℕ WriteRefusal → List ℕ
+writing_numbers (Ok n) = 0 ∷ 0 ∷ 0 ∷ n ∷ []
+writing_numbers (Err f) = write_number f ∷ 0 ∷ write_carries f ∷ 0 ∷ []
 
 -- A finished edition's answer: the bytes written.
-abbrev pub finishing_numbers : Finishing → List ℕ
-finishing_numbers (finishing.Finished n) = 0 ∷ 0 ∷ 0 ∷ n ∷ []
-finishing_numbers (finishing.Refused f) = finish_number f ∷ finish_edition f ∷ finish_carries f ∷ 0 ∷ []
+abbrev pub finishing_numbers : Result ℕ FinishRefusal → List ℕ
+finishing_numbers (Ok n) = 0 ∷ 0 ∷ 0 ∷ n ∷ []
+finishing_numbers (Err f) = finish_number f ∷ finish_edition f ∷ finish_carries f ∷ 0 ∷ []
 
 -- A converted LIN text's answer: the bytes written and the boards.
-abbrev pub converted_numbers : Converted → List ℕ
-converted_numbers (Page n boards) = 0 ∷ 0 ∷ 0 ∷ n ∷ boards ∷ []
-converted_numbers (converted.Refused f) = lin_number f ∷ 0 ∷ lin_carries f ∷ 0 ∷ 0 ∷ []
+abbrev pub converted_numbers : Result Converted LinRefusal → List ℕ
+converted_numbers (Ok k) = 0 ∷ 0 ∷ 0 ∷ k.bytes ∷ k.boards ∷ []
+converted_numbers (Err f) = lin_number f ∷ 0 ∷ lin_carries f ∷ 0 ∷ 0 ∷ []
 
 -- The first three numbers of planning's answers: refusal, edition (0 none, 1 old, 2 new), carried number.
 abbrev pub refused_head : PlanRefusal → Head
 refused_head f = record { refusal = plan_number f; edition = plan_edition f; carried = plan_carries f }
 
 abbrev pub editions_head : Editions → Head
-editions_head (Both m n) = record { refusal = 0; edition = 0; carried = 0 }
-editions_head (editions.Refused f) = refused_head (Edition f)
+editions_head (Ok n) = record { refusal = 0; edition = 0; carried = 0 }
+editions_head (Err f) = refused_head (Edition f)
 
 abbrev pub head_then : Head → List ℕ → List ℕ
 head_then h values = h.refusal ∷ h.edition ∷ h.carried ∷ values
 
 -- A plan's answer: the totals.
 abbrev pub plan_numbers : Planning → List ℕ
-plan_numbers (Planned t) = 0 ∷ 0 ∷ 0 ∷ t.boards ∷ t.blank ∷ t.own ∷ t.old ∷ t.near ∷ t.twin ∷ t.solve ∷ []
-plan_numbers (planning.Refused f) = head_then (refused_head f) (0 ∷ 0 ∷ 0 ∷ 0 ∷ 0 ∷ 0 ∷ 0 ∷ [])
+plan_numbers (Ok t) = 0 ∷ 0 ∷ 0 ∷ t.boards ∷ t.blank ∷ t.own ∷ t.old ∷ t.near ∷ t.twin ∷ t.solve ∷ []
+plan_numbers (Err f) = head_then (refused_head f) (0 ∷ 0 ∷ 0 ∷ 0 ∷ 0 ∷ 0 ∷ 0 ∷ [])
 
 -- A state's answer: its number (0 blank to 5 solve) and its source board.
 abbrev pub state_numbers : Editions → BoardState → List ℕ
 state_numbers r s = head_then (editions_head r) (state_number s ∷ from_of s ∷ [])
 
 -- A record's answer: the edition of the part (0 empty, 1 old, 2 new), its start and its length.
-abbrev pub part_numbers : Behind → List ℕ
-part_numbers (InOld a e) = 1 ∷ a ∷ (e - a) ∷ []
-part_numbers (InNew a e) = 2 ∷ a ∷ (e - a) ∷ []
-part_numbers Nothing = 0 ∷ 0 ∷ 0 ∷ []
+abbrev pub part_numbers : Option Behind → List ℕ
+part_numbers (Some b) = edition_number b.edition ∷ b.start ∷ (b.end - b.start) ∷ []
+part_numbers None = 0 ∷ 0 ∷ 0 ∷ []
 
-abbrev pub record_numbers : Editions → Behind → List ℕ
+abbrev pub record_numbers : Editions → Option Behind → List ℕ
 record_numbers r b = head_then (editions_head r) (part_numbers b)
 
 -- The boards of the new edition.
 abbrev pub new_boards : Editions → ℕ
-new_boards (Both m n) = n
-new_boards (editions.Refused f) = 0
+new_boards (Ok n) = n
+new_boards (Err f) = 0
 
 abbrev pub boards_numbers : Editions → List ℕ
 boards_numbers r = head_then (editions_head r) (new_boards r ∷ [])
@@ -121,15 +109,15 @@ pub record WroteOut (bs page page' answer' : List ℕ) (r : ℕ) : Type 0 where
 
 -- A table is read into a lent one, whatever that and the answer held.
 pub record ReadOut (reading : TableReading) (table' answer' : List ℕ) (r : ℕ) : Type 0 where
-  pub told : answer' ≡ decoded_numbers (table_read reading).answer
-  pub table_after : table' ≡ (table_read reading).table
+  pub told : answer' ≡ decoded_numbers reading
+  pub table_after : table' ≡ table_left reading
   pub returned : r ≡ get_or answer' 0 0
 
 -- A text is read into lent cards and entries, whatever they and the answer held.
 pub record EditionOut (c : Conventions) (text cards entries cards' entries' answer' : List ℕ) (r : ℕ) : Type 0 where
   pub told : answer' ≡ reading_numbers (reading_of c text (length cards) (length entries))
-  pub cards_after : cards' ≡ lent (is_taken (reading_of c text (length cards) (length entries))) (length cards) (cards_of c text)
-  pub entries_after : entries' ≡ lent (is_taken (reading_of c text (length cards) (length entries))) (length entries) (entries_of c text)
+  pub cards_after : cards' ≡ lent (is_ok (reading_of c text (length cards) (length entries))) (length cards) (cards_of c text)
+  pub entries_after : entries' ≡ lent (is_ok (reading_of c text (length cards) (length entries))) (length entries) (entries_of c text)
   pub returned : r ≡ get_or answer' 0 0
 
 -- A text is read and written on a lent page, whatever was lent and whatever it held.
@@ -141,33 +129,33 @@ pub record WritingOut (c : Conventions) (text cards entries page cards' entries'
 -- Two editions are planned, whatever was lent and whatever it held.
 pub record PlanOut (c : Conventions) (old new : List ℕ) (boxes : Boxes) (slips : List ℕ) (boxes' : Boxes) (slips' answer' : List ℕ) (r : ℕ) : Type 0 where
   pub told : answer' ≡ plan_numbers (planning_of c old new boxes (length slips))
-  pub boxes_left : BoxesAfter c (is_planned (planning_of c old new boxes (length slips))) old new boxes boxes'
-  pub slips_after : slips' ≡ lent (is_planned (planning_of c old new boxes (length slips))) (length slips) (slips_of (plans_of c old new))
+  pub boxes_left : BoxesAfter c (is_ok (planning_of c old new boxes (length slips))) old new boxes boxes'
+  pub slips_after : slips' ≡ lent (is_ok (planning_of c old new boxes (length slips))) (length slips) (slips_of (plans_of c old new))
   pub returned : r ≡ get_or answer' 0 0
 
 -- The state at a position.
 pub record StateOut (c : Conventions) (old new : List ℕ) (boxes boxes' : Boxes) (p : ℕ) (answer' : List ℕ) (r : ℕ) : Type 0 where
   pub told : answer' ≡ state_numbers (editions_of c old new boxes) (state_by (editions_of c old new boxes) (plans_of c old new) p)
-  pub boxes_left : BoxesAfter c (are_both (editions_of c old new boxes)) old new boxes boxes'
+  pub boxes_left : BoxesAfter c (is_ok (editions_of c old new boxes)) old new boxes boxes'
   pub returned : r ≡ get_or answer' 0 0
 
 -- The record behind the board at a position.
 pub record BehindOut (c : Conventions) (old new : List ℕ) (boxes boxes' : Boxes) (p : ℕ) (answer' : List ℕ) (r : ℕ) : Type 0 where
   pub told : answer' ≡ record_numbers (editions_of c old new boxes) (behind_by (editions_of c old new boxes) c old new p)
-  pub boxes_left : BoxesAfter c (are_both (editions_of c old new boxes)) old new boxes boxes'
+  pub boxes_left : BoxesAfter c (is_ok (editions_of c old new boxes)) old new boxes boxes'
   pub returned : r ≡ get_or answer' 0 0
 
 -- Every board's state and the record behind it.
 pub record BoardsOut (c : Conventions) (old new : List ℕ) (boxes : Boxes) (numbers : List ℕ) (boxes' : Boxes) (numbers' answer' : List ℕ) (r : ℕ) : Type 0 where
   pub told : answer' ≡ boards_numbers (editions_of c old new boxes)
-  pub boxes_left : BoxesAfter c (are_both (editions_of c old new boxes)) old new boxes boxes'
+  pub boxes_left : BoxesAfter c (is_ok (editions_of c old new boxes)) old new boxes boxes'
   pub numbers_after : numbers' ≡ boards_after (editions_of c old new boxes) c old new (length numbers)
   pub returned : r ≡ get_or answer' 0 0
 
 -- Every board's state and the words that its searches compare.
 pub record SearchesOut (c : Conventions) (old new : List ℕ) (boxes : Boxes) (numbers : List ℕ) (boxes' : Boxes) (numbers' answer' : List ℕ) (r : ℕ) : Type 0 where
   pub told : answer' ≡ searches_numbers (editions_of c old new boxes) (words_by (editions_of c old new boxes) c old new)
-  pub boxes_left : BoxesAfter c (are_both (editions_of c old new boxes)) old new boxes boxes'
+  pub boxes_left : BoxesAfter c (is_ok (editions_of c old new boxes)) old new boxes boxes'
   pub numbers_after : numbers' ≡ searches_after (editions_of c old new boxes) c old new (length numbers)
   pub returned : r ≡ get_or answer' 0 0
 

@@ -1,42 +1,36 @@
 // The boundary: thin functions on byte and number slices over the layers. golavimes_c exports them to C.
 #![tactic(auto)]
 
-ghost use Rattle.std.specs.Prelude.{◌≡◌, ◌-◌, get_or};
-ghost use Rattle.golavimes.specs.Answers.{written_numbers, decoded_numbers, reading_numbers, writing_numbers, converted_numbers, finishing_numbers, refused_head, editions_head, plan_numbers, state_numbers, record_numbers, boards_numbers, searches_numbers, WroteOut, ReadOut, EditionOut, WritingOut, LinOut, PlanOut, StateOut, BehindOut, BoardsOut, SearchesOut, FinishOut};
+ghost use Rattle.std.specs.Prelude.{◌≡◌, get_or};
+ghost use Rattle.golavimes.specs.Answers.{written_numbers, decoded_numbers, table_left, reading_numbers, writing_numbers, converted_numbers, finishing_numbers, refused_head, editions_head, plan_numbers, state_numbers, record_numbers, boards_numbers, searches_numbers, WroteOut, ReadOut, EditionOut, WritingOut, LinOut, PlanOut, StateOut, BehindOut, BoardsOut, SearchesOut, FinishOut};
 ghost use Rattle.tables.specs.Letters.{built_in};
 ghost use Rattle.tables.specs.Tables.{digits_text, header_text, rows_text, table_of_digits, table_of_rows};
 
-use lin::convert::Converted;
+use lin::convert::{Converted, LinRefusal};
 use planning::behind::Behind;
 use planning::editions::Editions;
 use planning::plan::{PlanRefusal, Planning};
 use planning::state::BoardState;
-use reader::edition::Reading;
-use tables::dd::{Decoded, TableRead};
-use tables::page::Written;
-use writer::finish::Finishing;
-use writer::write::Writing;
+use reader::edition::{Counts, ReadRefusal};
+use tables::refusal::Refusal;
+use writer::finish::FinishRefusal;
+use writer::write::WriteRefusal;
 
-fn written_numbers(w: Written) -> [u64; 4]
-    ensures { result ≡ written_numbers w }
+fn written_numbers(written: Result<u64, Refusal>) -> [u64; 4]
+    ensures { result ≡ written_numbers written }
 {
-    match w {
-        Written::Bytes(n) => [0, 0, 0, n],
-        Written::Refused(f) => [
-            tables::refusal::number(f),
-            0,
-            tables::refusal::carried(f),
-            0,
-        ],
+    match written {
+        Ok(bytes) => [0, 0, 0, bytes],
+        Err(f) => [f.number(), 0, f.carried(), 0],
     }
 }
 
-fn decoded_numbers(d: Decoded) -> [u64; 3]
-    ensures { result ≡ decoded_numbers d }
+fn decoded_numbers(read: Result<[u8; 20], Refusal>) -> [u64; 3]
+    ensures { result ≡ decoded_numbers read }
 {
-    match d {
-        Decoded::Table => [0, 0, 0],
-        Decoded::Refused(f) => [tables::refusal::number(f), 0, tables::refusal::carried(f)],
+    match read {
+        Ok(_) => [0, 0, 0],
+        Err(f) => [f.number(), 0, f.carried()],
     }
 }
 
@@ -75,14 +69,15 @@ pub fn golavimes_optimum_result_table_rows(
     numbers[0]
 }
 
-// Hands a table that was read to the caller's.
-fn hand_out(read: TableRead, table: &mut [u8; 20], answer: &mut [u64; 3]) -> u64
-    ensures { (table.new ≡ read.table) × (answer.new ≡ decoded_numbers read.answer) × (result ≡ get_or (decoded_numbers read.answer) 0 0) }
+// Hands a table that was read to the caller's: zeros after a refusal.
+fn hand_out(read: Result<[u8; 20], Refusal>, table: &mut [u8; 20], answer: &mut [u64; 3]) -> u64
+    ensures { (table.new ≡ table_left read) × (answer.new ≡ decoded_numbers read) × (result ≡ get_or (decoded_numbers read) 0 0) }
 {
-    let cells = read.table;
-    let told = read.answer;
-    let numbers = decoded_numbers(told);
-    *table = cells;
+    let numbers = decoded_numbers(read);
+    *table = match read {
+        Ok(cells) => cells,
+        Err(_) => [0; 20],
+    };
     *answer = numbers;
     numbers[0]
 }
@@ -109,12 +104,12 @@ pub fn golavimes_optimum_result_table_from_rows(
     )
 }
 
-fn reading_numbers(r: Reading) -> [u64; 5]
+fn reading_numbers(r: Result<Counts, ReadRefusal>) -> [u64; 5]
     ensures { result ≡ reading_numbers r }
 {
     match r {
-        Reading::Taken(boards, entries) => [0, 0, 0, boards, entries],
-        Reading::Refused(f) => [
+        Ok(counts) => [0, 0, 0, counts.boards as u64, counts.entries as u64],
+        Err(f) => [
             reader::edition::read_number(f),
             0,
             reader::edition::read_carried(f),
@@ -138,12 +133,12 @@ pub fn golavimes_read(
     numbers[0]
 }
 
-fn writing_numbers(w: Writing) -> [u64; 4]
+fn writing_numbers(w: Result<u64, WriteRefusal>) -> [u64; 4]
     ensures { result ≡ writing_numbers w }
 {
     match w {
-        Writing::Written(n) => [0, 0, 0, n],
-        Writing::Refused(f) => [
+        Ok(n) => [0, 0, 0, n],
+        Err(f) => [
             writer::write::write_number(f),
             0,
             writer::write::write_carried(f),
@@ -167,12 +162,12 @@ pub fn golavimes_write(
     numbers[0]
 }
 
-fn converted_numbers(r: Converted) -> [u64; 5]
+fn converted_numbers(r: Result<Converted, LinRefusal>) -> [u64; 5]
     ensures { result ≡ converted_numbers r }
 {
     match r {
-        Converted::Page(bytes, boards) => [0, 0, 0, bytes, boards],
-        Converted::Refused(f) => [
+        Ok(page) => [0, 0, 0, page.bytes, page.boards],
+        Err(f) => [
             lin::convert::lin_number(f),
             0,
             lin::convert::lin_carried(f),
@@ -275,8 +270,8 @@ fn state_numbers(r: Editions, s: BoardState) -> [u64; 5]
         h.refusal,
         h.edition,
         h.carried,
-        planning::state::state_number(s),
-        planning::state::from_of(s),
+        s.number(),
+        s.source(),
     ]
 }
 
@@ -312,24 +307,20 @@ pub fn golavimes_state(
     numbers[0]
 }
 
-// e - a, or 0.
-fn less(e: u64, a: u64) -> u64
-    ensures { result ≡ e - a }
-{
-    if e <= a {
-        return 0;
-    }
-    e - a
-}
-
-fn behind_numbers(r: Editions, b: Behind) -> [u64; 6]
+fn behind_numbers(r: Editions, b: Option<Behind>) -> [u64; 6]
     ensures { result ≡ record_numbers r b }
 {
     let h = editions_head(r);
     match b {
-        Behind::InOld(a, e) => [h.refusal, h.edition, h.carried, 1, a, less(e, a)],
-        Behind::InNew(a, e) => [h.refusal, h.edition, h.carried, 2, a, less(e, a)],
-        Behind::Nothing => [h.refusal, h.edition, h.carried, 0, 0, 0],
+        Some(p) => [
+            h.refusal,
+            h.edition,
+            h.carried,
+            p.edition.number(),
+            p.start,
+            p.end.saturating_sub(p.start),
+        ],
+        None => [h.refusal, h.edition, h.carried, 0, 0, 0],
     }
 }
 
@@ -446,12 +437,12 @@ pub fn golavimes_searches(
     numbers[0]
 }
 
-fn finishing_numbers(w: Finishing) -> [u64; 4]
+fn finishing_numbers(w: Result<u64, FinishRefusal>) -> [u64; 4]
     ensures { result ≡ finishing_numbers w }
 {
     match w {
-        Finishing::Finished(n) => [0, 0, 0, n],
-        Finishing::Refused(f) => [
+        Ok(bytes) => [0, 0, 0, bytes],
+        Err(f) => [
             writer::finish::finish_number(f),
             writer::finish::finish_edition(f),
             writer::finish::finish_carried(f),

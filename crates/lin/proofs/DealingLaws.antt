@@ -16,11 +16,9 @@ use Rattle.tables.proofs.Laws.{by_cases, both, either, neither, clash, step, sto
 use Rattle.tables.proofs.RowLaws.{every_append}
 use Rattle.std.specs.Prelude.{Option, Some, None, option_and_then}
 use Rattle.reader.specs.declared.deal.Hands.{Hands}
-use Rattle.reader.specs.declared.deal.HandRead.{HandRead}
-use Rattle.reader.specs.declared.deal.HandRead.TheVariants.{Held as Placed, NoHand}
 use Rattle.reader.specs.Words.{card_number}
 use Rattle.reader.specs.Deals.{bit, has, hand_bits, ones, card_count, Proper}
-use Rattle.reader.specs.DealSteps.{place}
+use Rattle.reader.specs.DealSteps.{HandRead, place}
 use Rattle.reader.proofs.DealLaws.{never_held, all_dealt}
 use Rattle.reader.proofs.CardSets.{bit_small, bit_high, times, times_append, distinct_times, times_distinct, distinct_front, distinct_back, bit_total, in_pack, total_below, count_total, count_deck, place_all, place_sum, place_append, down, down_none, down_more, total_deck, times_deck, count_down, among_times}
 use Rattle.lin.specs.declared.dealing.LinHand.{LinHand}
@@ -211,21 +209,21 @@ pack_hand : (c : Conventions) (field : List ℕ) → every in_pack (hand_of c fi
 unfolding hand_of
 pack_hand c field = pack_cards c 4 (characters field)
 
-counted_held : (r : HandRead) (m : ℕ) {h : LinHand} → held_count m r ≡ Some h → (r ≡ Placed h.cards) × (m ≡ h.count)
-counted_held (Placed z) m {h} e =
+counted_held : (r : HandRead) (m : ℕ) {h : LinHand} → held_count m r ≡ Some h → (r ≡ Some h.cards) × (m ≡ h.count)
+counted_held (Some z) m {h} e =
     let k : ◌≡◌ {A = LinHand} (record { cards = z; count = m }) h = cc in
-    (ap (λ (x : LinHand). Placed x.cards) k, ap (λ (x : LinHand). x.count) k)
-counted_held NoHand m e = let z : ◌≡◌ {A = ℕ} 0 1 = cc in absurd (omega arith)
+    (ap (λ (x : LinHand). Some x.cards) k, ap (λ (x : LinHand). x.count) k)
+counted_held None m e = let z : ◌≡◌ {A = ℕ} 0 1 = cc in absurd (omega arith)
 
-counted_none : (r : HandRead) (m : ℕ) → held_count m r ≡ None → r ≡ NoHand
-counted_none (Placed z) m e = let z : ◌≡◌ {A = ℕ} 0 1 = cc in absurd (omega arith)
-counted_none NoHand m e = refl
+counted_none : (r : HandRead) (m : ℕ) → held_count m r ≡ None → r ≡ None
+counted_none (Some z) m e = let z : ◌≡◌ {A = ℕ} 0 1 = cc in absurd (omega arith)
+counted_none None m e = refl
 
-read_held : (x : ℕ) (ks : List ℕ) {h : LinHand} → hand_read x ks ≡ Some h → (place x ks ≡ Placed h.cards) × (length ks ≡ h.count)
+read_held : (x : ℕ) (ks : List ℕ) {h : LinHand} → hand_read x ks ≡ Some h → (place x ks ≡ Some h.cards) × (length ks ≡ h.count)
 unfolding hand_read
 read_held x ks e = counted_held (place x ks) (length ks) e
 
-read_none : (x : ℕ) (ks : List ℕ) → hand_read x ks ≡ None → place x ks ≡ NoHand
+read_none : (x : ℕ) (ks : List ℕ) → hand_read x ks ≡ None → place x ks ≡ None
 unfolding hand_read
 read_none x ks e = counted_none (place x ks) (length ks) e
 
@@ -236,7 +234,7 @@ and_off false b e = refl
 abbrev of_hands : List ℕ → List ℕ → List ℕ → List ℕ → Dealing
 of_hands s w n e = record { dealer = 0; north = n; east = e; south = s; west = w }
 
-undealt : (s w n e : List ℕ) → place 0 (s ++ (w ++ (n ++ e))) ≡ NoHand → None ≡ dealt_as (of_hands s w n e)
+undealt : (s w n e : List ℕ) → place 0 (s ++ (w ++ (n ++ e))) ≡ None → None ≡ dealt_as (of_hands s w n e)
 undealt s w n e h =
     by_cases (distinct (s ++ (w ++ (n ++ e))))
     (λ t. never_held (sym (rw (place_all (s ++ (w ++ (n ++ e))), t) at h)))
@@ -352,7 +350,7 @@ module _ (c : Conventions) (s w n e : List ℕ) where
             let lk : length north ≡ 13 = (read_held b north h).1 ∙ eqb-true k 13 q.1 in
             let held = south ++ (west ++ north) in
             let y : east ≡ unheld held 52 = east_all c e south west north (rw (o.0, li, lj, lk)) in
-            let z : place 0 held ≡ Placed d = two_placed north ∙ (read_held b north h).0 in
+            let z : place 0 held ≡ Some d = two_placed north ∙ (read_held b north h).0 in
             let once = all_dealt held z in
             let pack = every_append in_pack south (west ++ north) (pack_hand c s) (every_append in_pack west north (pack_hand c w) (pack_hand c n)) in
             let sa = place_sum 0 south (read_held 0 south f).0 in

@@ -1,11 +1,10 @@
 -- The answers of converting a LIN text, and its contract.
-use Rattle.std.specs.Prelude.{ℕ, ◌≡◌, Bool, true, false, cond, ◌&&◌, List, leb, ltb, length}
+use Rattle.std.specs.Prelude.{ℕ, ◌≡◌, Bool, cond, ◌&&◌, List, leb, ltb, length, Result, Ok, Err, is_ok}
 use Rattle.tables.specs.declared.letters.Conventions.{Conventions}
 use Rattle.writer.specs.Writings.{page_after}
 use Rattle.lin.specs.declared.convert.LinRefusal.{LinRefusal}
 use Rattle.lin.specs.declared.convert.LinRefusal.TheVariants.{Overlong, NoDeal, PageFull}
 use Rattle.lin.specs.declared.convert.Converted.{Converted}
-use Rattle.lin.specs.declared.convert.Converted.TheVariants.{Page, Refused}
 use Rattle.lin.specs.LinBoards.{LinBoard, lin_boards, any_card, all_deals, lin_text}
 
 -- ---- refusals: 1 overlong (the text's length), 16 no deal (0), 7 page full (the bytes needed)
@@ -27,22 +26,18 @@ abbrev pub gives_deals : List LinBoard → Bool
 gives_deals bs = any_card bs && all_deals bs
 
 -- For n bytes of some boards on a page of m.
-abbrev pub lin_page_answer : ℕ → ℕ → ℕ → Converted
-lin_page_answer n boards m = cond (leb n m) (Page n boards) (Refused (PageFull n))
+abbrev pub lin_page_answer : ℕ → ℕ → ℕ → Result Converted LinRefusal
+lin_page_answer n boards m = cond (leb n m) (Ok (record { bytes = n; boards = boards })) (Err (PageFull n))
 
 -- For a text, with a page of m bytes.
-unfoldable pub converted_of : Conventions → List ℕ → ℕ → Converted
+unfoldable pub converted_of : Conventions → List ℕ → ℕ → Result Converted LinRefusal
 converted_of c text m =
-    cond (ltb 16777215 (length text)) (Refused (Overlong (length text)))
-    (cond (gives_deals (lin_boards c text)) (lin_page_answer (length (lin_text c text)) (length (lin_boards c text)) m) (Refused NoDeal))
-
-abbrev pub is_converted : Converted → Bool
-is_converted (Page n boards) = true
-is_converted (Refused f) = false
+    cond (ltb 16777215 (length text)) (Err (Overlong (length text)))
+    (cond (gives_deals (lin_boards c text)) (lin_page_answer (length (lin_text c text)) (length (lin_boards c text)) m) (Err NoDeal))
 
 -- ---- the contract
 
 -- The answer, and every byte of the page: the text and zeros behind it, nothing but zeros after a refusal.
-pub record IsConverted (c : Conventions) (text page : List ℕ) (r : Converted) (page' : List ℕ) : Type 0 where
+pub record IsConverted (c : Conventions) (text page : List ℕ) (r : Result Converted LinRefusal) (page' : List ℕ) : Type 0 where
   pub answer : r ≡ converted_of c text (length page)
-  pub page_left : page' ≡ page_after (is_converted r) (lin_text c text) (length page)
+  pub page_left : page' ≡ page_after (is_ok r) (lin_text c text) (length page)

@@ -4,8 +4,6 @@ use Rattle.tables.specs.declared.letters.Conventions.{Conventions}
 use Rattle.tables.specs.Text.{before, single}
 use Rattle.tables.specs.Letters.{suit_of, rank_of}
 use Rattle.reader.specs.declared.deal.Hands.{Hands}
-use Rattle.reader.specs.declared.deal.HandRead.{HandRead}
-use Rattle.reader.specs.declared.deal.HandRead.TheVariants.{Held as Placed, NoHand}
 use Rattle.reader.specs.Words.{card_number}
 use Rattle.reader.specs.Deals.{has}
 use Rattle.reader.specs.DealSteps.{place}
@@ -42,9 +40,9 @@ abbrev pub start_part : ℕ → LinPart
 start_part x = record { cards = x; count = 0; suit = 4 }
 
 -- The cards of a hand put to the cards x of the hands before it, and counted.
-abbrev pub held_count : ℕ → HandRead → Option LinHand
-held_count n (Placed x) = Some (record { cards = x; count = n })
-held_count n NoHand = None
+abbrev pub held_count : ℕ → Option ℕ → Option LinHand
+held_count n (Some x) = Some (record { cards = x; count = n })
+held_count n None = None
 
 unfoldable pub hand_read : ℕ → List ℕ → Option LinHand
 hand_read x ks = held_count (length ks) (place x ks)

@@ -59,7 +59,7 @@ pub(crate) fn call_in(c: Conventions, value: &[u8]) -> u8
     if same_word(b"R", t) {
         return XX;
     }
-    call_code(c, t)
+    call_code(c, t).unwrap_or(47)
 }
 
 // The call of a pair, where it is one.

@@ -10,18 +10,18 @@ use tables::page::{Page, finish};
 use writer::write::clear;
 
 // 1 with the text's length, 16, and 7 with the bytes needed; specs/Conversions.antt gives the numbers.
-#[derive(Clone, Copy)]
+#[derive(Clone, Copy, Debug, PartialEq, Eq)]
 pub enum LinRefusal {
     Overlong(u64),
     NoDeal,
     PageFull(u64),
 }
 
-// The bytes written and the boards, or a refusal, which leaves the page zero.
-#[derive(Clone, Copy)]
-pub enum Converted {
-    Page(u64, u64),
-    Refused(LinRefusal),
+// A text that was converted: the bytes written and the boards.
+#[derive(Clone, Copy, Debug, PartialEq, Eq)]
+pub struct Converted {
+    pub bytes: u64,
+    pub boards: u64,
 }
 
 pub fn lin_number(f: LinRefusal) -> u64
@@ -45,31 +45,38 @@ pub fn lin_carried(f: LinRefusal) -> u64
 }
 
 // The answer for what was put, n bytes; the page is set to 0 where it is a refusal.
-fn end_converting(put: Option<Progress>, n: usize, page: &mut [u8]) -> Converted
+fn end_converting(put: Option<Progress>, n: usize, page: &mut [u8]) -> Result<Converted, LinRefusal>
     ensures { ConvertingEnded put n page.old result page.new }
 {
     if let Some(g) = put {
         if g.any {
             if n <= page.len() {
-                finish(page, n);
-                return Converted::Page(n as u64, g.boards);
+                let _ = finish(page, n);
+                return Ok(Converted {
+                    bytes: n as u64,
+                    boards: g.boards,
+                });
             }
             clear(page);
-            return Converted::Refused(LinRefusal::PageFull(n as u64));
+            return Err(LinRefusal::PageFull(n as u64));
         }
     }
     clear(page);
-    Converted::Refused(LinRefusal::NoDeal)
+    Err(LinRefusal::NoDeal)
 }
 
-// Converts a text, by the given conventions.
-pub fn lin_to_pbn_with(c: Conventions, text: &[u8], page: &mut [u8]) -> Converted
+// Converts a text, by the given conventions. A refusal leaves the page zero.
+pub fn lin_to_pbn_with(
+    c: Conventions,
+    text: &[u8],
+    page: &mut [u8],
+) -> Result<Converted, LinRefusal>
     ensures { IsConverted c text.now page.old result page.new }
 {
     let n = text.len();
     if 16777215 < n {
         clear(page);
-        return Converted::Refused(LinRefusal::Overlong(n as u64));
+        return Err(LinRefusal::Overlong(n as u64));
     }
     let mut out = Page::new(page);
     let put = put_boards(&mut out, c, text);
@@ -78,7 +85,7 @@ pub fn lin_to_pbn_with(c: Conventions, text: &[u8], page: &mut [u8]) -> Converte
 }
 
 // Converts a text.
-pub fn lin_to_pbn(text: &[u8], page: &mut [u8]) -> Converted
+pub fn lin_to_pbn(text: &[u8], page: &mut [u8]) -> Result<Converted, LinRefusal>
     ensures { IsConverted built_in text.now page.old result page.new }
 {
     lin_to_pbn_with(built_in(), text, page)

@@ -76,11 +76,10 @@ fn hand_step(c: Conventions, h: LinPart, b: u8) -> Option<LinPart>
     if suit < 4 {
         return Some(LinPart { suit, ..h });
     }
-    let k = card_number(h.suit, rank_of(c, b));
-    if k < 52 {
-        return card_to(h, k);
-    }
-    Some(h)
+    let Some(k) = card_number(h.suit, rank_of(c, b)) else {
+        return Some(h);
+    };
+    card_to(h, k)
 }
 
 // The characters that start in s, which follows a hand's first byte.

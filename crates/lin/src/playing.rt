@@ -20,7 +20,7 @@ pub(crate) fn card_in(c: Conventions, t: &[u8]) -> u8
     ensures { (result ≡ card_in c t.now) × (result ≤ 52) }
 {
     if t.len() == 2 {
-        return card_named(c, t);
+        return card_named(c, t).unwrap_or(52);
     }
     52
 }

@@ -2,10 +2,10 @@
 #![tactic(auto)]
 
 use listing_text::listing::list;
+use planning::editions::LentBoxes;
 use std::io::{Read, Write};
 use std::rt::Files;
 use std::{fs, io};
-use tables::page::Written;
 use tables::text::upto;
 
 // What a file holds; a file that is not opened is empty. An edition may have 16,384 bytes: one more is read, so that a longer file is seen.
@@ -28,20 +28,16 @@ fn print_listing(rt: &impl Print, old: &[u8], new: &[u8]) -> io::Result<()> {
     let mut new_entries = [0u32; 8192];
     let mut slips = [0u64; 640];
     let mut page = [0u8; 8192];
-    let written = list(
-        old,
-        new,
-        16384,
-        &mut old_cards,
-        &mut old_entries,
-        &mut new_cards,
-        &mut new_entries,
-        &mut slips,
-        &mut page,
-    );
+    let mut boxes = LentBoxes {
+        old_cards: &mut old_cards,
+        old_entries: &mut old_entries,
+        new_cards: &mut new_cards,
+        new_entries: &mut new_entries,
+    };
+    let written = list(old, new, 16384, &mut boxes, &mut slips, &mut page);
     match written {
-        Written::Bytes(n) => io::writer(rt).write_all(upto(&page, n as usize)),
-        Written::Refused(_) => Ok(()),
+        Ok(n) => io::writer(rt).write_all(upto(&page, n as usize)),
+        Err(_) => Ok(()),
     }
 }
 

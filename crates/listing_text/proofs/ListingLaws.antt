@@ -5,34 +5,28 @@ use mathlib.Core.Bool.{Bool, true, false, cond}
 use mathlib.Core.List.{List, ◌++◌}
 use native.Mathlib.Omega.{arith}
 use lib.Dec.{ltb, leb}
-use lib.ListN.{length, replicate, length-replicate}
+use lib.ListN.{length, take, replicate, length-replicate}
 use lib.Seq.{length-sets}
+use Rattle.std.specs.Prelude.{is_ok, Ok, Err, Result}
 use Rattle.tables.specs.declared.letters.Conventions.{Conventions}
-use Rattle.tables.specs.declared.page.Written.{Written}
 use Rattle.tables.specs.Page.{Wrote}
 use Rattle.tables.specs.PageSteps.{Put}
 use Rattle.tables.proofs.Laws.{by_cases, clash}
 use Rattle.tables.proofs.PageLaws.{ToPut, to_put, putting, put_all_lem, finished}
 use Rattle.reader.specs.Store.{zeros, put_all, lent}
-use Rattle.reader.specs.Editions.{is_taken, reading_of}
+use Rattle.reader.specs.Editions.{reading_of}
 use Rattle.reader.proofs.StoreLaws.{Blocks, put_zeros}
 use Rattle.reader.proofs.Counts.{TextBoardsFew}
 use Rattle.planning.specs.declared.state.BoardState.{BoardState}
 use Rattle.planning.specs.declared.editions.EditionsRefusal.{EditionsRefusal}
 use Rattle.planning.specs.declared.plan.PlanRefusal.{PlanRefusal}
 use Rattle.planning.specs.declared.plan.PlanRefusal.TheVariants.{Edition}
-use Rattle.planning.specs.declared.editions.Editions.{Editions}
-use Rattle.planning.specs.declared.editions.Editions.TheVariants.{Both}
-use Rattle.planning.specs.declared.editions.Editions.TheVariants as editions
+use Rattle.planning.specs.declared.editions.Both.{Both}
 use Rattle.planning.specs.declared.plan.Totals.{Totals}
-use Rattle.planning.specs.declared.plan.Planning.{Planning}
-use Rattle.planning.specs.declared.plan.Planning.TheVariants.{Planned}
-use Rattle.planning.specs.declared.plan.Planning.TheVariants as planning
-use Rattle.planning.specs.Cards.{card_here}
 use Rattle.planning.specs.PlanSteps.{cards_in, BoxesKept, PlanEnded}
 use Rattle.planning.specs.States.{BoardPlan, board_plans, state_of}
-use Rattle.planning.specs.Slips.{slips_of, totals_of}
-use Rattle.planning.specs.Plans.{Boxes, editions_of, are_both, plans_of, slips_answer, planned_by, is_planned, BoxesAfter, BothRead}
+use Rattle.planning.specs.Slips.{slips_of, totals_of, card_from}
+use Rattle.planning.specs.Plans.{Boxes, editions_of, plans_of, slips_answer, planned_by, BoxesAfter, BothRead, Editions, Planning}
 use Rattle.listing_text.specs.Limited.{limited_of, limited_both}
 use Rattle.listing_text.specs.ListingSteps.{BothLimited, Countable, PageKept, BoardsOnPage}
 use Rattle.listing_text.specs.Listing.{board_line, listing_lines, total_line, refused_line, list_text, listing_plan, well_on, ListingFor, IsListing}
@@ -41,10 +35,11 @@ use Rattle.planning.proofs.BoardLaws.{boards_left, left_first, left_step, left_n
 use Rattle.planning.proofs.PlanLaws.{count_few}
 use Rattle.planning.proofs.SlipLaws.{slips_count, slips_five}
 use Rattle.planning.proofs.AnswerLaws.{SameRoom, boxes_kept, listed_fits, solve_sum, there, boards_are}
+use Rattle.tables.specs.declared.refusal.Refusal.{Refusal}
 
 -- ---- two editions that were taken are within the limit
 
-pub limited_taken : (c : Conventions) (limit : ℕ) (text : List ℕ) (lc le : ℕ) → is_taken (limited_of c limit text lc le) ≡ true → limited_of c limit text lc le ≡ reading_of c text lc le
+pub limited_taken : (c : Conventions) (limit : ℕ) (text : List ℕ) (lc le : ℕ) → is_ok (limited_of c limit text lc le) ≡ true → limited_of c limit text lc le ≡ reading_of c text lc le
 unfolding limited_of
 limited_taken c limit text lc le h =
     by_cases (ltb limit (length text))
@@ -57,7 +52,7 @@ record TakenBoth (c : Conventions) (limit : ℕ) (old new : List ℕ) (boxes : B
   old_short : length old ≤ 16777215
   new_short : length new ≤ 16777215
 
-taken_both : (c : Conventions) (limit : ℕ) (old new : List ℕ) (boxes : Boxes) → are_both (limited_both c limit old new boxes) ≡ true → TakenBoth c limit old new boxes
+taken_both : (c : Conventions) (limit : ℕ) (old new : List ℕ) (boxes : Boxes) → is_ok (limited_both c limit old new boxes) ≡ true → TakenBoth c limit old new boxes
 unfolding limited_both editions_of
 taken_both c limit old new boxes h =
     let lc = length boxes.old_cards in
@@ -69,19 +64,20 @@ taken_both c limit old new boxes h =
     let en = limited_taken c limit new nc ne t.1 in
     record {
       plain = rw (eo, en);
-      old_short = taken_short c old lc le (sym (ap is_taken eo) ∙ t.0);
-      new_short = taken_short c new nc ne (sym (ap is_taken en) ∙ t.1);
+      old_short = taken_short c old lc le (sym (ap is_ok eo) ∙ t.0);
+      new_short = taken_short c new nc ne (sym (ap is_ok en) ∙ t.1);
     }
 
 module _ {c : Conventions} {limit : ℕ} {old new : List ℕ} {boxes boxes' : Boxes} {r : Editions} (b : BothLimited c limit old new boxes boxes' r) where
-  within : {m n : ℕ} → r ≡ Both m n → TakenBoth c limit old new boxes
-  within e = taken_both c limit old new boxes (sym (ap are_both b.answer) ∙ ap are_both e)
+  within : {n : Both} → r ≡ Ok n → TakenBoth c limit old new boxes
+  within e = taken_both c limit old new boxes (sym (ap is_ok b.answer) ∙ ap is_ok e)
 
-  pub limited_both_lem : {m n : ℕ} → r ≡ Both m n → BothRead c old new boxes boxes' r
+  pub limited_both_lem : {n : Both} → r ≡ Ok n → BothRead c old new boxes boxes' r
   limited_both_lem e = record { answer = b.answer ∙ (within e).plain; boxes_left = b.boxes_left }
 
   -- The lent cards are there, and few.
-  pub limited_room : {m n : ℕ} → r ≡ Both m n → (64 * m ≤ length boxes'.old_cards) × (64 * n ≤ length boxes'.new_cards) × (m ≤ 16777215) × (n ≤ 16777215)
+  pub limited_room : {n : Both} → r ≡ Ok n
+      → (64 * n.old.boards ≤ length boxes'.old_cards) × (64 * n.new.boards ≤ length boxes'.new_cards) × (n.old.boards ≤ 16777215) × (n.new.boards ≤ 16777215)
   limited_room e =
       let t = there (limited_both_lem e) e in (
         t.0.room,
@@ -92,28 +88,27 @@ module _ {c : Conventions} {limit : ℕ} {old new : List ℕ} {boxes boxes' : Bo
 
 -- ---- the lines of all boards, one after the other
 
-pub record Lines (os : List (List ℕ)) (n : ℕ) (box page₀ page : List ℕ) (at k : ℕ) : Type 0 where
-  pub inside : k ≤ n
+pub record Lines (os ns : List (List ℕ)) (page₀ page : List ℕ) (at k : ℕ) : Type 0 where
+  pub inside : k ≤ length ns
   pub low : at ≤ 60 * k
-  pub left : ToPut page₀ 0 (listing_lines (board_plans os (cards_in n box))) page at (listing_lines (boards_left os (cards_in n box) k n box))
+  pub left : ToPut page₀ 0 (listing_lines (board_plans os ns)) page at (listing_lines (boards_left os ns k))
 
-pub lines_first : (os : List (List ℕ)) (n : ℕ) (box page : List ℕ) → Lines os n box page page 0 0
-lines_first os n box page =
+pub lines_first : (os ns : List (List ℕ)) (page : List ℕ) → Lines os ns page page 0 0
+lines_first os ns page =
     record {
       inside = omega arith;
       low = omega arith;
-      left = subst (λ (js : List BoardPlan). ToPut page 0 (listing_lines (board_plans os (cards_in n box))) page 0 (listing_lines js)) (left_first os n box) (to_put page 0 (listing_lines (board_plans os (cards_in n box))));
+      left = subst (λ (js : List BoardPlan). ToPut page 0 (listing_lines (board_plans os ns)) page 0 (listing_lines js)) (left_first os ns) (to_put page 0 (listing_lines (board_plans os ns)));
     }
 
-module _ {os : List (List ℕ)} {n : ℕ} {box page₀ page : List ℕ} {at k : ℕ} (i : Lines os n box page₀ page at k) where
-  pub lines_next : {p : ℕ} {s : BoardState} {page' : List ℕ} {at' : ℕ} → k < n → p ≡ k + 1 → s ≡ state_of os (cards_in n box) (cards_in k box) (card_here k box)
-      → Put page at (board_line p s) page' at' → at' ≤ at + 60 → Lines os n box page₀ page' at' (k + 1)
+module _ {os ns : List (List ℕ)} {page₀ page : List ℕ} {at k : ℕ} (i : Lines os ns page₀ page at k) where
+  pub lines_next : {p : ℕ} {s : BoardState} {page' : List ℕ} {at' : ℕ} → k < length ns → p ≡ k + 1 → s ≡ state_of os ns (take k ns) (card_from ns k)
+      → Put page at (board_line p s) page' at' → at' ≤ at + 60 → Lines os ns page₀ page' at' (k + 1)
   lines_next {p} {s} {page'} {at'} h ep es w hl =
-      let ns = cards_in n box in
       let all = listing_lines (board_plans os ns) in
-      let rest = listing_lines (boards_left os ns (k + 1) n box) in
-      let here = board_line (k + 1) (state_of os ns (cards_in k box) (card_here k box)) in
-      let l : ToPut page₀ 0 all page at (here ++ rest) = subst (λ (js : List BoardPlan). ToPut page₀ 0 all page at (listing_lines js)) (left_step os ns k n box h) i.left in
+      let rest = listing_lines (boards_left os ns (k + 1)) in
+      let here = board_line (k + 1) (state_of os ns (take k ns) (card_from ns k)) in
+      let l : ToPut page₀ 0 all page at (here ++ rest) = subst (λ (js : List BoardPlan). ToPut page₀ 0 all page at (listing_lines js)) (left_step os ns k h) i.left in
       let w' : Put page at here page' at' = rw (ep, es) at w in
       record {
         inside = omega arith;
@@ -121,11 +116,10 @@ module _ {os : List (List ℕ)} {n : ℕ} {box page₀ page : List ℕ} {at k : 
         left = putting here rest l w';
       }
 
-  pub lines_end : n ≤ k → Put page₀ 0 (listing_lines (board_plans os (cards_in n box))) page at × (at ≤ 60 * n)
+  pub lines_end : length ns ≤ k → Put page₀ 0 (listing_lines (board_plans os ns)) page at × (at ≤ 60 * length ns)
   lines_end h =
-      let ns = cards_in n box in
       let all = listing_lines (board_plans os ns) in (
-        put_all_lem (subst (λ (js : List BoardPlan). ToPut page₀ 0 all page at (listing_lines js)) (left_none os ns k n box h) i.left),
+        put_all_lem (subst (λ (js : List BoardPlan). ToPut page₀ 0 all page at (listing_lines js)) (left_none os ns k h) i.left),
         omega (arith, i.low, i.inside),
       )
 
@@ -144,27 +138,27 @@ totals_low js h = record {
 }
 
 abbrev totals_in : Planning → Totals → Totals
-totals_in (Planned t) d = t
-totals_in (planning.Refused f) d = d
+totals_in (Ok t) d = t
+totals_in (Err f) d = d
 
 -- The totals are those of the boards.
-listed_totals : (l : ℕ) {t u : Totals} → Planned u ≡ slips_answer l t → u ≡ t
+listed_totals : (l : ℕ) {t u : Totals} → Ok u ≡ slips_answer l t → u ≡ t
 listed_totals l {t} {u} h =
     by_cases (ltb l t.solve)
-    (λ e. clash (sym (ap is_planned (rw e at h))))
+    (λ e. clash (sym (ap is_ok (rw e at h))))
     (λ e. ap (λ (p : Planning). totals_in p t) (rw e at h))
 
-pub listed_low : (os : List (List ℕ)) (n : ℕ) (box : List ℕ) {boxes : Boxes} {slips : List ℕ} {boxes' : Boxes} {slips' : List ℕ} {t u : Totals} {q : Planning} → t ≡ totals_of (board_plans os (cards_in n box)) → n ≤ 16777215
-    → PlanEnded boxes slips t q boxes' slips' → q ≡ Planned u → Countable u
-listed_low os n box {slips = slips} {t = t} {u = u} et h p e =
-    let js = board_plans os (cards_in n box) in
+pub listed_low : (os ns : List (List ℕ)) {boxes : Boxes} {slips : List ℕ} {boxes' : Boxes} {slips' : List ℕ} {t u : Totals} {q : Planning} → t ≡ totals_of (board_plans os ns) → length ns ≤ 16777215
+    → PlanEnded boxes slips t q boxes' slips' → q ≡ Ok u → Countable u
+listed_low os ns {slips = slips} {t = t} {u = u} et h p e =
+    let js = board_plans os ns in
     let eu : u ≡ totals_of js = listed_totals (length slips / 5) (sym e ∙ p.answer) ∙ et in
-    subst⁻¹ Countable eu (totals_low js (rw (boards_count os n box) h))
+    subst⁻¹ Countable eu (totals_low js (rw (boards_count os ns) h))
 
 -- ---- the end
 
 -- What the answer of the plan is called does not matter.
-listed_as : {js : List BoardPlan} {boxes : Boxes} {slips page : List ℕ} {boxes' : Boxes} {slips' page' : List ℕ} {r : Written} (q : Planning) → q ≡ slips_answer (length slips / 5) (totals_of js)
+listed_as : {js : List BoardPlan} {boxes : Boxes} {slips page : List ℕ} {boxes' : Boxes} {slips' page' : List ℕ} {r : Result ℕ Refusal} (q : Planning) → q ≡ slips_answer (length slips / 5) (totals_of js)
     → Wrote (list_text q js) page page' r → BoxesKept (well_on q js (length page)) boxes boxes' → slips' ≡ cond (well_on q js (length page)) (put_all 5 slips 0 (slips_of js)) (zeros slips)
     → BoardsOnPage js boxes slips page boxes' slips' page' r
 listed_as {js} {boxes} {slips} {page} {boxes'} {slips'} {page'} {r} q e w k s = record {
@@ -179,25 +173,25 @@ module _ (js : List BoardPlan) (slips : List ℕ) {boxes : Boxes} {ps : List ℕ
   answer_is = p.answer ∙ ap (λ (k : ℕ). slips_answer (k / 5) t) el ∙ ap (slips_answer (length slips / 5)) f.0
 
   -- The plan is refused.
-  pub boards_refused : {g : PlanRefusal} {page page' : List ℕ} {r : Written} → q ≡ planning.Refused g → Wrote (refused_line g) page page' r
+  pub boards_refused : {g : PlanRefusal} {page page' : List ℕ} {r : Result ℕ Refusal} → q ≡ Err g → Wrote (refused_line g) page page' r
       → BoardsOnPage js boxes slips page boxes' slips' page' r
   unfolding well_on
   boards_refused {g} e w =
       listed_as
-      (planning.Refused g)
+      (Err g)
       (sym e ∙ answer_is)
       w
-      (subst (λ (x : Planning). BoxesKept (is_planned x) boxes boxes') e p.boxes_left)
-      (subst (λ (x : Planning). slips' ≡ cond (is_planned x) ps (zeros ps)) e p.slips_after ∙ rw el)
+      (subst (λ (x : Planning). BoxesKept (is_ok x) boxes boxes') e p.boxes_left)
+      (subst (λ (x : Planning). slips' ≡ cond (is_ok x) ps (zeros ps)) e p.slips_after ∙ rw el)
 
   -- Planning is not refused, and the lent words are kept.
-  listed_boxes : {u : Totals} → q ≡ Planned u → BoxesKept true boxes boxes' × (slips' ≡ ps)
+  listed_boxes : {u : Totals} → q ≡ Ok u → BoxesKept true boxes boxes' × (slips' ≡ ps)
   listed_boxes e = (
-    subst (λ (x : Planning). BoxesKept (is_planned x) boxes boxes') e p.boxes_left,
-    subst (λ (x : Planning). slips' ≡ cond (is_planned x) ps (zeros ps)) e p.slips_after,
+    subst (λ (x : Planning). BoxesKept (is_ok x) boxes boxes') e p.boxes_left,
+    subst (λ (x : Planning). slips' ≡ cond (is_ok x) ps (zeros ps)) e p.slips_after,
   )
 
-  pub boards_listed : (a b : ℕ) {u : Totals} {boxes'' : Boxes} {slips'' page page₁ page' : List ℕ} {n : ℕ} {r : Written} → js ≡ board_plans (cards_in a boxes.old_cards) (cards_in b boxes.new_cards) → q ≡ Planned u
+  pub boards_listed : (a b : ℕ) {u : Totals} {boxes'' : Boxes} {slips'' page page₁ page' : List ℕ} {n : ℕ} {r : Result ℕ Refusal} → js ≡ board_plans (cards_in a boxes.old_cards) (cards_in b boxes.new_cards) → q ≡ Ok u
       → Put page 0 (listing_lines (board_plans (cards_in a boxes'.old_cards) (cards_in b boxes'.new_cards)) ++ total_line u) page₁ n
       → PageKept n boxes' slips' page₁ boxes'' slips'' page' r
       → BoardsOnPage js boxes slips page boxes'' slips'' page' r
@@ -213,7 +207,7 @@ module _ (js : List BoardPlan) (slips : List ℕ) {boxes : Boxes} {ps : List ℕ
       let z' : BoxesKept (leb (length text) (length page)) boxes' boxes'' = subst (λ (x : Bool). BoxesKept x boxes' boxes'') fit z.boxes_left in
       let well = leb (length text) (length page) in
       listed_as
-      (Planned u)
+      (Ok u)
       (sym e ∙ answer_is)
       (finished w' z.end)
       record {
@@ -230,10 +224,10 @@ module _ (js : List BoardPlan) (slips : List ℕ) {boxes : Boxes} {ps : List ℕ
 
 -- ---- the whole
 
-well_listed : (p : Planning) (js : List BoardPlan) (n : ℕ) → well_on p js n ≡ true → is_planned p ≡ true
+well_listed : (p : Planning) (js : List BoardPlan) (n : ℕ) → well_on p js n ≡ true → is_ok p ≡ true
 unfolding well_on
-well_listed (Planned t) js n h = refl
-well_listed (planning.Refused f) js n h = clash h
+well_listed (Ok t) js n h = refl
+well_listed (Err f) js n h = clash h
 
 -- Blocks put into zeros, or zeros.
 slips_well : (b : Bool) (L : ℕ) {xs : List (List ℕ)} {w : List ℕ} → Blocks 5 xs → (b ≡ true → 5 * length xs ≤ L) → w ≡ cond b (put_all 5 (replicate L 0) 0 xs) (replicate L 0) → w ≡ lent b L xs
@@ -241,33 +235,33 @@ slips_well true L k h e = e ∙ put_zeros 5 L k (h refl)
 slips_well false L k h e = e
 
 module _ {c : Conventions} {limit : ℕ} {old new : List ℕ} {boxes boxes' : Boxes} {slips zs page : List ℕ} {r : Editions} (b : BothLimited c limit old new boxes boxes' r) (z : zs ≡ zeros slips) where
-  pub list_refused : {f : EditionsRefusal} {page' : List ℕ} {w : Written} → r ≡ editions.Refused f → Wrote (refused_line (Edition f)) page page' w
+  pub list_refused : {f : EditionsRefusal} {page' : List ℕ} {w : Result ℕ Refusal} → r ≡ Err f → Wrote (refused_line (Edition f)) page page' w
       → IsListing c limit old new boxes slips page boxes' zs page' w
   unfolding listing_plan well_on
   list_refused {f} e p =
-      let a : limited_both c limit old new boxes ≡ editions.Refused f = sym b.answer ∙ e in
-      let well : are_both r ≡ false = ap are_both e in
+      let a : limited_both c limit old new boxes ≡ Err f = sym b.answer ∙ e in
+      let well : is_ok r ≡ false = ap is_ok e in
       record {
         wrote = rw a p;
         boxes_left = rw a (rw well at b.boxes_left);
         slips_after = rw a z;
       }
 
-  pub list_both : {m n : ℕ} {boxes'' : Boxes} {slips'' page' : List ℕ} {w : Written} → r ≡ Both m n → SameRoom boxes boxes'
-      → BoardsOnPage (board_plans (cards_in m boxes'.old_cards) (cards_in n boxes'.new_cards)) boxes' zs page boxes'' slips'' page' w
+  pub list_both : {n : Both} {boxes'' : Boxes} {slips'' page' : List ℕ} {w : Result ℕ Refusal} → r ≡ Ok n → SameRoom boxes boxes'
+      → BoardsOnPage (board_plans (cards_in n.old.boards boxes'.old_cards) (cards_in n.new.boards boxes'.new_cards)) boxes' zs page boxes'' slips'' page' w
       → IsListing c limit old new boxes slips page boxes'' slips'' page' w
   unfolding listing_plan
-  list_both {m} {n} {boxes''} {slips''} {page'} {w} e room g =
+  list_both {n} {boxes''} {slips''} {page'} {w} e room g =
       let ls = length slips in
       let js = plans_of c old new in
       let t = totals_of js in
-      let a : limited_both c limit old new boxes ≡ Both m n = sym b.answer ∙ e in
-      let same : board_plans (cards_in m boxes'.old_cards) (cards_in n boxes'.new_cards) ≡ js = boards_are (limited_both_lem b e) e in
+      let a : limited_both c limit old new boxes ≡ Ok n = sym b.answer ∙ e in
+      let same : board_plans (cards_in n.old.boards boxes'.old_cards) (cards_in n.new.boards boxes'.new_cards) ≡ js = boards_are (limited_both_lem b e) e in
       let lz : length zs ≡ ls = ap length z ∙ length-replicate ls 0 in
       let g' : BoardsOnPage js boxes' zs page boxes'' slips'' page' w = subst (λ (x : List BoardPlan). BoardsOnPage x boxes' zs page boxes'' slips'' page' w) same g in
       let q = slips_answer (ls / 5) t in
       let well = well_on q js (length page) in
-      let full : BoxesAfter c true old new boxes boxes' = subst (λ (x : Editions). BoxesAfter c (are_both x) old new boxes boxes') e b.boxes_left in
+      let full : BoxesAfter c true old new boxes boxes' = subst (λ (x : Editions). BoxesAfter c (is_ok x) old new boxes boxes') e b.boxes_left in
       let ks : BoxesKept well boxes' boxes'' = subst (λ (k : ℕ). BoxesKept (well_on (slips_answer (k / 5) t) js (length page)) boxes' boxes'') lz g'.boxes_left in
       let es : t.solve ≡ length (slips_of js) = solve_sum js ∙ sym (slips_count js) in
       let sl : slips'' ≡ cond well (put_all 5 zs 0 (slips_of js)) (zeros zs) = subst (λ (k : ℕ). slips'' ≡ cond (well_on (slips_answer (k / 5) t) js (length page)) (put_all 5 zs 0 (slips_of js)) (zeros zs)) lz g'.slips_after in

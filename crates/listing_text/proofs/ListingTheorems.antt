@@ -8,6 +8,7 @@ use native.Mathlib.Omega.{arith}
 use lib.Dec.{eqb}
 use lib.ListN.{length, length-append}
 use borrow.Author.Tests.{le-leb, le-ltb, lt-ltb}
+use Rattle.std.specs.Prelude.{Result, Ok, Err, is_ok}
 use Rattle.tables.specs.declared.letters.Conventions.{Conventions}
 use Rattle.tables.specs.Text.{ascii}
 use Rattle.tables.specs.Numbers.{decimal}
@@ -16,25 +17,17 @@ use Rattle.tables.proofs.Laws.{clash}
 use Rattle.tables.proofs.PageLaws.{decimal_few}
 use Rattle.reader.specs.declared.edition.ReadRefusal.{ReadRefusal}
 use Rattle.reader.specs.declared.edition.ReadRefusal.TheVariants.{Overlong}
-use Rattle.reader.specs.declared.edition.Reading.{Reading}
-use Rattle.reader.specs.declared.edition.Reading.TheVariants.{Taken}
-use Rattle.reader.specs.declared.edition.Reading.TheVariants as reading
-use Rattle.reader.specs.Editions.{is_taken, reading_of, cards_of}
+use Rattle.reader.specs.declared.edition.Counts.{Counts}
+use Rattle.reader.specs.Editions.{reading_of, cards_of}
 use Rattle.planning.specs.declared.state.BoardState.{BoardState}
 use Rattle.planning.specs.declared.state.BoardState.TheVariants.{Blank, Own, Old, Near, Twin, Solve}
 use Rattle.planning.specs.declared.editions.EditionsRefusal.TheVariants.{Old as OldRefused, New as NewRefused}
 use Rattle.planning.specs.declared.plan.PlanRefusal.{PlanRefusal}
 use Rattle.planning.specs.declared.plan.PlanRefusal.TheVariants.{Edition}
-use Rattle.planning.specs.declared.editions.Editions.{Editions}
-use Rattle.planning.specs.declared.editions.Editions.TheVariants.{Both}
-use Rattle.planning.specs.declared.editions.Editions.TheVariants as editions
 use Rattle.planning.specs.declared.plan.Totals.{Totals}
-use Rattle.planning.specs.declared.plan.Planning.{Planning}
-use Rattle.planning.specs.declared.plan.Planning.TheVariants.{Planned}
-use Rattle.planning.specs.declared.plan.Planning.TheVariants as planning
 use Rattle.planning.specs.States.{BoardPlan, board_plans, from_of}
 use Rattle.planning.specs.Slips.{totals_of}
-use Rattle.planning.specs.Plans.{plan_number, plan_edition, Boxes, old_reading, both_after, are_both, plans_of, planned_by, is_planned, editions_of, planning_of}
+use Rattle.planning.specs.Plans.{plan_number, plan_edition, Boxes, old_reading, both_after, plans_of, planned_by, editions_of, planning_of, Editions, Planning}
 use Rattle.listing_text.specs.Limited.{limited_of, limited_both}
 use Rattle.listing_text.specs.Listing.{pair, state_text, board_line, listing_lines, total_line, refused_line, list_text, listing_plan, slips_short, PageEnough, PageNeverFull, SlipsEnough}
 use Rattle.planning.proofs.BoxLaws.{taken_fits}
@@ -124,27 +117,27 @@ LinesFew [] = omega arith
 LinesFew (j ∷ js) = omega (arith, few (board_line j.position j.state) (listing_lines js) 60 (60 * length js) (board_few j.position j.state) (LinesFew js))
 
 -- THEOREM. The text of at most n boards, or of a refusal, has at most 60 n + 200 bytes.
-pub TextFew : (p : Planning) (js : List BoardPlan) (n : ℕ) → (is_planned p ≡ true → length js ≤ n) → length (list_text p js) ≤ 60 * n + 200
-TextFew (Planned t) js n h =
+pub TextFew : (p : Planning) (js : List BoardPlan) (n : ℕ) → (is_ok p ≡ true → length js ≤ n) → length (list_text p js) ≤ 60 * n + 200
+TextFew (Ok t) js n h =
     let k = h refl in
     omega (arith, k, few (listing_lines js) (total_line t) (60 * length js) 200 (LinesFew js) (total_few t))
-TextFew (planning.Refused f) js n h = omega (arith, refused_few f)
+TextFew (Err f) js n h = omega (arith, refused_few f)
 
 -- ---- what a taken edition is
 
-taken_few : (c : Conventions) (text : List ℕ) (lc le : ℕ) → is_taken (reading_of c text lc le) ≡ true → 64 * length (cards_of c text) ≤ lc
+taken_few : (c : Conventions) (text : List ℕ) (lc le : ℕ) → is_ok (reading_of c text lc le) ≡ true → 64 * length (cards_of c text) ≤ lc
 taken_few c text lc le h = go (reading_of c text lc le) refl h
   where
-    go : (r : Reading) → reading_of c text lc le ≡ r → is_taken r ≡ true → 64 * length (cards_of c text) ≤ lc
-    go (Taken b e) q x = (taken_fits c text lc le b e q).cards_fit
-    go (reading.Refused f) q x = clash x
+    go : (r : Result Counts ReadRefusal) → reading_of c text lc le ≡ r → is_ok r ≡ true → 64 * length (cards_of c text) ≤ lc
+    go (Ok n) q x = (taken_fits c text lc le n q).cards_fit
+    go (Err f) q x = clash x
 
-limited_few : (c : Conventions) (limit : ℕ) (text : List ℕ) (lc le : ℕ) → is_taken (limited_of c limit text lc le) ≡ true → 64 * length (cards_of c text) ≤ lc
-limited_few c limit text lc le h = taken_few c text lc le (sym (ap is_taken (limited_taken c limit text lc le h)) ∙ h)
+limited_few : (c : Conventions) (limit : ℕ) (text : List ℕ) (lc le : ℕ) → is_ok (limited_of c limit text lc le) ≡ true → 64 * length (cards_of c text) ≤ lc
+limited_few c limit text lc le h = taken_few c text lc le (sym (ap is_ok (limited_taken c limit text lc le h)) ∙ h)
 
-planned_both : (e : Editions) (l : ℕ) (t : Totals) → is_planned (planned_by e l t) ≡ true → are_both e ≡ true
-planned_both (Both m n) l t h = refl
-planned_both (editions.Refused f) l t h = clash h
+planned_both : (e : Editions) (l : ℕ) (t : Totals) → is_ok (planned_by e l t) ≡ true → is_ok e ≡ true
+planned_both (Ok n) l t h = refl
+planned_both (Err f) l t h = clash h
 
 boards_are_cards : (c : Conventions) (old new : List ℕ) → length (plans_of c old new) ≡ length (cards_of c new)
 unfolding board_plans
@@ -152,7 +145,7 @@ boards_are_cards c old new = plans_count (cards_of c old) (cards_of c new) 1 [] 
 
 -- ---- what the listing program lends
 
-boards_few : (c : Conventions) (limit : ℕ) (old new : List ℕ) (boxes : Boxes) (ls : ℕ) → length boxes.new_cards ≡ 8192 → is_planned (listing_plan c limit old new boxes ls) ≡ true
+boards_few : (c : Conventions) (limit : ℕ) (old new : List ℕ) (boxes : Boxes) (ls : ℕ) → length boxes.new_cards ≡ 8192 → is_ok (listing_plan c limit old new boxes ls) ≡ true
     → length (plans_of c old new) ≤ 128
 unfolding listing_plan limited_both
 boards_few c limit old new boxes ls room h =
@@ -178,13 +171,13 @@ slips_enough c limit old new boxes room =
     js : List BoardPlan
     js = plans_of c old new
 
-    go : (r s : Reading) → (is_taken s ≡ true → 64 * length (cards_of c new) ≤ 8192) → slips_short (planned_by (both_after r s) (640 / 5) (totals_of js)) ≡ false
-    go (Taken b e) (Taken d g) h =
+    go : (r s : Result Counts ReadRefusal) → (is_ok s ≡ true → 64 * length (cards_of c new) ≤ 8192) → slips_short (planned_by (both_after r s) (640 / 5) (totals_of js)) ≡ false
+    go (Ok m) (Ok n) h =
         let k = h refl in
         let low : (totals_of js).solve ≤ 640 / 5 = omega (arith, k, solve_sum js, count_few 5 js, boards_are_cards c old new) in
         rw (le-ltb (640 / 5) (totals_of js).solve low)
-    go (Taken b e) (reading.Refused f) h = refl
-    go (reading.Refused f) s h = refl
+    go (Ok m) (Err f) h = refl
+    go (Err f) s h = refl
 
 -- ---- the limit
 
@@ -195,16 +188,16 @@ module _ (c : Conventions) (limit : ℕ) (old new : List ℕ) (boxes : Boxes) (l
   WithinLimit h g = rw (le-ltb limit (length old) h, le-ltb limit (length new) g)
 
   -- THEOREM. An old edition longer than the limit is refused with its length, whatever the new one is.
-  pub OldOverlong : limit < length old → listing_plan c limit old new boxes ls ≡ planning.Refused (Edition (OldRefused (Overlong (length old))))
+  pub OldOverlong : limit < length old → listing_plan c limit old new boxes ls ≡ Err (Edition (OldRefused (Overlong (length old))))
   unfolding listing_plan limited_both limited_of
   OldOverlong h = rw (lt-ltb limit (length old) h)
 
   -- THEOREM. Any other refusal of the old edition is told too, whatever the new one is.
-  pub OldFirst : {f : ReadRefusal} → length old ≤ limit → old_reading c old boxes ≡ reading.Refused f → listing_plan c limit old new boxes ls ≡ planning.Refused (Edition (OldRefused f))
+  pub OldFirst : {f : ReadRefusal} → length old ≤ limit → old_reading c old boxes ≡ Err f → listing_plan c limit old new boxes ls ≡ Err (Edition (OldRefused f))
   unfolding listing_plan limited_both limited_of
   OldFirst h e = rw (le-ltb limit (length old) h, e)
 
   -- THEOREM. Where the old edition is taken, a new one longer than the limit is refused with its length.
-  pub NewOverlong : {b e : ℕ} → length old ≤ limit → old_reading c old boxes ≡ Taken b e → limit < length new → listing_plan c limit old new boxes ls ≡ planning.Refused (Edition (NewRefused (Overlong (length new))))
+  pub NewOverlong : {n : Counts} → length old ≤ limit → old_reading c old boxes ≡ Ok n → limit < length new → listing_plan c limit old new boxes ls ≡ Err (Edition (NewRefused (Overlong (length new))))
   unfolding listing_plan limited_both limited_of
   NewOverlong h e g = rw (le-ltb limit (length old) h, e, lt-ltb limit (length new) g)

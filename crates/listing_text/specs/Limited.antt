@@ -1,16 +1,15 @@
 -- Both editions, with a limit of the listing's own on the length of each.
-use Rattle.std.specs.Prelude.{ℕ, cond, List, ltb, length}
+use Rattle.std.specs.Prelude.{ℕ, cond, List, ltb, length, Result, Err}
 use Rattle.tables.specs.declared.letters.Conventions.{Conventions}
-use Rattle.reader.specs.declared.edition.Reading.{Reading}
-use Rattle.reader.specs.declared.edition.Reading.TheVariants as reading
+use Rattle.reader.specs.declared.edition.Counts.{Counts}
+use Rattle.reader.specs.declared.edition.ReadRefusal.{ReadRefusal}
 use Rattle.reader.specs.declared.edition.ReadRefusal.TheVariants.{Overlong}
 use Rattle.reader.specs.Editions.{reading_of}
-use Rattle.planning.specs.declared.editions.Editions.{Editions}
-use Rattle.planning.specs.Plans.{Boxes, both_after}
+use Rattle.planning.specs.Plans.{Boxes, both_after, Editions}
 
 -- An edition longer than the limit is refused with 1, whatever else it is; any other is read.
-unfoldable pub limited_of : Conventions → ℕ → List ℕ → ℕ → ℕ → Reading
-limited_of c limit text lc le = cond (ltb limit (length text)) (reading.Refused (Overlong (length text))) (reading_of c text lc le)
+unfoldable pub limited_of : Conventions → ℕ → List ℕ → ℕ → ℕ → Result Counts ReadRefusal
+limited_of c limit text lc le = cond (ltb limit (length text)) (Err (Overlong (length text))) (reading_of c text lc le)
 
 -- Both with the limit: each refusal of the old one, its length too, comes before those of the new.
 unfoldable pub limited_both : Conventions → ℕ → List ℕ → List ℕ → Boxes → Editions

@@ -1,23 +1,20 @@
 -- The listing: a line for each board and the totals, or a refusal alone.
-use Rattle.std.specs.Prelude.{ℕ, ◌/◌, ◌≤◌, ◌≡◌, Bool, true, false, cond, ◌&&◌, List, [], ◌∷◌, ◌++◌, eqb, leb, length}
+use Rattle.std.specs.Prelude.{ℕ, ◌/◌, ◌≤◌, ◌≡◌, Bool, true, false, cond, ◌&&◌, List, [], ◌∷◌, ◌++◌, eqb, leb, length, Result, Ok, Err, is_ok}
 use Rattle.tables.specs.Text.{ascii}
 use Rattle.tables.specs.Numbers.{decimal}
 use Rattle.tables.specs.Page.{answer_of, Wrote}
 use Rattle.tables.specs.declared.letters.Conventions.{Conventions}
-use Rattle.tables.specs.declared.page.Written.{Written}
-use Rattle.tables.specs.declared.page.Written.TheVariants.{Bytes}
 use Rattle.reader.specs.Store.{lent}
 use Rattle.planning.specs.declared.state.BoardState.{BoardState}
 use Rattle.planning.specs.declared.state.BoardState.TheVariants.{Blank, Own, Old, Near, Twin, Solve}
 use Rattle.planning.specs.declared.plan.PlanRefusal.{PlanRefusal}
 use Rattle.planning.specs.declared.plan.PlanRefusal.TheVariants as refusal
 use Rattle.planning.specs.declared.plan.Totals.{Totals}
-use Rattle.planning.specs.declared.plan.Planning.{Planning}
-use Rattle.planning.specs.declared.plan.Planning.TheVariants.{Planned, Refused}
 use Rattle.planning.specs.States.{BoardPlan, from_of}
 use Rattle.planning.specs.Slips.{slips_of, totals_of}
-use Rattle.planning.specs.Plans.{plan_number, plan_edition, Boxes, plans_of, planned_by, is_planned, BoxesAfter}
+use Rattle.planning.specs.Plans.{plan_number, plan_edition, Boxes, plans_of, planned_by, BoxesAfter, Planning}
 use Rattle.listing_text.specs.Limited.{limited_both}
+use Rattle.tables.specs.declared.refusal.Refusal.{Refusal}
 
 -- A name and a number.
 abbrev pub pair : List ℕ → ℕ → List ℕ
@@ -52,8 +49,8 @@ refused_line f = pair (ascii "refused=") (plan_number f) ++ ascii " edition=" ++
 
 -- The text of a plan's answer, js the boards of the new edition.
 abbrev pub list_text : Planning → List BoardPlan → List ℕ
-list_text (Planned t) js = listing_lines js ++ total_line t
-list_text (Refused f) js = refused_line f
+list_text (Ok t) js = listing_lines js ++ total_line t
+list_text (Err f) js = refused_line f
 
 -- ---- the plan with a limit
 
@@ -65,16 +62,16 @@ listing_plan c limit old new boxes ls = planned_by (limited_both c limit old new
 
 -- All went well: planning is not refused, and the text fits a page of n bytes.
 unfoldable pub well_on : Planning → List BoardPlan → ℕ → Bool
-well_on p js n = is_planned p && leb (length (list_text p js)) n
+well_on p js n = is_ok p && leb (length (list_text p js)) n
 
 -- A listing on a page, p the plan's answer: the text, or refusal 7 with the bytes that it has; and every lent word, zero after any refusal.
-pub record ListingFor (c : Conventions) (p : Planning) (old new : List ℕ) (boxes : Boxes) (slips page : List ℕ) (boxes' : Boxes) (slips' page' : List ℕ) (r : Written) : Type 0 where
+pub record ListingFor (c : Conventions) (p : Planning) (old new : List ℕ) (boxes : Boxes) (slips page : List ℕ) (boxes' : Boxes) (slips' page' : List ℕ) (r : Result ℕ Refusal) : Type 0 where
   pub wrote : Wrote (list_text p (plans_of c old new)) page page' r
   pub boxes_left : BoxesAfter c (well_on p (plans_of c old new) (length page)) old new boxes boxes'
   pub slips_after : slips' ≡ lent (well_on p (plans_of c old new) (length page)) (length slips) (slips_of (plans_of c old new))
 
 -- The contract of list.
-abbrev pub IsListing : Conventions → ℕ → List ℕ → List ℕ → Boxes → List ℕ → List ℕ → Boxes → List ℕ → List ℕ → Written → Type 0
+abbrev pub IsListing : Conventions → ℕ → List ℕ → List ℕ → Boxes → List ℕ → List ℕ → Boxes → List ℕ → List ℕ → Result ℕ Refusal → Type 0
 IsListing c limit old new boxes slips page boxes' slips' page' r =
     ListingFor c (listing_plan c limit old new boxes (length slips)) old new boxes slips page boxes' slips' page' r
 
@@ -82,9 +79,9 @@ IsListing c limit old new boxes slips page boxes' slips' page' r =
 
 -- Refused because fewer slips are lent than there are boards to solve.
 abbrev pub slips_short : Planning → Bool
-slips_short (Planned t) = false
-slips_short (Refused (refusal.Edition f)) = false
-slips_short (Refused (refusal.SlipsShort n)) = true
+slips_short (Ok t) = false
+slips_short (Err (refusal.Edition f)) = false
+slips_short (Err (refusal.SlipsShort n)) = true
 
 -- THEOREM (proofs/ListingTheorems.antt). With 128 cards an edition the text has at most 8,192 bytes.
 abbrev pub PageEnough : Type 0
@@ -97,7 +94,7 @@ abbrev pub PageNeverFull : Type 0
 PageNeverFull =
     (c : Conventions) (limit : ℕ) (old new : List ℕ) (boxes : Boxes) (ls : ℕ) → length boxes.new_cards ≡ 8192
     → answer_of (list_text (listing_plan c limit old new boxes ls) (plans_of c old new)) 8192
-    ≡ Bytes (length (list_text (listing_plan c limit old new boxes ls) (plans_of c old new)))
+    ≡ Ok (length (list_text (listing_plan c limit old new boxes ls) (plans_of c old new)))
 
 -- THEOREM (proofs/ListingTheorems.antt). With 128 cards an edition and 128 slips, refusal 4 is never met.
 abbrev pub SlipsEnough : Type 0

@@ -8,7 +8,7 @@ ghost use Rattle.listing_text.specs.Listing.{state_text, board_line, total_line,
 ghost use Rattle.listing_text.specs.ListingSteps.{Countable};
 
 use planning::plan::{PlanRefusal, Totals, plan_edition, plan_number};
-use planning::state::{BoardState, from_of};
+use planning::state::BoardState;
 use tables::page::{put_byte, put_decimal, put_text};
 
 fn put_state(page: &mut [u8], at: usize, s: BoardState) -> usize
@@ -41,7 +41,7 @@ pub(crate) fn put_board(page: &mut [u8], at: usize, p: u64, s: BoardState) -> us
 {
     let a = put_pair(page, at, b"board=", p);
     let b = put_state(page, a, s);
-    let e = put_pair(page, b, b" from=", from_of(s));
+    let e = put_pair(page, b, b" from=", s.source());
     put_byte(page, e, 10)
 }
 

@@ -1,75 +1,75 @@
 -- Laws of the boards of the new edition: one after the other, and at a position.
-use Prim.Native.Nat.{ℕ, zero, suc, ◌+◌, ◌*◌, ◌-◌, ◌≤◌, ◌<◌}
+use Prim.Native.Nat.{ℕ, zero, suc, ◌+◌, ◌≤◌, ◌<◌}
 use mathlib.Core.Path.{◌≡◌, refl, sym, ap, ◌∙◌}
 use mathlib.Core.List.{List, [], ◌∷◌, ◌++◌}
 use mathlib.Core.Option.{none, some}
 use native.Mathlib.Omega.{arith}
-use lib.ListN.{length, drop, get_or, get_or-eq_default}
-use lib.Seq.{drop-drop}
+use lib.ListN.{length, take, drop, get_or-eq_default, drop_of_length-le}
+use lib.Seq.{drop-drop, drop-cons, take-suc}
 use Rattle.planning.specs.declared.state.BoardState.{BoardState}
 use Rattle.planning.specs.declared.state.BoardState.TheVariants.{Blank}
 use Rattle.planning.specs.declared.behind.Behind.{Behind}
-use Rattle.planning.specs.declared.behind.Behind.TheVariants.{InOld, InNew, Nothing}
-use Rattle.planning.specs.Cards.{card_here}
-use Rattle.planning.specs.PlanSteps.{cards_in, plan_here}
+use Rattle.std.specs.Prelude.{Some, None}
+use Rattle.planning.specs.PlanSteps.{plan_here}
 use Rattle.planning.specs.States.{BoardPlan, state_of, board_plans_from, board_plans, plan_from, plan_at, state_in, state_at}
-use Rattle.planning.specs.Slips.{card_at, behind_state, behind_in, behind_at, behind_numbers}
-use Rattle.planning.proofs.BoxLaws.{cards_count, card_nth, card_step, cards_split}
+use Rattle.planning.specs.Slips.{card_from, card_at, behind_state, behind_in, behind_at}
 
 -- ---- the cards at positions
 
 -- The first k + 1 cards.
-cards_more : (k : ℕ) (box : List ℕ) → cards_in (k + 1) box ≡ cards_in k box ++ (card_here k box ∷ [])
-cards_more k box =
-    let e : k + 1 - suc k ≡ 0 = omega arith in
-    cards_split (k + 1) k box (omega arith) ∙ rw e
+cards_more : (xs : List (List ℕ)) (k : ℕ) → k < length xs → take (k + 1) xs ≡ take k xs ++ (card_from xs k ∷ [])
+cards_more xs k h =
+    let e : k + 1 ≡ suc k = omega arith in
+    rw e (take-suc xs k [] h)
 
--- The card at a position, from 1, of n cards.
-pub card_at_lem : (n p k : ℕ) (box : List ℕ) → p ≡ k + 1 → k < n → card_at (cards_in n box) p ≡ card_here k box
-card_at_lem n zero k box e h = absurd (omega arith)
-card_at_lem n (suc p) k box e h =
+-- The card at index k and those behind it.
+pub cards_left : (xs : List (List ℕ)) (k : ℕ) → k < length xs → drop k xs ≡ card_from xs k ∷ drop (k + 1) xs
+cards_left xs k h =
+    let e : k + 1 ≡ suc k = omega arith in
+    rw e (drop-cons xs k [] h)
+
+-- The card at a position from 1.
+pub card_at_lem : (xs : List (List ℕ)) (p k : ℕ) → p ≡ k + 1 → card_at xs p ≡ card_from xs k
+card_at_lem xs zero k e = absurd (omega arith)
+card_at_lem xs (suc p) k e =
     let f : p ≡ k = omega arith in
-    rw f (card_nth n k box h)
+    rw f
 
-pub card_past : (n p k : ℕ) (box : List ℕ) → p ≡ k + 1 → n ≤ k → card_at (cards_in n box) p ≡ []
-card_past n zero k box e h = refl
-card_past n (suc p) k box e h = get_or-eq_default (cards_in n box) [] (rw (cards_count n box) (omega arith))
+pub card_past : (xs : List (List ℕ)) (p k : ℕ) → p ≡ k + 1 → length xs ≤ k → card_at xs p ≡ []
+card_past xs zero k e h = refl
+card_past xs (suc p) k e h = get_or-eq_default xs [] (omega arith)
 
 -- ---- board after board
 
--- The boards from index k on, of n cards.
-abbrev pub boards_left : List (List ℕ) → List (List ℕ) → ℕ → ℕ → List ℕ → List BoardPlan
-boards_left os ns k n box = board_plans_from os ns (k + 1) (cards_in k box) (cards_in (n - k) (drop (64 * k) box))
+-- The boards from index k on.
+abbrev pub boards_left : List (List ℕ) → List (List ℕ) → ℕ → List BoardPlan
+boards_left os ns k = board_plans_from os ns (k + 1) (take k ns) (drop k ns)
 
-pub left_first : (os : List (List ℕ)) (n : ℕ) (box : List ℕ) → board_plans os (cards_in n box) ≡ boards_left os (cards_in n box) 0 n box
+pub left_first : (os ns : List (List ℕ)) → board_plans os ns ≡ boards_left os ns 0
 unfolding board_plans
-left_first os n box =
-    let e : n - 0 ≡ n = omega arith in
-    rw e
+left_first os ns = refl
 
-pub left_step : (os ns : List (List ℕ)) (k n : ℕ) (box : List ℕ) → k < n → boards_left os ns k n box ≡ plan_here os ns k box ∷ boards_left os ns (k + 1) n box
-left_step os ns k n box h = rw (card_step n k box h, cards_more k box)
+pub left_step : (os ns : List (List ℕ)) (k : ℕ) → k < length ns → boards_left os ns k ≡ plan_here os ns k ∷ boards_left os ns (k + 1)
+left_step os ns k h = rw (cards_left ns k h, cards_more ns k h)
 
-pub left_none : (os ns : List (List ℕ)) (k n : ℕ) (box : List ℕ) → n ≤ k → boards_left os ns k n box ≡ []
-left_none os ns k n box h =
-    let e : n - k ≡ 0 = omega arith in
-    rw e
+pub left_none : (os ns : List (List ℕ)) (k : ℕ) → length ns ≤ k → boards_left os ns k ≡ []
+left_none os ns k h = rw (drop_of_length-le ns {i = k} h)
 
 pub plans_count : (os ns : List (List ℕ)) (p : ℕ) (e xs : List (List ℕ)) → length (board_plans_from os ns p e xs) ≡ length xs
 plans_count os ns p e [] = refl
 plans_count os ns p e (x ∷ xs) = rw (plans_count os ns (p + 1) (e ++ (x ∷ [])) xs)
 
 -- As many boards as cards.
-pub boards_count : (os : List (List ℕ)) (n : ℕ) (box : List ℕ) → length (board_plans os (cards_in n box)) ≡ n
+pub boards_count : (os ns : List (List ℕ)) → length (board_plans os ns) ≡ length ns
 unfolding board_plans
-boards_count os n box = plans_count os (cards_in n box) 1 [] (cards_in n box) ∙ cards_count n box
+boards_count os ns = plans_count os ns 1 [] ns
 
-pub left_drop : (os ns : List (List ℕ)) (k n : ℕ) (box : List ℕ) → k ≤ n → drop k (boards_left os ns 0 n box) ≡ boards_left os ns k n box
-left_drop os ns zero n box h = refl
-left_drop os ns (suc k) n box h =
+pub left_drop : (os ns : List (List ℕ)) (k : ℕ) → k ≤ length ns → drop k (boards_left os ns 0) ≡ boards_left os ns k
+left_drop os ns zero h = refl
+left_drop os ns (suc k) h =
     let e : k + 1 ≡ suc k = omega arith in
-    let l = boards_left os ns 0 n box in
-    let f : drop (k + 1) l ≡ drop 1 (plan_here os ns k box ∷ boards_left os ns (k + 1) n box) = sym (drop-drop 1 k l) ∙ ap (drop 1) (left_drop os ns k n box (omega arith) ∙ left_step os ns k n box (omega arith)) in
+    let l = boards_left os ns 0 in
+    let f : drop (k + 1) l ≡ drop 1 (plan_here os ns k ∷ boards_left os ns (k + 1)) = sym (drop-drop 1 k l) ∙ ap (drop 1) (left_drop os ns k (omega arith) ∙ left_step os ns k (omega arith)) in
     rw e at f
 
 -- ---- the board at a position
@@ -85,36 +85,28 @@ past_none [] k h = refl
 past_none (j ∷ js) zero h = absurd (omega arith)
 past_none (j ∷ js) (suc k) h = past_none js k (omega arith)
 
-module _ (os : List (List ℕ)) (n k : ℕ) (box : List ℕ) where
-  board_here_lem : {p : ℕ} → p ≡ k + 1 → k < n → plan_at (board_plans os (cards_in n box)) p ≡ some (plan_here os (cards_in n box) k box)
+module _ (os ns : List (List ℕ)) (k : ℕ) where
+  board_here_lem : {p : ℕ} → p ≡ k + 1 → k < length ns → plan_at (board_plans os ns) p ≡ some (plan_here os ns k)
   board_here_lem {p} e h =
-      let ns = cards_in n box in
       let g : suc k ≡ p = omega arith in
-      let x : drop k (board_plans os ns) ≡ plan_here os ns k box ∷ boards_left os ns (k + 1) n box = rw (left_first os n box) (left_drop os ns k n box (omega arith) ∙ left_step os ns k n box h) in
+      let x : drop k (board_plans os ns) ≡ plan_here os ns k ∷ boards_left os ns (k + 1) = rw (left_first os ns) (left_drop os ns k (omega arith) ∙ left_step os ns k h) in
       sym (ap (plan_at (board_plans os ns)) g) ∙ board_drop (board_plans os ns) k ∙ ap (λ (l : List BoardPlan). plan_from l 0) x
 
-  board_past : {p : ℕ} → p ≡ k + 1 → n ≤ k → plan_at (board_plans os (cards_in n box)) p ≡ none
+  board_past : {p : ℕ} → p ≡ k + 1 → length ns ≤ k → plan_at (board_plans os ns) p ≡ none
   board_past {p} e h =
       let g : suc k ≡ p = omega arith in
-      sym (ap (plan_at (board_plans os (cards_in n box))) g) ∙ past_none (board_plans os (cards_in n box)) k (rw (boards_count os n box) h)
+      sym (ap (plan_at (board_plans os ns)) g) ∙ past_none (board_plans os ns) k (rw (boards_count os ns) h)
 
-  pub state_here_lem : {p : ℕ} {s : BoardState} → p ≡ k + 1 → k < n → s ≡ state_of os (cards_in n box) (cards_in k box) (card_here k box) → s ≡ state_at (board_plans os (cards_in n box)) p
+  pub state_here_lem : {p : ℕ} {s : BoardState} → p ≡ k + 1 → k < length ns → s ≡ state_of os ns (take k ns) (card_from ns k) → s ≡ state_at (board_plans os ns) p
   state_here_lem e h f = f ∙ sym (ap state_in (board_here_lem e h))
 
-  pub state_past : {p : ℕ} → p ≡ k + 1 → n ≤ k → Blank ≡ state_at (board_plans os (cards_in n box)) p
+  pub state_past : {p : ℕ} → p ≡ k + 1 → length ns ≤ k → Blank ≡ state_at (board_plans os ns) p
   state_past e h = sym (ap state_in (board_past e h))
 
-  pub behind_here : {p : ℕ} {s : BoardState} {b : Behind} → p ≡ k + 1 → k < n → s ≡ state_of os (cards_in n box) (cards_in k box) (card_here k box)
-      → b ≡ behind_state os (cards_in n box) (card_at (cards_in n box) p) s → b ≡ behind_at os (cards_in n box) (board_plans os (cards_in n box)) p
+  pub behind_here : {p : ℕ} {s : BoardState} {b : Behind} → p ≡ k + 1 → k < length ns → s ≡ state_of os ns (take k ns) (card_from ns k)
+      → b ≡ behind_state os ns (card_at ns p) s → Some b ≡ behind_at os ns (board_plans os ns) p
   behind_here {p} {s} {b} e h f i =
-      let ns = cards_in n box in
-      i ∙ ap (λ (z : List ℕ). behind_state os ns z s) (card_at_lem n p k box e h) ∙ ap (behind_state os ns (card_here k box)) f ∙ sym (ap (behind_in os ns) (board_here_lem e h))
+      ap Some (i ∙ ap (λ (z : List ℕ). behind_state os ns z s) (card_at_lem ns p k e) ∙ ap (behind_state os ns (card_from ns k)) f) ∙ sym (ap (behind_in os ns) (board_here_lem e h))
 
-  pub behind_past : {p : ℕ} → p ≡ k + 1 → n ≤ k → Nothing ≡ behind_at os (cards_in n box) (board_plans os (cards_in n box)) p
-  behind_past e h = sym (ap (behind_in os (cards_in n box)) (board_past e h))
-
--- The record behind a board as three numbers.
-pub behind_three : (b : Behind) → behind_numbers b ≡ get_or (behind_numbers b) 0 0 ∷ get_or (behind_numbers b) 1 0 ∷ get_or (behind_numbers b) 2 0 ∷ []
-behind_three (InOld a e) = refl
-behind_three (InNew a e) = refl
-behind_three Nothing = refl
+  pub behind_past : {p : ℕ} → p ≡ k + 1 → length ns ≤ k → None ≡ behind_at os ns (board_plans os ns) p
+  behind_past e h = sym (ap (behind_in os ns) (board_past e h))

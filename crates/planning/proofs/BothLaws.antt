@@ -7,28 +7,25 @@ use native.Mathlib.Omega.{arith}
 use lib.Dec.{ltb}
 use lib.ListN.{length, length-append, length-replicate}
 use borrow.Author.Tests.{ltb-false}
+use Rattle.std.specs.Prelude.{Result, Ok, Err, is_ok}
 use Rattle.tables.specs.declared.letters.Conventions.{Conventions}
 use Rattle.reader.specs.declared.edition.ReadRefusal.{ReadRefusal}
-use Rattle.reader.specs.declared.edition.Reading.{Reading}
-use Rattle.reader.specs.declared.edition.Reading.TheVariants.{Taken}
-use Rattle.reader.specs.declared.edition.Reading.TheVariants as reading
+use Rattle.reader.specs.declared.edition.Counts.{Counts}
 use Rattle.tables.proofs.Laws.{by_cases, clash}
 use Rattle.reader.specs.Store.{flat, padded, zeros}
-use Rattle.reader.specs.Editions.{reading_of, cards_of, IsRead, is_taken}
+use Rattle.reader.specs.Editions.{reading_of, cards_of, IsRead}
 use Rattle.reader.specs.EditionSteps.{FullCards}
 use Rattle.planning.specs.declared.editions.EditionsRefusal.TheVariants.{Old, New}
-use Rattle.planning.specs.declared.editions.Editions.{Editions}
-use Rattle.planning.specs.declared.editions.Editions.TheVariants.{Both}
-use Rattle.planning.specs.declared.editions.Editions.TheVariants as editions
-use Rattle.planning.specs.Plans.{Boxes, old_reading, new_reading, both_after, editions_of, are_both, BothRead}
+use Rattle.planning.specs.declared.editions.Both.{Both}
+use Rattle.planning.specs.Plans.{Boxes, old_reading, new_reading, Editions, both_after, editions_of, BothRead}
 use Rattle.planning.specs.PlanSteps.{cards_in}
 use Rattle.planning.proofs.BoxLaws.{four, cards_back, taken_fits}
 
 -- ---- both editions: one law for each answer
 
-module _ {c : Conventions} {old new oc oe nc ne oc' oe' : List ℕ} {r : Reading} (i : IsRead c old oc oe r oc' oe') where
-  pub old_refused : {f : ReadRefusal} {nc' ne' : List ℕ} → r ≡ reading.Refused f → nc' ≡ zeros nc → ne' ≡ zeros ne
-      → BothRead c old new (four oc oe nc ne) (four oc' oe' nc' ne') (editions.Refused (Old f))
+module _ {c : Conventions} {old new oc oe nc ne oc' oe' : List ℕ} {r : Result Counts ReadRefusal} (i : IsRead c old oc oe r oc' oe') where
+  pub old_refused : {f : ReadRefusal} {nc' ne' : List ℕ} → r ≡ Err f → nc' ≡ zeros nc → ne' ≡ zeros ne
+      → BothRead c old new (four oc oe nc ne) (four oc' oe' nc' ne') (Err (Old f))
   unfolding editions_of
   old_refused e ec ee = record {
     answer = rw (← i.answer, e);
@@ -40,9 +37,9 @@ module _ {c : Conventions} {old new oc oe nc ne oc' oe' : List ℕ} {r : Reading
     };
   }
 
-  pub new_refused : {m x : ℕ} {f : ReadRefusal} {s : Reading} {nc' ne' oc'' oe'' : List ℕ} → r ≡ Taken m x → IsRead c new nc ne s nc' ne' → s ≡ reading.Refused f
+  pub new_refused : {m : Counts} {f : ReadRefusal} {s : Result Counts ReadRefusal} {nc' ne' oc'' oe'' : List ℕ} → r ≡ Ok m → IsRead c new nc ne s nc' ne' → s ≡ Err f
       → length oc' ≡ length oc → length oe' ≡ length oe → oc'' ≡ zeros oc' → oe'' ≡ zeros oe'
-      → BothRead c old new (four oc oe nc ne) (four oc'' oe'' nc' ne') (editions.Refused (New f))
+      → BothRead c old new (four oc oe nc ne) (four oc'' oe'' nc' ne') (Err (New f))
   unfolding editions_of
   new_refused e j e₂ lc le ec ee = record {
     answer = rw (← i.answer, e, ← j.answer, e₂);
@@ -54,8 +51,8 @@ module _ {c : Conventions} {old new oc oe nc ne oc' oe' : List ℕ} {r : Reading
     };
   }
 
-  pub both_taken : {m x n y : ℕ} {s : Reading} {nc' ne' : List ℕ} → r ≡ Taken m x → IsRead c new nc ne s nc' ne' → s ≡ Taken n y
-      → BothRead c old new (four oc oe nc ne) (four oc' oe' nc' ne') (Both m n)
+  pub both_taken : {m n : Counts} {s : Result Counts ReadRefusal} {nc' ne' : List ℕ} → r ≡ Ok m → IsRead c new nc ne s nc' ne' → s ≡ Ok n
+      → BothRead c old new (four oc oe nc ne) (four oc' oe' nc' ne') (Ok (record { old = m; new = n }))
   unfolding editions_of
   both_taken e j e₂ = record {
     answer = rw (← i.answer, e, ← j.answer, e₂);
@@ -69,12 +66,12 @@ module _ {c : Conventions} {old new oc oe nc ne oc' oe' : List ℕ} {r : Reading
 
 -- ---- both were taken
 
-pub both_are_taken : (r s : Reading) → are_both (both_after r s) ≡ true → (is_taken r ≡ true) × (is_taken s ≡ true)
-both_are_taken (Taken b e) (Taken d g) h = (refl, refl)
-both_are_taken (Taken b e) (reading.Refused f) h = clash h
-both_are_taken (reading.Refused f) s h = clash h
+pub both_are_taken : (r s : Result Counts ReadRefusal) → is_ok (both_after r s) ≡ true → (is_ok r ≡ true) × (is_ok s ≡ true)
+both_are_taken (Ok m) (Ok n) h = (refl, refl)
+both_are_taken (Ok m) (Err f) h = clash h
+both_are_taken (Err f) s h = clash h
 
-pub taken_short : (c : Conventions) (text : List ℕ) (lc le : ℕ) → is_taken (reading_of c text lc le) ≡ true → length text ≤ 16777215
+pub taken_short : (c : Conventions) (text : List ℕ) (lc le : ℕ) → is_ok (reading_of c text lc le) ≡ true → length text ≤ 16777215
 unfolding reading_of
 taken_short c text lc le h =
     by_cases (ltb 16777215 (length text))
@@ -83,26 +80,16 @@ taken_short c text lc le h =
 
 -- ---- the cards of both editions, where both were taken
 
-abbrev olds_in : Editions → ℕ
-olds_in (Both m n) = m
-olds_in (editions.Refused f) = 0
+abbrev pub counts_in : Both → Editions → Both
+counts_in d (Ok n) = n
+counts_in d (Err f) = d
 
-abbrev news_in : Editions → ℕ
-news_in (Both m n) = n
-news_in (editions.Refused f) = 0
-
--- An edition taken with n boards.
-record TakenAs (r : Reading) (n : ℕ) : Type 0 where
-  entries : ℕ
-  is : r ≡ Taken n entries
-
-taken_both : (r s : Reading) (m n : ℕ) → Both m n ≡ both_after r s → TakenAs r m × TakenAs s n
-taken_both (Taken b e) (Taken d g) m n h = (
-  record { entries = e; is = ap (λ (k : ℕ). Taken k e) (sym (ap olds_in h)) },
-  record { entries = g; is = ap (λ (k : ℕ). Taken k g) (sym (ap news_in h)) },
-)
-taken_both (Taken b e) (reading.Refused f) m n h = clash (sym (ap are_both h))
-taken_both (reading.Refused f) s m n h = clash (sym (ap are_both h))
+taken_both : (r s : Result Counts ReadRefusal) (n : Both) → Ok n ≡ both_after r s → (r ≡ Ok n.old) × (s ≡ Ok n.new)
+taken_both (Ok k) (Ok l) n h =
+    let e : n ≡ record { old = k; new = l } = ap (counts_in n) h in
+    rw e (refl, refl)
+taken_both (Ok k) (Err f) n h = clash (sym (ap is_ok h))
+taken_both (Err f) s n h = clash (sym (ap is_ok h))
 
 -- The words hold the n cards of the text.
 pub record CardsThere (c : Conventions) (text box : List ℕ) (n : ℕ) : Type 0 where
@@ -110,23 +97,24 @@ pub record CardsThere (c : Conventions) (text box : List ℕ) (n : ℕ) : Type 0
   pub room : 64 * n ≤ length box
   pub cards : cards_in n box ≡ cards_of c text
 
-cards_there : (c : Conventions) (text : List ℕ) (lc le n e : ℕ) (box : List ℕ) → FullCards (cards_of c text) → reading_of c text lc le ≡ Taken n e → box ≡ padded lc (flat (cards_of c text))
-    → CardsThere c text box n
-cards_there c text lc le n e box w t h =
-    let f = taken_fits c text lc le n e t in
+cards_there : (c : Conventions) (text : List ℕ) (lc le : ℕ) (k : Counts) (box : List ℕ) → FullCards (cards_of c text) → reading_of c text lc le ≡ Ok k → box ≡ padded lc (flat (cards_of c text))
+    → CardsThere c text box k.boards
+cards_there c text lc le k box w t h =
+    let f = taken_fits c text lc le k t in
+    let e : k.boards ≡ length (cards_of c text) = ap (λ (x : Counts). x.boards) f.counts_are in
     let l : length box ≡ length (flat (cards_of c text)) + (lc - length (flat (cards_of c text))) = rw (h, length-append, length-replicate) in
     record {
-      count = f.boards_are;
-      room = omega (arith, l, f.boards_are, f.cards_fit);
-      cards = rw (f.boards_are, h) (cards_back (cards_of c text) lc w f.cards_fit);
+      count = e;
+      room = omega (arith, l, e, f.cards_fit);
+      cards = rw (e, h) (cards_back (cards_of c text) lc w f.cards_fit);
     }
 
 -- FullCards (cards_of c text), which holds of every text, is taken as given.
-pub both_cards : {c : Conventions} {old new : List ℕ} {boxes boxes' : Boxes} {m n : ℕ} → BothRead c old new boxes boxes' (Both m n)
-    → FullCards (cards_of c old) → FullCards (cards_of c new) → CardsThere c old boxes'.old_cards m × CardsThere c new boxes'.new_cards n
+pub both_cards : {c : Conventions} {old new : List ℕ} {boxes boxes' : Boxes} {n : Both} → BothRead c old new boxes boxes' (Ok n)
+    → FullCards (cards_of c old) → FullCards (cards_of c new) → CardsThere c old boxes'.old_cards n.old.boards × CardsThere c new boxes'.new_cards n.new.boards
 unfolding editions_of
-both_cards {c} {old} {new} {boxes} {boxes'} {m} {n} b wo wn =
-    let t = taken_both (old_reading c old boxes) (new_reading c new boxes) m n b.answer in (
-      cards_there c old (length boxes.old_cards) (length boxes.old_entries) m t.0.entries boxes'.old_cards wo t.0.is b.boxes_left.old_cards,
-      cards_there c new (length boxes.new_cards) (length boxes.new_entries) n t.1.entries boxes'.new_cards wn t.1.is b.boxes_left.new_cards,
+both_cards {c} {old} {new} {boxes} {boxes'} {n} b wo wn =
+    let t = taken_both (old_reading c old boxes) (new_reading c new boxes) n b.answer in (
+      cards_there c old (length boxes.old_cards) (length boxes.old_entries) n.old boxes'.old_cards wo t.0 b.boxes_left.old_cards,
+      cards_there c new (length boxes.new_cards) (length boxes.new_entries) n.new boxes'.new_cards wn t.1 b.boxes_left.new_cards,
     )

@@ -1,18 +1,19 @@
 -- Laws of the cards in lent words.
 use Prim.Native.Nat.{ℕ, zero, suc, ◌+◌, ◌*◌, ◌-◌, ◌/◌, ◌≤◌, ◌<◌}
-use mathlib.Core.Path.{◌≡◌, refl, sym, ap, ◌∙◌}
+use mathlib.Core.Path.{◌≡◌, refl, ap, ◌∙◌}
 use mathlib.Core.List.{List, ◌∷◌, ◌++◌, append_assoc}
 use native.Mathlib.Omega.{arith}
 use lib.Dec.{ltb}
 use lib.ListN.{length, take, drop, replicate}
 use lib.Seq.{drop-drop, take_at, drop_at}
+use Rattle.std.specs.Simd.{first_chunks}
 use borrow.Author.Tests.{ltb-false}
+use Rattle.std.specs.Prelude.{Ok, is_ok}
 use Rattle.tables.specs.declared.letters.Conventions.{Conventions}
 use Rattle.tables.proofs.Laws.{by_cases, clash}
-use Rattle.reader.specs.declared.edition.Reading.{Reading}
-use Rattle.reader.specs.declared.edition.Reading.TheVariants.{Taken, Refused}
+use Rattle.reader.specs.declared.edition.Counts.{Counts}
 use Rattle.reader.specs.Store.{flat, padded}
-use Rattle.reader.specs.Editions.{is_taken, counts_answer, reading_of, cards_of, entries_of}
+use Rattle.reader.specs.Editions.{counts_of, counts_answer, reading_of}
 use Rattle.reader.specs.EditionSteps.{FullCards, none, one}
 use Rattle.planning.specs.Cards.{card_here}
 use Rattle.planning.specs.PlanSteps.{cards_in}
@@ -47,6 +48,12 @@ cards_take zero n box h = refl
 cards_take (suc k) zero box h = absurd (omega arith)
 cards_take (suc k) (suc n) box h = rw (cards_take k n (drop 64 box) (omega arith))
 
+-- The first n of the blocks of 64 words.
+pub chunks_take : (n m : ℕ) (box : List ℕ) → n ≤ m → take n (first_chunks 64 m box) ≡ cards_in n box
+chunks_take zero m box h = refl
+chunks_take (suc n) zero box h = absurd (omega arith)
+chunks_take (suc n) (suc m) box h = rw (chunks_take n m (drop 64 box) (omega arith))
+
 -- The cards from index k on.
 pub cards_drop : (k n : ℕ) (box : List ℕ) → k ≤ n → drop k (cards_in n box) ≡ cards_in (n - k) (drop (64 * k) box)
 cards_drop zero n box h =
@@ -57,13 +64,6 @@ cards_drop (suc k) (suc n) box h =
     let e : 64 + 64 * k ≡ 64 * suc k = omega arith in
     let f : suc n - suc k ≡ n - k = omega arith in
     cards_drop k n (drop 64 box) (omega arith) ∙ rw (drop-drop (64 * k) 64 box, e, f)
-
--- The card at index k and those behind it.
-pub card_step : (n k : ℕ) (box : List ℕ) → k < n → cards_in (n - k) (drop (64 * k) box) ≡ card_here k box ∷ cards_in (n - (k + 1)) (drop (64 * (k + 1)) box)
-card_step n k box h =
-    let e : n - k ≡ suc (n - (k + 1)) = omega arith in
-    let f : 64 * k + 64 ≡ 64 * (k + 1) = omega arith in
-    rw (e, drop-drop 64 (64 * k) box, f)
 
 -- n cards, split at the k-th.
 pub cards_split : (n k : ℕ) (box : List ℕ) → k < n → cards_in n box ≡ cards_in k box ++ (card_here k box ∷ cards_in (n - suc k) (drop (64 * suc k) box))
@@ -89,41 +89,30 @@ cards_back xs l w h = cards_front (replicate (l - length (flat xs)) 0) w
 
 -- ---- a taken edition fits
 
-abbrev boards_told : Reading → ℕ
-boards_told (Taken b e) = b
-boards_told (Refused f) = 0
-
-abbrev entries_told : Reading → ℕ
-entries_told (Taken b e) = e
-entries_told (Refused f) = 0
-
 -- An edition that was taken: its counts, and that everything fits.
-pub record TakenFits (boards entries lc le b e : ℕ) : Type 0 where
-  pub boards_are : b ≡ boards
-  pub entries_are : e ≡ entries
-  pub cards_fit : 64 * boards ≤ lc
-  pub entries_fit : 4 * entries ≤ le
+pub record TakenFits (n : Counts) (lc le : ℕ) (k : Counts) : Type 0 where
+  pub counts_are : k ≡ n
+  pub cards_fit : 64 * n.boards ≤ lc
+  pub entries_fit : 4 * n.entries ≤ le
 
-verdict_fits : (lc le boards entries b e : ℕ) → counts_answer lc le boards entries ≡ Taken b e → TakenFits boards entries lc le b e
-verdict_fits lc le n m b e h =
-    by_cases (ltb (lc / 64) n)
-    (λ f. clash (ap is_taken (rw f at h)))
+verdict_fits : (lc le : ℕ) (n k : Counts) → counts_answer lc le n ≡ Ok k → TakenFits n lc le k
+verdict_fits lc le n k h =
+    by_cases (ltb (lc / 64) n.boards)
+    (λ f. clash (ap is_ok (rw f at h)))
     (λ f.
-    by_cases (ltb (le / 4) m)
-    (λ g. clash (ap is_taken (rw (f, g) at h)))
+    by_cases (ltb (le / 4) n.entries)
+    (λ g. clash (ap is_ok (rw (f, g) at h)))
     (λ g.
-    let k = rw (f, g) at h in
+    let q = rw (f, g) at h in
     record {
-      boards_are = sym (ap boards_told k);
-      entries_are = sym (ap entries_told k);
-      cards_fit = omega (arith, ltb-false (lc / 64) n f);
-      entries_fit = omega (arith, ltb-false (le / 4) m g);
+      counts_are = cc;
+      cards_fit = omega (arith, ltb-false (lc / 64) n.boards f);
+      entries_fit = omega (arith, ltb-false (le / 4) n.entries g);
     }))
 
-pub taken_fits : (c : Conventions) (text : List ℕ) (lc le b e : ℕ) → reading_of c text lc le ≡ Taken b e
-    → TakenFits (length (cards_of c text)) (length (entries_of c text)) lc le b e
+pub taken_fits : (c : Conventions) (text : List ℕ) (lc le : ℕ) (k : Counts) → reading_of c text lc le ≡ Ok k → TakenFits (counts_of c text) lc le k
 unfolding reading_of
-taken_fits c text lc le b e h =
+taken_fits c text lc le k h =
     by_cases (ltb 16777215 (length text))
-    (λ f. clash (ap is_taken (rw f at h)))
-    (λ f. verdict_fits lc le (length (cards_of c text)) (length (entries_of c text)) b e (rw f at h))
+    (λ f. clash (ap is_ok (rw f at h)))
+    (λ f. verdict_fits lc le (counts_of c text) k (rw f at h))

@@ -4,59 +4,55 @@ use mathlib.Core.Path.{◌≡◌, refl, sym, ap, ◌∙◌}
 use mathlib.Core.Bool.{Bool, true, false, cond}
 use mathlib.Core.List.{List, [], ◌∷◌, ◌++◌, map, append_assoc}
 use native.Mathlib.Omega.{arith}
-use lib.ListN.{length, get_or, set, drop, drop_of_length-le, length-append, length-map}
+use lib.ListN.{length, get_or, set, take, drop, replicate, drop_of_length-le, length-append, length-map}
 use lib.Seq.{drop-drop}
-use borrow.Author.Tests.{eq-eqb, ne_eqb}
 use Rattle.reader.specs.Store.{flat, padded}
 use Rattle.planning.specs.declared.state.BoardState.{BoardState}
 use Rattle.planning.specs.declared.slips.Slip.{Slip}
 use Rattle.planning.specs.declared.slips.NextSlip.{NextSlip}
-use Rattle.planning.specs.Cards.{card_here}
-use Rattle.planning.specs.PlanSteps.{cards_in, plan_here}
-use Rattle.planning.specs.States.{BoardPlan, board_plans, is_solve, state_number, state_of}
-use Rattle.planning.specs.Slips.{slip_of, slips_of, five_of, slip_numbers}
+use Rattle.planning.specs.PlanSteps.{plan_here}
+use Rattle.planning.specs.States.{BoardPlan, board_plans, is_solve, state_of}
+use Rattle.planning.specs.Slips.{slip_of, slips_of, five_of, slip_numbers, card_from}
 use Rattle.planning.specs.SlipSteps.{slip_struct, no_slip, slip_from, next_of, filled_from}
 use Rattle.planning.proofs.BoardLaws.{left_first, left_step, left_drop, boards_count}
 
 -- ---- the next slip
 
-left_at : (os : List (List ℕ)) (n i : ℕ) (box : List ℕ) → i < n
-    → drop i (board_plans os (cards_in n box)) ≡ plan_here os (cards_in n box) i box ∷ drop (i + 1) (board_plans os (cards_in n box))
-left_at os n i box h =
-    let ns = cards_in n box in
-    ap (drop i) (left_first os n box) ∙ left_drop os ns i n box (omega arith) ∙ left_step os ns i n box h
-    ∙ ap (λ (js : List BoardPlan). plan_here os ns i box ∷ js) (sym (ap (drop (i + 1)) (left_first os n box) ∙ left_drop os ns (i + 1) n box (omega arith)))
+left_at : (os ns : List (List ℕ)) (i : ℕ) → i < length ns → drop i (board_plans os ns) ≡ plan_here os ns i ∷ drop (i + 1) (board_plans os ns)
+left_at os ns i h =
+    ap (drop i) (left_first os ns) ∙ left_drop os ns i (omega arith) ∙ left_step os ns i h
+    ∙ ap (λ (js : List BoardPlan). plan_here os ns i ∷ js) (sym (ap (drop (i + 1)) (left_first os ns) ∙ left_drop os ns (i + 1) (omega arith)))
 
-left_past : (os : List (List ℕ)) (n i : ℕ) (box : List ℕ) → n ≤ i → drop i (board_plans os (cards_in n box)) ≡ []
-left_past os n i box h = drop_of_length-le (board_plans os (cards_in n box)) {i = i} (rw (boards_count os n box) h)
+left_past : (os ns : List (List ℕ)) (i : ℕ) → length ns ≤ i → drop i (board_plans os ns) ≡ []
+left_past os ns i h = drop_of_length-le (board_plans os ns) {i = i} (rw (boards_count os ns) h)
 
 -- Sought from index k on, no board to solve was found before index i.
-pub record Sought (olds : ℕ) (old : List ℕ) (news : ℕ) (new : List ℕ) (k i : ℕ) : Type 0 where
-  pub same : next_of olds old news new i ≡ next_of olds old news new k
+pub record Sought (olds news : List (List ℕ)) (k i : ℕ) : Type 0 where
+  pub same : next_of olds news i ≡ next_of olds news k
 
-module _ {olds : ℕ} {old : List ℕ} {news : ℕ} {new : List ℕ} {k i : ℕ} (inv : Sought olds old news new k i) where
+module _ {olds news : List (List ℕ)} {k i : ℕ} (inv : Sought olds news k i) where
   -- The board at index i is to be solved.
-  pub next_here : {s : BoardState} {n : ℕ} {x : Slip} → i < news → s ≡ state_of (cards_in olds old) (cards_in news new) (cards_in i new) (card_here i new) → n ≡ state_number s → n ≡ 5
-      → x ≡ slip_struct (i + 1) (card_here i new) → record { next = i + 1; slip = x } ≡ next_of olds old news new k
+  pub next_here : {s : BoardState} {x : Slip} → i < length news → s ≡ state_of olds news (take i news) (card_from news i) → is_solve s ≡ true
+      → x ≡ slip_struct (i + 1) (card_from news i) → record { next = i + 1; slip = x } ≡ next_of olds news k
   unfolding next_of
-  next_here {s} {n} {x} h e en f ex =
-      let g : is_solve (state_of (cards_in olds old) (cards_in news new) (cards_in i new) (card_here i new)) ≡ true = rw (← e, ← en) (eq-eqb n 5 f) in
-      let q : next_of olds old news new i ≡ record { next = i + 1; slip = x } = rw (left_at (cards_in olds old) news i new h, g, ex) in
+  next_here {s} {x} h e f ex =
+      let g : is_solve (state_of olds news (take i news) (card_from news i)) ≡ true = rw (← e) f in
+      let q : next_of olds news i ≡ record { next = i + 1; slip = x } = rw (left_at olds news i h, g, ex) in
       sym q ∙ inv.same
 
   -- It is not.
-  pub next_more : {s : BoardState} {n : ℕ} → i < news → s ≡ state_of (cards_in olds old) (cards_in news new) (cards_in i new) (card_here i new) → n ≡ state_number s → (n ≡ 5 → ⊥)
-      → Sought olds old news new k (i + 1)
+  pub next_more : {s : BoardState} → i < length news → s ≡ state_of olds news (take i news) (card_from news i) → is_solve s ≡ false
+      → Sought olds news k (i + 1)
   unfolding next_of
-  next_more {s} {n} h e en f =
-      let g : is_solve (state_of (cards_in olds old) (cards_in news new) (cards_in i new) (card_here i new)) ≡ false = rw (← e, ← en) (ne_eqb n 5 f) in
-      let q : next_of olds old news new i ≡ next_of olds old news new (i + 1) = rw (left_at (cards_in olds old) news i new h, g) in
+  next_more {s} h e f =
+      let g : is_solve (state_of olds news (take i news) (card_from news i)) ≡ false = rw (← e) f in
+      let q : next_of olds news i ≡ next_of olds news (i + 1) = rw (left_at olds news i h, g) in
       record { same = sym q ∙ inv.same }
 
   -- There is none left.
-  pub next_none : news ≤ i → record { next = i; slip = no_slip } ≡ next_of olds old news new k
+  pub next_none : length news ≤ i → record { next = i; slip = no_slip } ≡ next_of olds news k
   unfolding next_of
-  next_none h = let q : next_of olds old news new i ≡ record { next = i; slip = no_slip } = rw (left_past (cards_in olds old) news i new h) in sym q ∙ inv.same
+  next_none h = let q : next_of olds news i ≡ record { next = i; slip = no_slip } = rw (left_past olds news i h) in sym q ∙ inv.same
 
 -- ---- one struct after the other
 
@@ -164,6 +160,14 @@ pub numbers_length : (slips : List Slip) → length (slip_numbers slips) ≡ 5 *
 unfolding slip_numbers
 numbers_length [] = refl
 numbers_length (s ∷ ss) = omega (arith, numbers_length ss)
+
+-- Structs of zeros.
+pub none_numbers : (n : ℕ) → slip_numbers (replicate n no_slip) ≡ replicate (5 * n) 0
+unfolding slip_numbers
+none_numbers zero = refl
+none_numbers (suc n) =
+    let e : 5 * suc n ≡ suc (suc (suc (suc (suc (5 * n))))) = omega arith in
+    rw (e, none_numbers n)
 
 -- As many structs as there are slips, or more: the slips' numbers, and zeros behind them.
 pub slips_filled : (js : List BoardPlan) (n : ℕ) → length (slips_of js) ≤ n → slip_numbers (filled_from (λ i. slip_from i (drop i js)) 0 n) ≡ padded (5 * n) (flat (slips_of js))

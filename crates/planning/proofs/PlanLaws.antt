@@ -5,14 +5,13 @@ use mathlib.Core.Bool.{Bool, true, false, cond}
 use mathlib.Core.List.{List, [], ◌∷◌, map}
 use native.Mathlib.Omega.{arith}
 use lib.Dec.{eqb}
-use lib.ListN.{length}
+use lib.ListN.{length, take}
 use Rattle.reader.specs.Store.{put, put_all}
 use Rattle.planning.specs.declared.state.BoardState.{BoardState}
 use Rattle.planning.specs.declared.plan.Totals.{Totals}
-use Rattle.planning.specs.Cards.{card_here}
-use Rattle.planning.specs.PlanSteps.{cards_in, plan_here, tally, counted, no_totals, Within}
+use Rattle.planning.specs.PlanSteps.{plan_here, tally, counted, no_totals, Within}
 use Rattle.planning.specs.States.{BoardPlan, board_plans, is_solve, state_number, state_of}
-use Rattle.planning.specs.Slips.{slip_of, slips_of, count_of, totals_of}
+use Rattle.planning.specs.Slips.{slip_of, slips_of, count_of, totals_of, card_from}
 use Rattle.planning.proofs.BoardLaws.{boards_left, left_first, left_step, left_none, boards_count}
 
 -- ---- counts
@@ -91,47 +90,47 @@ left_nothing {all} {slips₀} {t} {slips} l = (
   l.slips_in,
 )
 
--- ---- the loop, at index k of n cards
+-- ---- the loop, at index k
 
-pub record Turn (os : List (List ℕ)) (n : ℕ) (box slips₀ : List ℕ) (t : Totals) (k : ℕ) (slips : List ℕ) : Type 0 where
-  pub inside : k ≤ n
+pub record Turn (os ns : List (List ℕ)) (slips₀ : List ℕ) (t : Totals) (k : ℕ) (slips : List ℕ) : Type 0 where
+  pub inside : k ≤ length ns
   pub slips_length : length slips ≡ length slips₀
-  pub left : Left (board_plans os (cards_in n box)) slips₀ (boards_left os (cards_in n box) k n box) t slips
+  pub left : Left (board_plans os ns) slips₀ (boards_left os ns k) t slips
 
-pub turn_first : (os : List (List ℕ)) (n : ℕ) (box slips : List ℕ) → Turn os n box slips no_totals 0 slips
-turn_first os n box slips =
+pub turn_first : (os ns : List (List ℕ)) (slips : List ℕ) → Turn os ns slips no_totals 0 slips
+turn_first os ns slips =
     record {
       inside = omega arith;
       slips_length = refl;
-      left = subst⁻¹ (λ (js : List BoardPlan). Left js slips (boards_left os (cards_in n box) 0 n box) no_totals slips) (left_first os n box) (left_all (boards_left os (cards_in n box) 0 n box) slips);
+      left = subst⁻¹ (λ (js : List BoardPlan). Left js slips (boards_left os ns 0) no_totals slips) (left_first os ns) (left_all (boards_left os ns 0) slips);
     }
 
-module _ {os : List (List ℕ)} {n : ℕ} {box slips₀ : List ℕ} {t : Totals} {k : ℕ} {slips : List ℕ} (i : Turn os n box slips₀ t k slips) where
-  pub turn_next : {s : BoardState} {t' : Totals} {slips' : List ℕ} → k < n → s ≡ state_of os (cards_in n box) (cards_in k box) (card_here k box)
-      → slips' ≡ cond (is_solve s) (put 5 slips t.solve (slip_of (k + 1) (card_here k box))) slips → t' ≡ counted t s → length slips' ≡ length slips
-      → Turn os n box slips₀ t' (k + 1) slips'
+module _ {os ns : List (List ℕ)} {slips₀ : List ℕ} {t : Totals} {k : ℕ} {slips : List ℕ} (i : Turn os ns slips₀ t k slips) where
+  pub turn_next : {s : BoardState} {t' : Totals} {slips' : List ℕ} → k < length ns → s ≡ state_of os ns (take k ns) (card_from ns k)
+      → slips' ≡ cond (is_solve s) (put 5 slips t.solve (slip_of (k + 1) (card_from ns k))) slips → t' ≡ counted t s → length slips' ≡ length slips
+      → Turn os ns slips₀ t' (k + 1) slips'
   turn_next {s} {t'} {slips'} h es ep et el =
-      let j = plan_here os (cards_in n box) k box in
-      let l : Left (board_plans os (cards_in n box)) slips₀ (j ∷ boards_left os (cards_in n box) (k + 1) n box) t slips = rw (left_step os (cards_in n box) k n box h) at i.left in
+      let j = plan_here os ns k in
+      let l : Left (board_plans os ns) slips₀ (j ∷ boards_left os ns (k + 1)) t slips = rw (left_step os ns k h) at i.left in
       let m = left_less l in
       let et' : t' ≡ counted t j.state = et ∙ ap (counted t) es in
-      let ep' : slips' ≡ cond (is_solve j.state) (put 5 slips t.solve (slip_of (k + 1) (card_here k box))) slips = ep ∙ ap (λ (x : BoardState). cond (is_solve x) (put 5 slips t.solve (slip_of (k + 1) (card_here k box))) slips) es in
-      let all = board_plans os (cards_in n box) in
-      let rest = boards_left os (cards_in n box) (k + 1) n box in
+      let ep' : slips' ≡ cond (is_solve j.state) (put 5 slips t.solve (slip_of (k + 1) (card_from ns k))) slips = ep ∙ ap (λ (x : BoardState). cond (is_solve x) (put 5 slips t.solve (slip_of (k + 1) (card_from ns k))) slips) es in
+      let all = board_plans os ns in
+      let rest = boards_left os ns (k + 1) in
       record {
         inside = omega arith;
         slips_length = el ∙ i.slips_length;
         left = subst⁻¹ (λ (x : Totals). Left all slips₀ rest x slips') et' (subst⁻¹ (λ (y : List ℕ). Left all slips₀ rest (counted t j.state) y) ep' m);
       }
 
-  pub turn_end : n ≤ k → (t ≡ totals_of (board_plans os (cards_in n box))) × (slips ≡ put_all 5 slips₀ 0 (slips_of (board_plans os (cards_in n box))))
-  turn_end h = left_nothing (rw (left_none os (cards_in n box) k n box h) at i.left)
+  pub turn_end : length ns ≤ k → (t ≡ totals_of (board_plans os ns)) × (slips ≡ put_all 5 slips₀ 0 (slips_of (board_plans os ns)))
+  turn_end h = left_nothing (rw (left_none os ns k h) at i.left)
 
   -- No count is above the boards.
-  pub turn_within : {m : ℕ} → n ≤ m → Within m t
+  pub turn_within : {m : ℕ} → length ns ≤ m → Within m t
   turn_within {m} h =
-      let all = board_plans os (cards_in n box) in
-      let e : length all ≡ n = boards_count os n box in
+      let all = board_plans os ns in
+      let e : length all ≡ length ns = boards_count os ns in
       let l = i.left in
       record {
         boards = omega (arith, l.boards_in, e);
@@ -145,31 +144,30 @@ module _ {os : List (List ℕ)} {n : ℕ} {box slips₀ : List ℕ} {t : Totals}
 
 -- ---- five numbers a board, stored board after board: row gives those of a board
 
-pub record Rows (row : BoardPlan → List ℕ) (os : List (List ℕ)) (n : ℕ) (box numbers₀ : List ℕ) (k : ℕ) (numbers : List ℕ) : Type 0 where
-  pub inside : k ≤ n
+pub record Rows (row : BoardPlan → List ℕ) (os ns : List (List ℕ)) (numbers₀ : List ℕ) (k : ℕ) (numbers : List ℕ) : Type 0 where
+  pub inside : k ≤ length ns
   pub numbers_length : length numbers ≡ length numbers₀
-  pub rest : put_all 5 numbers k (map row (boards_left os (cards_in n box) k n box)) ≡ put_all 5 numbers₀ 0 (map row (board_plans os (cards_in n box)))
+  pub rest : put_all 5 numbers k (map row (boards_left os ns k)) ≡ put_all 5 numbers₀ 0 (map row (board_plans os ns))
 
-pub rows_first : (row : BoardPlan → List ℕ) (os : List (List ℕ)) (n : ℕ) (box numbers : List ℕ) → Rows row os n box numbers 0 numbers
-rows_first row os n box numbers =
+pub rows_first : (row : BoardPlan → List ℕ) (os ns : List (List ℕ)) (numbers : List ℕ) → Rows row os ns numbers 0 numbers
+rows_first row os ns numbers =
     record {
       inside = omega arith;
       numbers_length = refl;
-      rest = ap (λ (js : List BoardPlan). put_all 5 numbers 0 (map row js)) (sym (left_first os n box));
+      rest = ap (λ (js : List BoardPlan). put_all 5 numbers 0 (map row js)) (sym (left_first os ns));
     }
 
-module _ {row : BoardPlan → List ℕ} {os : List (List ℕ)} {n : ℕ} {box numbers₀ : List ℕ} {k : ℕ} {numbers : List ℕ} (i : Rows row os n box numbers₀ k numbers) where
-  pub rows_next : {numbers' five : List ℕ} → k < n → five ≡ row (plan_here os (cards_in n box) k box)
-      → numbers' ≡ put 5 numbers k five → length numbers' ≡ length numbers → Rows row os n box numbers₀ (k + 1) numbers'
+module _ {row : BoardPlan → List ℕ} {os ns : List (List ℕ)} {numbers₀ : List ℕ} {k : ℕ} {numbers : List ℕ} (i : Rows row os ns numbers₀ k numbers) where
+  pub rows_next : {numbers' five : List ℕ} → k < length ns → five ≡ row (plan_here os ns k)
+      → numbers' ≡ put 5 numbers k five → length numbers' ≡ length numbers → Rows row os ns numbers₀ (k + 1) numbers'
   rows_next {numbers'} {five} h ef ep el =
-      let ns = cards_in n box in
-      let rest = map row (boards_left os ns (k + 1) n box) in
-      let e : numbers' ≡ put 5 numbers k (row (plan_here os ns k box)) = ep ∙ ap (put 5 numbers k) ef in
+      let rest = map row (boards_left os ns (k + 1)) in
+      let e : numbers' ≡ put 5 numbers k (row (plan_here os ns k)) = ep ∙ ap (put 5 numbers k) ef in
       record {
         inside = omega arith;
         numbers_length = el ∙ i.numbers_length;
-        rest = ap (λ (l : List ℕ). put_all 5 l (k + 1) rest) e ∙ (rw (left_step os ns k n box h) at i.rest);
+        rest = ap (λ (l : List ℕ). put_all 5 l (k + 1) rest) e ∙ (rw (left_step os ns k h) at i.rest);
       }
 
-  pub rows_end : n ≤ k → numbers ≡ put_all 5 numbers₀ 0 (map row (board_plans os (cards_in n box)))
-  rows_end h = rw (left_none os (cards_in n box) k n box h) at i.rest
+  pub rows_end : length ns ≤ k → numbers ≡ put_all 5 numbers₀ 0 (map row (board_plans os ns))
+  rows_end h = rw (left_none os ns k h) at i.rest

@@ -1,22 +1,23 @@
 -- Laws of the search and of the words that it compares.
-use Prim.Native.Nat.{ℕ, ◌+◌, ◌*◌, ◌-◌, ◌≤◌, ◌<◌}
+use Prim.Native.Nat.{ℕ, ◌+◌, ◌*◌, ◌≤◌, ◌<◌}
 use mathlib.Core.Path.{◌≡◌, refl, sym, ap, ◌∙◌}
 use mathlib.Core.Bool.{Bool, true, false, cond, ◌&&◌, ◌||◌, not}
 use mathlib.Core.List.{List, [], ◌∷◌}
 use native.Mathlib.Omega.{arith}
 use lib.Dec.{eqb}
-use lib.ListN.{length, drop, get_or, length-take}
+use lib.ListN.{length, drop, get_or, length-take, drop_of_length-le}
 use Rattle.tables.proofs.Laws.{by_cases, both, clash}
 use Rattle.reader.specs.Words.{same}
 use Rattle.reader.specs.Deals.{whole_hands, hands_of_words}
 use Rattle.reader.proofs.WordLaws.{same_is}
 use Rattle.planning.specs.declared.search.Found.{Found}
-use Rattle.planning.specs.Cards.{card_deal, hands_of, is_whole, has_table, has_deal, fits, card_here}
-use Rattle.planning.specs.PlanSteps.{cards_in, equal_front, may_fit}
+use Rattle.planning.specs.Cards.{card_deal, hands_of, is_whole, has_table, has_deal, fits}
+use Rattle.planning.specs.PlanSteps.{equal_front, may_fit}
 use Rattle.planning.specs.States.{first_from, first_with}
 use Rattle.planning.specs.Searches.{passed_over, compared_words, compared, search_from, searched}
 use Rattle.planning.specs.Demands.{FoundSame, WordsFew}
-use Rattle.planning.proofs.BoxLaws.{card_step}
+use Rattle.planning.specs.Slips.{card_from}
+use Rattle.planning.proofs.BoardLaws.{cards_left}
 
 -- ---- the words of two deals
 
@@ -172,31 +173,27 @@ pub few_words : WordsFew
 unfolding searched
 few_words tabled d cards = omega (arith, few_from tabled d 1 0 cards)
 
--- ---- the loop, at index k of n cards
+-- ---- the loop, at index k
 
-module _ (tabled : Bool) (d : List ℕ) (n : ℕ) (box : List ℕ) where
+module _ (tabled : Bool) (d : List ℕ) (cards : List (List ℕ)) where
   -- What is left to search from index k on, w words having been compared.
   abbrev pub search_left : ℕ → ℕ → Found
-  search_left k w = search_from tabled d (k + 1) w (cards_in (n - k) (drop (64 * k) box))
+  search_left k w = search_from tabled d (k + 1) w (drop k cards)
 
-  pub search_first : search_left 0 0 ≡ searched tabled d (cards_in n box)
+  pub search_first : search_left 0 0 ≡ searched tabled d cards
   unfolding searched
-  search_first =
-      let e : n - 0 ≡ n = omega arith in
-      rw e
+  search_first = refl
 
-  search_next : (k w : ℕ) → k < n
-      → search_left k w ≡ cond (fits tabled d (card_here k box)) (record { board = k + 1; words = w + compared tabled d (card_here k box) }) (search_left (k + 1) (w + compared tabled d (card_here k box)))
-  search_next k w h = rw (card_step n k box h) (search_step tabled d (k + 1) w (card_here k box) (cards_in (n - (k + 1)) (drop (64 * (k + 1)) box)))
+  search_next : (k w : ℕ) → k < length cards
+      → search_left k w ≡ cond (fits tabled d (card_from cards k)) (record { board = k + 1; words = w + compared tabled d (card_from cards k) }) (search_left (k + 1) (w + compared tabled d (card_from cards k)))
+  search_next k w h = rw (cards_left cards k h) (search_step tabled d (k + 1) w (card_from cards k) (drop (k + 1) cards))
 
-  module _ {f : Bool} {v : ℕ} (k w : ℕ) (h : k < n) (ef : f ≡ fits tabled d (card_here k box)) (ev : v ≡ compared tabled d (card_here k box)) where
+  module _ {f : Bool} {v : ℕ} (k w : ℕ) (h : k < length cards) (ef : f ≡ fits tabled d (card_from cards k)) (ev : v ≡ compared tabled d (card_from cards k)) where
     pub search_found : f ≡ true → record { board = k + 1; words = w + v } ≡ search_left k w
     search_found t = rw (ev) (sym (search_next k w h ∙ rw (← ef, t)))
 
     pub search_past : f ≡ false → search_left (k + 1) (w + v) ≡ search_left k w
     search_past t = rw (ev) (sym (search_next k w h ∙ rw (← ef, t)))
 
-  pub search_stop : (k w : ℕ) → n ≤ k → record { board = 0; words = w } ≡ search_left k w
-  search_stop k w h =
-      let e : n - k ≡ 0 = omega arith in
-      rw e
+  pub search_stop : (k w : ℕ) → length cards ≤ k → record { board = 0; words = w } ≡ search_left k w
+  search_stop k w h = rw (drop_of_length-le cards {i = k} h)

@@ -11,10 +11,9 @@ use Rattle.reader.specs.Store.{put}
 use Rattle.planning.specs.declared.search.Found.{Found}
 use Rattle.planning.specs.declared.state.BoardState.{BoardState}
 use Rattle.planning.specs.Cards.{card_deal, is_whole}
-use Rattle.planning.specs.PlanSteps.{cards_in, plan_here}
+use Rattle.planning.specs.PlanSteps.{plan_here}
 use Rattle.planning.specs.States.{BoardPlan, state_number, from_of, state_of, board_plans}
 use Rattle.planning.specs.Searches.{searched, old_sought, near_sought, twin_sought, words_if, old_words, near_words, twin_words, search_numbers, words_in_all}
-use Rattle.planning.proofs.BoxLaws.{cards_count}
 use Rattle.planning.proofs.BoardLaws.{boards_left, left_first, left_step, left_none, boards_count}
 use Rattle.planning.proofs.PlanLaws.{Rows, rows_first, rows_next}
 use Rattle.planning.proofs.SearchLaws.{few_words}
@@ -74,13 +73,13 @@ all_few olds news (j ∷ js) ho hn = omega (arith, board_few olds news j ho hn, 
 
 -- ---- five numbers a board, stored board after board, and their words
 
-pub record SearchRows (os : List (List ℕ)) (n : ℕ) (box numbers₀ : List ℕ) (k : ℕ) (numbers : List ℕ) (words : ℕ) : Type 0 where
-  pub rows : Rows (search_numbers os (cards_in n box)) os n box numbers₀ k numbers
-  pub words_in : words + words_in_all os (cards_in n box) (boards_left os (cards_in n box) k n box) ≡ words_in_all os (cards_in n box) (board_plans os (cards_in n box))
+pub record SearchRows (os ns : List (List ℕ)) (numbers₀ : List ℕ) (k : ℕ) (numbers : List ℕ) (words : ℕ) : Type 0 where
+  pub rows : Rows (search_numbers os ns) os ns numbers₀ k numbers
+  pub words_in : words + words_in_all os ns (boards_left os ns k) ≡ words_in_all os ns (board_plans os ns)
 
-pub search_rows_first : (os : List (List ℕ)) (n : ℕ) (box numbers : List ℕ) → SearchRows os n box numbers 0 numbers 0
-search_rows_first os n box numbers =
-    record { rows = rows_first (search_numbers os (cards_in n box)) os n box numbers; words_in = omega (arith, ap (words_in_all os (cards_in n box)) (sym (left_first os n box))) }
+pub search_rows_first : (os ns : List (List ℕ)) (numbers : List ℕ) → SearchRows os ns numbers 0 numbers 0
+search_rows_first os ns numbers =
+    record { rows = rows_first (search_numbers os ns) os ns numbers; words_in = omega (arith, ap (words_in_all os ns) (sym (left_first os ns))) }
 
 -- Three of the five numbers are words.
 abbrev pub five_words : List ℕ → ℕ
@@ -90,22 +89,22 @@ words_five : {five : List ℕ} (olds news : List (List ℕ)) (j : BoardPlan) →
 unfolding search_numbers
 words_five olds news j e = rw e
 
-module _ {os : List (List ℕ)} {n : ℕ} {box numbers₀ : List ℕ} {k : ℕ} {numbers : List ℕ} {words : ℕ} (i : SearchRows os n box numbers₀ k numbers words) where
-  words_step : {five : List ℕ} → k < n → five ≡ search_numbers os (cards_in n box) (plan_here os (cards_in n box) k box)
-      → words + five_words five + words_in_all os (cards_in n box) (boards_left os (cards_in n box) (k + 1) n box) ≡ words_in_all os (cards_in n box) (board_plans os (cards_in n box))
+module _ {os ns : List (List ℕ)} {numbers₀ : List ℕ} {k : ℕ} {numbers : List ℕ} {words : ℕ} (i : SearchRows os ns numbers₀ k numbers words) where
+  words_step : {five : List ℕ} → k < length ns → five ≡ search_numbers os ns (plan_here os ns k)
+      → words + five_words five + words_in_all os ns (boards_left os ns (k + 1)) ≡ words_in_all os ns (board_plans os ns)
   words_step h e =
-      let w = rw (left_step os (cards_in n box) k n box h) at i.words_in in
-      omega (arith, words_five os (cards_in n box) (plan_here os (cards_in n box) k box) e, w)
+      let w = rw (left_step os ns k h) at i.words_in in
+      omega (arith, words_five os ns (plan_here os ns k) e, w)
 
-  pub search_rows_next : {numbers' five : List ℕ} → k < n → five ≡ search_numbers os (cards_in n box) (plan_here os (cards_in n box) k box)
-      → numbers' ≡ put 5 numbers k five → length numbers' ≡ length numbers → SearchRows os n box numbers₀ (k + 1) numbers' (words + five_words five)
+  pub search_rows_next : {numbers' five : List ℕ} → k < length ns → five ≡ search_numbers os ns (plan_here os ns k)
+      → numbers' ≡ put 5 numbers k five → length numbers' ≡ length numbers → SearchRows os ns numbers₀ (k + 1) numbers' (words + five_words five)
   search_rows_next h ef ep el = record { rows = rows_next i.rows h ef ep el; words_in = words_step h ef }
 
   -- The words of all boards are a number of 64 bits, so those of the boards so far are.
-  pub search_rows_fit : {five : List ℕ} → length os ≤ 16777215 → n ≤ 16777215 → k < n → five ≡ search_numbers os (cards_in n box) (plan_here os (cards_in n box) k box)
+  pub search_rows_fit : {five : List ℕ} → length os ≤ 16777215 → length ns ≤ 16777215 → k < length ns → five ≡ search_numbers os ns (plan_here os ns k)
       → words + five_words five < 9007199254740992
   search_rows_fit ho hn h ef =
-      omega (arith, words_step h ef, all_few os (cards_in n box) (board_plans os (cards_in n box)) ho (rw (cards_count n box) hn), boards_count os n box)
+      omega (arith, words_step h ef, all_few os ns (board_plans os ns) ho hn, boards_count os ns)
 
-  pub search_rows_end : n ≤ k → words ≡ words_in_all os (cards_in n box) (board_plans os (cards_in n box))
-  search_rows_end h = omega (arith, rw (left_none os (cards_in n box) k n box h) at i.words_in)
+  pub search_rows_end : length ns ≤ k → words ≡ words_in_all os ns (board_plans os ns)
+  search_rows_end h = omega (arith, rw (left_none os ns k h) at i.words_in)

@@ -1,24 +1,23 @@
 -- What planning promises beyond its contracts, as statements; the file that proves each is named beside it, in crates/demands (SamePlan,
 -- FoundSame and WordsFew: in planning), where no edit of planning pays for it. A card is one that the definitions read from its edition's
 -- text.
-use Rattle.std.specs.Prelude.{ℕ, zero, suc, ◌+◌, ◌-◌, ◌*◌, ◌/◌, ◌≤◌, ◌<◌, ◌≡◌, ◌↔◌, Bool, true, false, List, [], ◌∷◌, ◌++◌, length, get_or, take, drop, replicate}
+use Rattle.std.specs.Prelude.{ℕ, zero, suc, ◌+◌, ◌-◌, ◌*◌, ◌/◌, ◌≤◌, ◌<◌, ◌≡◌, ◌↔◌, Bool, true, false, List, [], ◌∷◌, ◌++◌, length, get_or, take, drop, replicate, Ok, is_ok}
 use Rattle.tables.specs.declared.letters.Conventions.{Conventions}
 use Rattle.reader.specs.declared.deal.Hands.{Hands}
 use Rattle.reader.specs.Deals.{whole_hands}
 use Rattle.reader.specs.Records.{records_of, AlikeBut}
-use Rattle.reader.specs.Editions.{is_taken, cards_of}
+use Rattle.reader.specs.Editions.{cards_of}
 use Rattle.planning.specs.declared.state.BoardState.{BoardState}
 use Rattle.planning.specs.declared.state.BoardState.TheVariants.{Blank, Own, Old, Near, Twin, Solve}
-use Rattle.planning.specs.declared.editions.Editions.TheVariants.{Both}
+use Rattle.planning.specs.declared.editions.Both.{Both}
+use Rattle.planning.specs.declared.searches.Searched.{Searched}
 use Rattle.planning.specs.declared.plan.Totals.{Totals}
-use Rattle.planning.specs.declared.plan.Planning.{Planning}
-use Rattle.planning.specs.declared.plan.Planning.TheVariants.{Planned}
 use Rattle.planning.specs.declared.slips.Slip.{Slip}
 use Rattle.planning.specs.Cards.{hands_of, is_whole, has_table, fits}
 use Rattle.planning.specs.States.{BoardPlan, first_with, state_number, from_of, state_at}
 use Rattle.planning.specs.Searches.{compared, searched, old_sought, near_sought, twin_sought, search_numbers}
 use Rattle.planning.specs.Slips.{slip_of, slips_of, slip_numbers, totals_of, card_at, behind_at, part_of, behind_numbers}
-use Rattle.planning.specs.Plans.{Boxes, old_reading, new_reading, plans_of, IsPlanned, PartTold, BoardsTold, SearchesTold}
+use Rattle.planning.specs.Plans.{Boxes, Planning, old_reading, new_reading, plans_of, IsPlanned, PartTold, BoardsTold, SearchesTold}
 
 -- ---- boards and their deals
 
@@ -108,7 +107,7 @@ pub record ListedOnce (js : List BoardPlan) (olds news : List (List ℕ)) (solve
 abbrev pub ListedExactlyOnce : Type 0
 ListedExactlyOnce =
     (c : Conventions) (old new : List ℕ) (boxes : Boxes) (slips : List ℕ) (boxes' : Boxes) (slips' : List ℕ) (t : Totals)
-    → IsPlanned c old new boxes slips boxes' slips' (Planned t)
+    → IsPlanned c old new boxes slips boxes' slips' (Ok t)
     → ListedOnce (plans_of c old new) (cards_of c old) (cards_of c new) t.solve slips'
 
 -- THEOREM (demands/proofs/Listed.antt). Planning is not refused where both editions are taken and slips are enough, whatever else is lent.
@@ -116,20 +115,20 @@ abbrev pub PlannedIfTaken : Type 0
 PlannedIfTaken =
     (c : Conventions) (old new : List ℕ) (boxes : Boxes) (slips : List ℕ) (boxes' : Boxes) (slips' : List ℕ) (r : Planning)
     → IsPlanned c old new boxes slips boxes' slips' r
-    → is_taken (old_reading c old boxes) ≡ true
-    → is_taken (new_reading c new boxes) ≡ true
+    → is_ok (old_reading c old boxes) ≡ true
+    → is_ok (new_reading c new boxes) ≡ true
     → (totals_of (plans_of c old new)).solve ≤ length slips / 5
-    → r ≡ Planned (totals_of (plans_of c old new))
+    → r ≡ Ok (totals_of (plans_of c old new))
 
 -- THEOREM (demands/proofs/Listed.antt). Where every whole board of the new edition has a table, nothing is listed: every lent number is zero.
 abbrev pub NothingListed : Type 0
 NothingListed =
     (c : Conventions) (old new : List ℕ) (boxes : Boxes) (slips : List ℕ) (boxes' : Boxes) (slips' : List ℕ) (t : Totals)
-    → IsPlanned c old new boxes slips boxes' slips' (Planned t)
+    → IsPlanned c old new boxes slips boxes' slips' (Ok t)
     → ((x : List ℕ) → Among x (cards_of c new) → is_whole x ≡ true → has_table x ≡ true)
     → (t.solve ≡ 0) × (slips' ≡ replicate (length slips') 0)
 
--- THEOREM (planning/proofs/StructLaws.antt). Planned with structs, and with five numbers for each of them: the same answer, the same boxes, and the structs'
+-- THEOREM (planning/proofs/StructLaws.antt). Ok with structs, and with five numbers for each of them: the same answer, the same boxes, and the structs'
 -- numbers are the numbers.
 abbrev pub SamePlan : Type 0
 SamePlan =
@@ -167,7 +166,7 @@ abbrev pub ListedInside : Type 0
 ListedInside =
     (c : Conventions) (front middle middle' back : List ℕ) (boxes : Boxes) (slips : List ℕ) (boxes' : Boxes) (slips' : List ℕ) (t : Totals)
     → AlikeBut front middle middle' back
-    → IsPlanned c (front ++ (middle ++ back)) (front ++ (middle' ++ back)) boxes slips boxes' slips' (Planned t)
+    → IsPlanned c (front ++ (middle ++ back)) (front ++ (middle' ++ back)) boxes slips boxes' slips' (Ok t)
     → AllSolved (cards_of c (front ++ (middle ++ back)))
     → (h : Hands) → ListedIn h t.solve slips'
     → OnlyInside front middle' h (cards_of c (front ++ (middle' ++ back)))
@@ -298,8 +297,8 @@ abbrev pub RecordsBehind : Type 0
 RecordsBehind =
     (c : Conventions) (old new : List ℕ) (boxes boxes' : Boxes) (p : ℕ) (part : List ℕ)
     → PartTold c old new boxes boxes' p part
-    → is_taken (old_reading c old boxes) ≡ true
-    → is_taken (new_reading c new boxes) ≡ true
+    → is_ok (old_reading c old boxes) ≡ true
+    → is_ok (new_reading c new boxes) ≡ true
     → 1 ≤ p → p ≤ length (cards_of c new)
     → IsBehind old new p (state_at (plans_of c old new) p) part
 
@@ -317,7 +316,7 @@ TotalsAddUp = (js : List BoardPlan) → AddUp js (totals_of js)
 abbrev pub TotalsTold : Type 0
 TotalsTold =
     (c : Conventions) (old new : List ℕ) (boxes : Boxes) (slips : List ℕ) (boxes' : Boxes) (slips' : List ℕ) (t : Totals)
-    → IsPlanned c old new boxes slips boxes' slips' (Planned t)
+    → IsPlanned c old new boxes slips boxes' slips' (Ok t)
     → (t.boards ≡ length (cards_of c new)) × AddUp (plans_of c old new) t
 
 -- ---- the numbers of boards
@@ -341,13 +340,13 @@ pub record Numbered (five : ℕ → List ℕ) (boards lent : ℕ) (numbers : Lis
 -- THEOREM (demands/proofs/Numbered.antt). Both editions taken: the numbers of the boards are handed back, as many as fit.
 abbrev pub NumbersTold : Type 0
 NumbersTold =
-    (c : Conventions) (old new : List ℕ) (boxes : Boxes) (numbers : List ℕ) (boxes' : Boxes) (numbers' : List ℕ) (m n : ℕ)
-    → BoardsTold c old new boxes numbers boxes' numbers' (Both m n)
+    (c : Conventions) (old new : List ℕ) (boxes : Boxes) (numbers : List ℕ) (boxes' : Boxes) (numbers' : List ℕ) (n : Both)
+    → BoardsTold c old new boxes numbers boxes' numbers' (Ok n)
     → Numbered (five_at (cards_of c old) (cards_of c new) (plans_of c old new)) (length (cards_of c new)) (length numbers) numbers'
 
 -- THEOREM (demands/proofs/Numbered.antt). So are those of their searches.
 abbrev pub SearchNumbersTold : Type 0
 SearchNumbersTold =
-    (c : Conventions) (old new : List ℕ) (boxes : Boxes) (numbers : List ℕ) (boxes' : Boxes) (numbers' : List ℕ) (m n words : ℕ)
-    → SearchesTold c old new boxes numbers boxes' numbers' (Both m n) words
+    (c : Conventions) (old new : List ℕ) (boxes : Boxes) (numbers : List ℕ) (boxes' : Boxes) (numbers' : List ℕ) (n : Searched)
+    → SearchesTold c old new boxes numbers boxes' numbers' (Ok n)
     → Numbered (searches_at (cards_of c old) (cards_of c new) (plans_of c old new)) (length (cards_of c new)) (length numbers) numbers'

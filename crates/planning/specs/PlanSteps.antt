@@ -1,21 +1,21 @@
 -- What the inner functions of planning answer: a board of lent cards, a board of a search, totals board by board, and the end of planning.
-use Rattle.std.specs.Prelude.{ℕ, ◌+◌, ◌≤◌, ◌/◌, zero, suc, ◌≡◌, Bool, cond, ◌&&◌, ◌||◌, not, List, [], ◌∷◌, eqb, length, get_or, take, drop}
+use Rattle.std.specs.Prelude.{ℕ, ◌+◌, ◌≤◌, ◌/◌, zero, suc, ◌≡◌, Bool, cond, ◌&&◌, ◌||◌, not, List, [], ◌∷◌, eqb, length, get_or, take, drop, is_ok}
 use Rattle.reader.specs.Store.{zeros}
 use Rattle.planning.specs.declared.state.BoardState.{BoardState}
 use Rattle.planning.specs.declared.plan.Totals.{Totals}
-use Rattle.planning.specs.declared.plan.Planning.{Planning}
-use Rattle.planning.specs.Cards.{has_table, card_here}
+use Rattle.planning.specs.Cards.{has_table}
 use Rattle.planning.specs.States.{BoardPlan, state_of, state_number}
-use Rattle.planning.specs.Plans.{Boxes, slips_answer, is_planned}
+use Rattle.planning.specs.Slips.{card_from}
+use Rattle.planning.specs.Plans.{Boxes, Planning, slips_answer}
 
 -- The first n cards of lent words.
 abbrev pub cards_in : ℕ → List ℕ → List (List ℕ)
 cards_in zero box = []
 cards_in (suc n) box = take 64 box ∷ cards_in n (drop 64 box)
 
--- The board at index k of the lent cards of the new edition.
-abbrev pub plan_here : List (List ℕ) → List (List ℕ) → ℕ → List ℕ → BoardPlan
-plan_here olds news k box = record { position = k + 1; card = card_here k box; state = state_of olds news (cards_in k box) (card_here k box) }
+-- The board at index k of the new edition.
+abbrev pub plan_here : List (List ℕ) → List (List ℕ) → ℕ → BoardPlan
+plan_here olds news k = record { position = k + 1; card = card_from news k; state = state_of olds news (take k news) (card_from news k) }
 
 -- How many words of two lists are equal, from the front.
 abbrev pub equal_front : List ℕ → List ℕ → ℕ
@@ -67,10 +67,10 @@ pub record BoxesKept (well : Bool) (boxes boxes' : Boxes) : Type 0 where
 -- The answer for the totals where so many slips have room, and the four boxes: as they were, or zeros after a refusal.
 pub record Settled (boxes : Boxes) (room : ℕ) (t : Totals) (r : Planning) (boxes' : Boxes) : Type 0 where
   pub answer : r ≡ slips_answer room t
-  pub boxes_left : BoxesKept (is_planned r) boxes boxes'
+  pub boxes_left : BoxesKept (is_ok r) boxes boxes'
 
 -- The answer for the totals, and all lent words: as they were, or zeros after a refusal.
 pub record PlanEnded (boxes : Boxes) (slips : List ℕ) (t : Totals) (r : Planning) (boxes' : Boxes) (slips' : List ℕ) : Type 0 where
   pub answer : r ≡ slips_answer (length slips / 5) t
-  pub boxes_left : BoxesKept (is_planned r) boxes boxes'
-  pub slips_after : slips' ≡ cond (is_planned r) slips (zeros slips)
+  pub boxes_left : BoxesKept (is_ok r) boxes boxes'
+  pub slips_after : slips' ≡ cond (is_ok r) slips (zeros slips)

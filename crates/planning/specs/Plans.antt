@@ -1,29 +1,25 @@
 -- The answers of planning, and its contracts.
-use Rattle.std.specs.Prelude.{ℕ, ◌/◌, ◌≡◌, Bool, true, false, cond, List, ltb, length, replicate}
+use Rattle.std.specs.Prelude.{ℕ, ◌/◌, ◌≡◌, Bool, cond, List, ltb, length, replicate, Option, None, Result, Ok, Err, is_ok}
 use Rattle.tables.specs.declared.letters.Conventions.{Conventions}
-use Rattle.reader.specs.declared.edition.Reading.{Reading}
-use Rattle.reader.specs.declared.edition.Reading.TheVariants.{Taken}
-use Rattle.reader.specs.declared.edition.Reading.TheVariants as reading
+use Rattle.reader.specs.declared.edition.Counts.{Counts}
+use Rattle.reader.specs.declared.edition.ReadRefusal.{ReadRefusal}
 use Rattle.reader.specs.Store.{put_all, lent}
 use Rattle.reader.specs.Editions.{read_number, read_carries, reading_of, cards_of, entries_of}
 use Rattle.planning.specs.declared.state.BoardState.{BoardState}
 use Rattle.planning.specs.declared.state.BoardState.TheVariants.{Blank}
 use Rattle.planning.specs.declared.behind.Behind.{Behind}
-use Rattle.planning.specs.declared.behind.Behind.TheVariants.{Nothing}
 use Rattle.planning.specs.declared.editions.EditionsRefusal.{EditionsRefusal}
 use Rattle.planning.specs.declared.editions.EditionsRefusal.TheVariants.{Old, New}
-use Rattle.planning.specs.declared.editions.Editions.{Editions}
-use Rattle.planning.specs.declared.editions.Editions.TheVariants.{Both}
-use Rattle.planning.specs.declared.editions.Editions.TheVariants as editions
+use Rattle.planning.specs.declared.editions.Both.{Both}
+use Rattle.planning.specs.declared.editions.LentBoxes.{LentBoxes}
 use Rattle.planning.specs.declared.plan.Totals.{Totals}
 use Rattle.planning.specs.declared.plan.PlanRefusal.{PlanRefusal}
 use Rattle.planning.specs.declared.plan.PlanRefusal.TheVariants.{Edition, SlipsShort}
-use Rattle.planning.specs.declared.plan.Planning.{Planning}
-use Rattle.planning.specs.declared.plan.Planning.TheVariants.{Planned}
-use Rattle.planning.specs.declared.plan.Planning.TheVariants as planning
+use Rattle.planning.specs.declared.searches.Searched.{Searched}
 use Rattle.planning.specs.States.{BoardPlan, board_plans, state_at}
 use Rattle.planning.specs.Searches.{searches_from, words_in_all}
 use Rattle.planning.specs.Slips.{slips_of, totals_of, behind_at, part_of, numbers_from}
+use Rattle.planning.specs.Plans.{Editions, Planning}
 
 -- ---- refusals: 1 to 3 of the old edition, then of the new, then 4 slips short (the boards to solve)
 
@@ -62,30 +58,45 @@ pub record Boxes : Type 0 where
   pub new_cards : List ℕ
   pub new_entries : List ℕ
 
+-- The words of lent boxes.
+abbrev pub words_of : LentBoxes → Boxes
+words_of b = record { old_cards = b.old_cards.now; old_entries = b.old_entries.now; new_cards = b.new_cards.now; new_entries = b.new_entries.now }
+
+-- The same boxes are lent, with as many words as before.
+pub record SameLent (b b' : LentBoxes) : Type 0 where
+  pub old_cards : b'.old_cards.ghost_name ≡ b.old_cards.ghost_name
+  pub old_entries : b'.old_entries.ghost_name ≡ b.old_entries.ghost_name
+  pub new_cards : b'.new_cards.ghost_name ≡ b.new_cards.ghost_name
+  pub new_entries : b'.new_entries.ghost_name ≡ b.new_entries.ghost_name
+  pub old_cards_room : length b'.old_cards.now ≡ length b.old_cards.now
+  pub old_entries_room : length b'.old_entries.now ≡ length b.old_entries.now
+  pub new_cards_room : length b'.new_cards.now ≡ length b.new_cards.now
+  pub new_entries_room : length b'.new_entries.now ≡ length b.new_entries.now
+
 -- The reading of each edition into its boxes.
-abbrev pub old_reading : Conventions → List ℕ → Boxes → Reading
+abbrev pub old_reading : Conventions → List ℕ → Boxes → Result Counts ReadRefusal
 old_reading c old boxes = reading_of c old (length boxes.old_cards) (length boxes.old_entries)
 
-abbrev pub new_reading : Conventions → List ℕ → Boxes → Reading
+abbrev pub new_reading : Conventions → List ℕ → Boxes → Result Counts ReadRefusal
 new_reading c new boxes = reading_of c new (length boxes.new_cards) (length boxes.new_entries)
 
 -- ---- both editions
 
-abbrev pub new_after : ℕ → Reading → Editions
-new_after m (Taken boards entries) = Both m boards
-new_after m (reading.Refused f) = editions.Refused (New f)
+-- The boards and entries of each edition, or a refusal.
+abbrev pub Editions : Type 0
+Editions = Result Both EditionsRefusal
 
-abbrev pub both_after : Reading → Reading → Editions
-both_after (Taken boards entries) new = new_after boards new
-both_after (reading.Refused f) new = editions.Refused (Old f)
+abbrev pub new_after : Counts → Result Counts ReadRefusal → Editions
+new_after m (Ok n) = Ok (record { old = m; new = n })
+new_after m (Err f) = Err (New f)
+
+abbrev pub both_after : Result Counts ReadRefusal → Result Counts ReadRefusal → Editions
+both_after (Ok m) new = new_after m new
+both_after (Err f) new = Err (Old f)
 
 -- The answer for the texts, with these boxes lent.
 unfoldable pub editions_of : Conventions → List ℕ → List ℕ → Boxes → Editions
 editions_of c old new boxes = both_after (old_reading c old boxes) (new_reading c new boxes)
-
-abbrev pub are_both : Editions → Bool
-are_both (Both m n) = true
-are_both (editions.Refused f) = false
 
 -- The boards of the new edition.
 abbrev pub plans_of : Conventions → List ℕ → List ℕ → List BoardPlan
@@ -93,20 +104,20 @@ plans_of c old new = board_plans (cards_of c old) (cards_of c new)
 
 -- ---- the plan
 
+-- The totals, or a refusal.
+abbrev pub Planning : Type 0
+Planning = Result Totals PlanRefusal
+
 abbrev pub slips_answer : ℕ → Totals → Planning
-slips_answer slips t = cond (ltb slips t.solve) (planning.Refused (SlipsShort t.solve)) (Planned t)
+slips_answer slips t = cond (ltb slips t.solve) (Err (SlipsShort t.solve)) (Ok t)
 
 abbrev pub planned_by : Editions → ℕ → Totals → Planning
-planned_by (Both m n) slips t = slips_answer slips t
-planned_by (editions.Refused f) slips t = planning.Refused (Edition f)
+planned_by (Ok n) slips t = slips_answer slips t
+planned_by (Err f) slips t = Err (Edition f)
 
 -- The answer; ls numbers are lent for slips, five a slip, and a tail too short for one counts as none.
 unfoldable pub planning_of : Conventions → List ℕ → List ℕ → Boxes → ℕ → Planning
 planning_of c old new boxes ls = planned_by (editions_of c old new boxes) (ls / 5) (totals_of (plans_of c old new))
-
-abbrev pub is_planned : Planning → Bool
-is_planned (Planned t) = true
-is_planned (planning.Refused f) = false
 
 -- ---- contracts: boxes are the four before the call, boxes' the four after it
 
@@ -120,28 +131,28 @@ pub record BoxesAfter (c : Conventions) (well : Bool) (old new : List ℕ) (boxe
 -- Both editions are read.
 pub record BothRead (c : Conventions) (old new : List ℕ) (boxes boxes' : Boxes) (r : Editions) : Type 0 where
   pub answer : r ≡ editions_of c old new boxes
-  pub boxes_left : BoxesAfter c (are_both r) old new boxes boxes'
+  pub boxes_left : BoxesAfter c (is_ok r) old new boxes boxes'
 
 -- The contract of plan: the answer, and every lent number.
 pub record IsPlanned (c : Conventions) (old new : List ℕ) (boxes : Boxes) (slips : List ℕ) (boxes' : Boxes) (slips' : List ℕ) (r : Planning) : Type 0 where
   pub answer : r ≡ planning_of c old new boxes (length slips)
-  pub boxes_left : BoxesAfter c (is_planned r) old new boxes boxes'
-  pub slips_after : slips' ≡ lent (is_planned r) (length slips) (slips_of (plans_of c old new))
+  pub boxes_left : BoxesAfter c (is_ok r) old new boxes boxes'
+  pub slips_after : slips' ≡ lent (is_ok r) (length slips) (slips_of (plans_of c old new))
 
 -- The state at a position: blank after a refusal.
 abbrev pub state_by : Editions → List BoardPlan → ℕ → BoardState
-state_by (Both m n) js p = state_at js p
-state_by (editions.Refused f) js p = Blank
+state_by (Ok n) js p = state_at js p
+state_by (Err f) js p = Blank
 
 -- The record behind a board: nothing after a refusal.
-abbrev pub behind_by : Editions → Conventions → List ℕ → List ℕ → ℕ → Behind
-behind_by (Both m n) c old new p = behind_at (cards_of c old) (cards_of c new) (plans_of c old new) p
-behind_by (editions.Refused f) c old new p = Nothing
+abbrev pub behind_by : Editions → Conventions → List ℕ → List ℕ → ℕ → Option Behind
+behind_by (Ok n) c old new p = behind_at (cards_of c old) (cards_of c new) (plans_of c old new) p
+behind_by (Err f) c old new p = None
 
 -- ls lent numbers afterwards: fives, as many whole ones as fit, and zeros behind them; zeros after a refusal.
 abbrev pub fives_after : Editions → List (List ℕ) → ℕ → List ℕ
-fives_after (Both m n) fives ls = put_all 5 (replicate ls 0) 0 fives
-fives_after (editions.Refused f) fives ls = replicate ls 0
+fives_after (Ok n) fives ls = put_all 5 (replicate ls 0) 0 fives
+fives_after (Err f) fives ls = replicate ls 0
 
 -- Five a board: its state and the record behind it, or its searches.
 abbrev pub boards_after : Editions → Conventions → List ℕ → List ℕ → ℕ → List ℕ
@@ -152,31 +163,41 @@ searches_after r c old new ls = fives_after r (searches_from (cards_of c old) (c
 
 -- The words compared for all boards: 0 after a refusal.
 abbrev pub words_by : Editions → Conventions → List ℕ → List ℕ → ℕ
-words_by (Both m n) c old new = words_in_all (cards_of c old) (cards_of c new) (plans_of c old new)
-words_by (editions.Refused f) c old new = 0
+words_by (Ok n) c old new = words_in_all (cards_of c old) (cards_of c new) (plans_of c old new)
+words_by (Err f) c old new = 0
 
--- The contract of state_at: whether both editions were taken, and the state.
-pub record StateTold (c : Conventions) (old new : List ℕ) (boxes boxes' : Boxes) (p : ℕ) (r : Editions) (s : BoardState) : Type 0 where
-  pub editions_read : BothRead c old new boxes boxes' r
-  pub state : s ≡ state_by r (plans_of c old new) p
+-- What is answered for both editions, given the answer where they were taken.
+abbrev pub answered : {A : Type 0} → Editions → A → Result A EditionsRefusal
+answered (Ok n) x = Ok x
+answered (Err f) x = Err f
 
--- The contract of place_behind: the places of the record behind a board.
-pub record BehindTold (c : Conventions) (old new : List ℕ) (boxes boxes' : Boxes) (p : ℕ) (r : Editions) (b : Behind) : Type 0 where
-  pub editions_read : BothRead c old new boxes boxes' r
-  pub behind : b ≡ behind_by r c old new p
+-- The contract of state_at: the state, or a refusal.
+pub record StateTold (c : Conventions) (old new : List ℕ) (boxes boxes' : Boxes) (p : ℕ) (r : Result BoardState EditionsRefusal) : Type 0 where
+  pub answer : r ≡ answered (editions_of c old new boxes) (state_at (plans_of c old new) p)
+  pub boxes_left : BoxesAfter c (is_ok r) old new boxes boxes'
+
+-- The contract of place_behind: the record behind a board, or a refusal.
+pub record BehindTold (c : Conventions) (old new : List ℕ) (boxes boxes' : Boxes) (p : ℕ) (r : Result (Option Behind) EditionsRefusal) : Type 0 where
+  pub answer : r ≡ answered (editions_of c old new boxes) (behind_at (cards_of c old) (cards_of c new) (plans_of c old new) p)
+  pub boxes_left : BoxesAfter c (is_ok r) old new boxes boxes'
 
 -- The contract of record_behind: a part of the old or the new text, empty where there is nothing.
 pub record PartTold (c : Conventions) (old new : List ℕ) (boxes boxes' : Boxes) (p : ℕ) (part : List ℕ) : Type 0 where
   pub bytes : part ≡ part_of old new (behind_by (editions_of c old new boxes) c old new p)
-  pub boxes_left : BoxesAfter c (are_both (editions_of c old new boxes)) old new boxes boxes'
+  pub boxes_left : BoxesAfter c (is_ok (editions_of c old new boxes)) old new boxes boxes'
 
 -- The contract of plan_boards: five numbers a board.
 pub record BoardsTold (c : Conventions) (old new : List ℕ) (boxes : Boxes) (numbers : List ℕ) (boxes' : Boxes) (numbers' : List ℕ) (r : Editions) : Type 0 where
   pub editions_read : BothRead c old new boxes boxes' r
   pub numbers_after : numbers' ≡ boards_after r c old new (length numbers)
 
+-- The boards and the words compared for all of them, or a refusal.
+abbrev pub searched_by : Editions → Conventions → List ℕ → List ℕ → Result Searched EditionsRefusal
+searched_by (Ok n) c old new = Ok (record { boards = n.new.boards; words = words_by (Ok n) c old new })
+searched_by (Err f) c old new = Err f
+
 -- The contract of plan_searches: five numbers a board, and the words compared for all boards, whether their numbers fit or not.
-pub record SearchesTold (c : Conventions) (old new : List ℕ) (boxes : Boxes) (numbers : List ℕ) (boxes' : Boxes) (numbers' : List ℕ) (r : Editions) (words : ℕ) : Type 0 where
-  pub editions_read : BothRead c old new boxes boxes' r
-  pub numbers_after : numbers' ≡ searches_after r c old new (length numbers)
-  pub all_words : words ≡ words_by r c old new
+pub record SearchesTold (c : Conventions) (old new : List ℕ) (boxes : Boxes) (numbers : List ℕ) (boxes' : Boxes) (numbers' : List ℕ) (r : Result Searched EditionsRefusal) : Type 0 where
+  pub answer : r ≡ searched_by (editions_of c old new boxes) c old new
+  pub boxes_left : BoxesAfter c (is_ok r) old new boxes boxes'
+  pub numbers_after : numbers' ≡ searches_after (editions_of c old new boxes) c old new (length numbers)

@@ -1,11 +1,13 @@
 -- Slips, totals, and the record behind a board.
-use Rattle.std.specs.Prelude.{ℕ, zero, suc, ◌+◌, ◌-◌, cond, List, [], ◌∷◌, map, eqb, length, get_or, take, drop}
-use Rattle.std.proofs.Math.Option.{Option, none, some}
+use Rattle.std.specs.Prelude.{ℕ, zero, suc, ◌+◌, ◌-◌, cond, List, [], ◌∷◌, map, eqb, length, get_or, take, drop, Option, Some, None}
+use Rattle.std.proofs.Math.Option as option
 use Rattle.reader.specs.Store.{flat}
 use Rattle.planning.specs.declared.state.BoardState.{BoardState}
 use Rattle.planning.specs.declared.state.BoardState.TheVariants.{Blank, Own, Old, Near, Twin, Solve}
 use Rattle.planning.specs.declared.behind.Behind.{Behind}
-use Rattle.planning.specs.declared.behind.Behind.TheVariants.{InOld, InNew, Nothing}
+use Rattle.planning.specs.declared.behind.Edition.{Edition}
+use Rattle.planning.specs.declared.behind.Edition.TheVariants.{New}
+use Rattle.planning.specs.declared.behind.Edition.TheVariants as edition
 use Rattle.planning.specs.declared.plan.Totals.{Totals}
 use Rattle.planning.specs.declared.slips.Slip.{Slip}
 use Rattle.planning.specs.Cards.{hands_of}
@@ -58,49 +60,53 @@ abbrev pub card_at : List (List ℕ) → ℕ → List ℕ
 card_at xs zero = []
 card_at xs (suc k) = card_from xs k
 
--- The record of a card: words 60 and 61.
-abbrev pub old_record : List ℕ → Behind
-old_record card = InOld (get_or card 60 0) (get_or card 61 0)
-
-abbrev pub new_record : List ℕ → Behind
-new_record card = InNew (get_or card 60 0) (get_or card 61 0)
+-- The record of a card of an edition: words 60 and 61.
+abbrev pub record_of : Edition → List ℕ → Behind
+record_of e card = record { edition = e; start = get_or card 60 0; end = get_or card 61 0 }
 
 -- The old one's for old, the source board's for near and twin, else its own.
 abbrev pub behind_state : List (List ℕ) → List (List ℕ) → List ℕ → BoardState → Behind
-behind_state olds news card Blank = new_record card
-behind_state olds news card Own = new_record card
-behind_state olds news card (Old k) = old_record (card_at olds k)
-behind_state olds news card (Near k) = new_record (card_at news k)
-behind_state olds news card (Twin k) = new_record (card_at news k)
-behind_state olds news card Solve = new_record card
+behind_state olds news card Blank = record_of New card
+behind_state olds news card Own = record_of New card
+behind_state olds news card (Old k) = record_of edition.Old (card_at olds k)
+behind_state olds news card (Near k) = record_of New (card_at news k)
+behind_state olds news card (Twin k) = record_of New (card_at news k)
+behind_state olds news card Solve = record_of New card
 
 abbrev pub behind_of : List (List ℕ) → List (List ℕ) → BoardPlan → Behind
 behind_of olds news j = behind_state olds news j.card j.state
 
-abbrev pub behind_in : List (List ℕ) → List (List ℕ) → Option BoardPlan → Behind
-behind_in olds news none = Nothing
-behind_in olds news (some j) = behind_of olds news j
+abbrev pub behind_in : List (List ℕ) → List (List ℕ) → option.Option BoardPlan → Option Behind
+behind_in olds news option.none = None
+behind_in olds news (option.some j) = Some (behind_of olds news j)
 
 -- At a position from 1; nothing outside 1 to boards.
-abbrev pub behind_at : List (List ℕ) → List (List ℕ) → List BoardPlan → ℕ → Behind
+abbrev pub behind_at : List (List ℕ) → List (List ℕ) → List BoardPlan → ℕ → Option Behind
 behind_at olds news js p = behind_in olds news (plan_at js p)
 
+-- The text of an edition.
+abbrev pub text_of : List ℕ → List ℕ → Edition → List ℕ
+text_of old new edition.Old = old
+text_of old new New = new
+
 -- The part of the old or the new text.
-abbrev pub part_of : List ℕ → List ℕ → Behind → List ℕ
-part_of old new (InOld a e) = take (e - a) (drop a old)
-part_of old new (InNew a e) = take (e - a) (drop a new)
-part_of old new Nothing = []
+abbrev pub part_of : List ℕ → List ℕ → Option Behind → List ℕ
+part_of old new (Some b) = take (b.end - b.start) (drop b.start (text_of old new b.edition))
+part_of old new None = []
+
+abbrev pub edition_number : Edition → ℕ
+edition_number edition.Old = 1
+edition_number New = 2
 
 -- As numbers: edition (0 none, 1 old, 2 new), start, end.
-abbrev pub behind_numbers : Behind → List ℕ
-behind_numbers (InOld a e) = 1 ∷ a ∷ e ∷ []
-behind_numbers (InNew a e) = 2 ∷ a ∷ e ∷ []
-behind_numbers Nothing = 0 ∷ 0 ∷ 0 ∷ []
+abbrev pub behind_numbers : Option Behind → List ℕ
+behind_numbers (Some b) = edition_number b.edition ∷ b.start ∷ b.end ∷ []
+behind_numbers None = 0 ∷ 0 ∷ 0 ∷ []
 
 -- ---- five numbers a board: state, source board, and edition, start and end of the record behind it
 
 unfoldable pub board_numbers : List (List ℕ) → List (List ℕ) → BoardPlan → List ℕ
-board_numbers olds news j = state_number j.state ∷ from_of j.state ∷ behind_numbers (behind_of olds news j)
+board_numbers olds news j = state_number j.state ∷ from_of j.state ∷ behind_numbers (Some (behind_of olds news j))
 
 abbrev pub numbers_from : List (List ℕ) → List (List ℕ) → List BoardPlan → List (List ℕ)
 numbers_from olds news js = map (board_numbers olds news) js

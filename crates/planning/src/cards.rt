@@ -1,52 +1,50 @@
-// The words of a card that planning reads; the card at index k of lent words.
-ghost use Rattle.std.specs.Prelude.{◌≡◌, ◌+◌, ◌*◌, ◌≤◌, ◌<◌, length, get_or};
+// Cards, as reading stores them in lent words, and what planning reads of one.
+ghost use Rattle.std.specs.Prelude.{◌≡◌, ◌+◌, ◌*◌, ◌≤◌, length};
 ghost use Rattle.planning.specs.Cards.{card_deal, is_whole, has_table, card_here};
+ghost use Rattle.planning.specs.PlanSteps.{cards_in};
 
-use reader::deal::{HandWords, hands_of_words};
+use reader::deal::hands_of_words;
 
-// Word w of the card.
-pub(crate) fn word_of(cards: &[u32], k: usize, w: usize) -> u32
-    requires { (64 * k + 64 ≤ length cards.now) × (w < 64) }
-    ensures { result ≡ get_or (card_here k cards.now) w 0 }
+// The words of a board.
+pub type Card = [u32; 64];
+
+// The first n cards of lent words.
+pub fn cards_in(words: &[u32], n: usize) -> &[Card]
+    requires { 64 * n ≤ length words.now }
+    ensures { (result.now ≡ cards_in n words.now) × (length result.now ≡ n) }
 {
-    cards[64 * k + w]
+    &words.as_chunks::<64>().0[..n]
+}
+
+// The card at index k of lent words.
+pub fn card_here(words: &[u32], k: usize) -> &Card
+    requires { 64 * k + 64 ≤ length words.now }
+    ensures { result.now ≡ card_here k words.now }
+{
+    &cards_in(words, k + 1)[k]
 }
 
 // Its deal, words 10 to 17.
-pub(crate) fn deal_at(cards: &[u32], k: usize) -> HandWords
-    requires { 64 * k + 64 ≤ length cards.now }
-    ensures { result.words ≡ card_deal (card_here k cards.now) }
+#[tactic(auto, unfolding(crate::specs::Cards::card_deal))]
+pub(crate) fn deal_at(card: &Card) -> [u32; 8]
+    ensures { result ≡ card_deal card.now }
 {
-    let at = 64 * k;
-    HandWords {
-        words: [
-            cards[at + 10],
-            cards[at + 11],
-            cards[at + 12],
-            cards[at + 13],
-            cards[at + 14],
-            cards[at + 15],
-            cards[at + 16],
-            cards[at + 17],
-        ],
-    }
+    let mut words = [0; 8];
+    words.copy_from_slice(&card[10..18]);
+    words
 }
 
 // Is its deal whole?
-pub fn is_whole(cards: &[u32], k: usize) -> bool
-    requires { 64 * k + 64 ≤ length cards.now }
-    ensures { result ≡ is_whole (card_here k cards.now) }
+pub fn is_whole(card: &Card) -> bool
+    ensures { result ≡ is_whole card.now }
 {
-    if cards[64 * k + 9] != 1 {
-        return false;
-    }
-    reader::deal::is_whole(hands_of_words(deal_at(cards, k)))
+    card[9] == 1 && reader::deal::is_whole(hands_of_words(deal_at(card)))
 }
 
 // Has it a table?
-pub fn has_table(cards: &[u32], k: usize) -> bool
-    requires { 64 * k + 64 ≤ length cards.now }
-    ensures { result ≡ has_table (card_here k cards.now) }
+#[tactic(auto, unfolding(crate::specs::Cards::has_table))]
+pub fn has_table(card: &Card) -> bool
+    ensures { result ≡ has_table card.now }
 {
-    cards[64 * k + 38] != 0
+    card[38] != 0
 }

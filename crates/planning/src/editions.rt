@@ -1,31 +1,32 @@
-// Both editions, read.
-ghost use Rattle.std.specs.Prelude.{◌≡◌};
-ghost use Rattle.planning.specs.Plans.{editions_number, editions_carries, edition_refused, BothRead};
+// Both editions, read into lent boxes.
+ghost use Rattle.std.specs.Prelude.{◌≡◌, ◌*◌, ◌≤◌, false, length};
+ghost use Rattle.planning.specs.Plans.{editions_number, editions_carries, edition_refused, words_of, SameLent, BothRead};
+ghost use Rattle.planning.specs.PlanSteps.{cards_in, BoxesKept};
 
-use reader::edition::{ReadRefusal, Reading, read_carried, read_number, read_pbn_with};
+use crate::cards::{Card, cards_in};
+use reader::edition::{Counts, ReadRefusal, read_carried, read_number, read_pbn_with};
 use reader::store::zero;
 use tables::letters::Conventions;
 
 // Refusals 1 to 3 of the old edition, then of the new.
-#[derive(Clone, Copy)]
+#[derive(Clone, Copy, Debug, PartialEq, Eq)]
 pub enum EditionsRefusal {
     Old(ReadRefusal),
     New(ReadRefusal),
 }
 
-// Both taken, with the boards of each, or refused.
-#[derive(Clone, Copy)]
-pub enum Editions {
-    Both(u64, u64),
-    Refused(EditionsRefusal),
+// The boards and entries of each edition.
+#[derive(Clone, Copy, Debug, PartialEq, Eq)]
+pub struct Both {
+    pub old: Counts,
+    pub new: Counts,
 }
 
 pub fn editions_number(f: EditionsRefusal) -> u64
     ensures { result ≡ editions_number f }
 {
     match f {
-        EditionsRefusal::Old(g) => read_number(g),
-        EditionsRefusal::New(g) => read_number(g),
+        EditionsRefusal::Old(g) | EditionsRefusal::New(g) => read_number(g),
     }
 }
 
@@ -33,8 +34,7 @@ pub fn editions_carried(f: EditionsRefusal) -> u64
     ensures { result ≡ editions_carries f }
 {
     match f {
-        EditionsRefusal::Old(g) => read_carried(g),
-        EditionsRefusal::New(g) => read_carried(g),
+        EditionsRefusal::Old(g) | EditionsRefusal::New(g) => read_carried(g),
     }
 }
 
@@ -48,34 +48,62 @@ pub fn edition_refused(f: EditionsRefusal) -> u64
     }
 }
 
+// The four boxes: words lent for the cards and the entries of the old edition, and of the new.
+#[derive(Drop)]
+pub struct LentBoxes<'a> {
+    pub old_cards: &'a mut [u32],
+    pub old_entries: &'a mut [u32],
+    pub new_cards: &'a mut [u32],
+    pub new_entries: &'a mut [u32],
+}
+
+impl LentBoxes<'_> {
+    // The cards of each edition, where both were read.
+    pub fn cards(&self, both: Both) -> (&[Card], &[Card])
+        requires { (64 * both.old.boards ≤ length self.now.old_cards.now) × (64 * both.new.boards ≤ length self.now.new_cards.now) }
+        ensures { (result.0.now ≡ cards_in both.old.boards self.now.old_cards.now) × (result.1.now ≡ cards_in both.new.boards self.now.new_cards.now) }
+    {
+        (
+            cards_in(self.old_cards, both.old.boards),
+            cards_in(self.new_cards, both.new.boards),
+        )
+    }
+
+    // Sets all cards and entries to 0.
+    pub fn zero(&mut self)
+        ensures zeros { BoxesKept false (words_of self.old) (words_of self.new) }
+        ensures same { SameLent self.old self.new }
+    {
+        zero(self.old_cards);
+        zero(self.old_entries);
+        zero(self.new_cards);
+        zero(self.new_entries);
+    }
+}
+
 // Reads the old edition, then the new one. A refusal of either leaves all lent words zero.
 pub fn read_both(
     c: Conventions,
     old: &[u8],
     new: &[u8],
-    old_cards: &mut [u32],
-    old_entries: &mut [u32],
-    new_cards: &mut [u32],
-    new_entries: &mut [u32],
-) -> Editions
-    ensures { BothRead c old.now new.now
-        (record { old_cards = old_cards.old; old_entries = old_entries.old; new_cards = new_cards.old; new_entries = new_entries.old })
-        (record { old_cards = old_cards.new; old_entries = old_entries.new; new_cards = new_cards.new; new_entries = new_entries.new })
-        result }
+    boxes: &mut LentBoxes,
+) -> Result<Both, EditionsRefusal>
+    ensures read { BothRead c old.now new.now (words_of boxes.old) (words_of boxes.new) result }
+    ensures same { SameLent boxes.old boxes.new }
 {
-    match read_pbn_with(c, old, old_cards, old_entries) {
-        Reading::Refused(f) => {
-            zero(new_cards);
-            zero(new_entries);
-            Editions::Refused(EditionsRefusal::Old(f))
+    match read_pbn_with(c, old, boxes.old_cards, boxes.old_entries) {
+        Err(f) => {
+            zero(boxes.new_cards);
+            zero(boxes.new_entries);
+            Err(EditionsRefusal::Old(f))
         }
-        Reading::Taken(m, _) => match read_pbn_with(c, new, new_cards, new_entries) {
-            Reading::Refused(f) => {
-                zero(old_cards);
-                zero(old_entries);
-                Editions::Refused(EditionsRefusal::New(f))
+        Ok(m) => match read_pbn_with(c, new, boxes.new_cards, boxes.new_entries) {
+            Err(f) => {
+                zero(boxes.old_cards);
+                zero(boxes.old_entries);
+                Err(EditionsRefusal::New(f))
             }
-            Reading::Taken(n, _) => Editions::Both(m, n),
+            Ok(n) => Ok(Both { old: m, new: n }),
         },
     }
 }

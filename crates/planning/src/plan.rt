@@ -1,24 +1,22 @@
 // The plan: how many boards are in each state, and a slip for each board to solve.
-ghost use Rattle.std.specs.Prelude.{◌≡◌, cond, false, ◌+◌, ◌*◌, ◌≤◌, ◌<◌, ◌^◌, length};
+ghost use Rattle.std.specs.Prelude.{◌≡◌, cond, ◌^◌};
 ghost use Rattle.tables.specs.Letters.{built_in};
 ghost use Rattle.reader.specs.Store.{put, put_all};
-ghost use Rattle.planning.specs.Cards.{card_here};
-ghost use Rattle.planning.specs.PlanSteps.{cards_in, counted, Within, BoxesKept, Settled, PlanEnded};
+ghost use Rattle.planning.specs.PlanSteps.{counted, Within, Settled, PlanEnded};
 ghost use Rattle.planning.specs.States.{board_plans, is_solve};
 ghost use Rattle.planning.specs.Slips.{slip_of, slips_of, totals_of};
-ghost use Rattle.planning.specs.Plans.{plan_number, plan_carries, plan_edition, IsPlanned};
+ghost use Rattle.planning.specs.Plans.{plan_number, plan_carries, plan_edition, words_of, SameLent, IsPlanned};
 
-use crate::cards::deal_at;
+use crate::cards::{Card, deal_at};
 use crate::editions::{
-    Editions, EditionsRefusal, edition_refused, editions_carried, editions_number, read_both,
+    EditionsRefusal, LentBoxes, edition_refused, editions_carried, editions_number, read_both,
 };
 use crate::numbers::{put_five, zero_numbers};
-use crate::state::{BoardState, state_number, state_of};
+use crate::state::{BoardState, state_of};
 use reader::deal::hands_of_words;
-use reader::store::zero;
 use tables::letters::{Conventions, built_in};
 
-#[derive(Clone, Copy)]
+#[derive(Clone, Copy, Debug, Default, PartialEq, Eq)]
 pub struct Totals {
     pub boards: u64,
     pub blank: u64,
@@ -30,17 +28,21 @@ pub struct Totals {
 }
 
 // A refusal of an edition, or 4: fewer slips lent than boards to solve.
-#[derive(Clone, Copy)]
+#[derive(Clone, Copy, Debug, PartialEq, Eq)]
 pub enum PlanRefusal {
     Edition(EditionsRefusal),
     SlipsShort(u64),
 }
 
-// Planned with the totals, or refused, which leaves all lent words zero.
-#[derive(Clone, Copy)]
-pub enum Planning {
-    Planned(Totals),
-    Refused(PlanRefusal),
+impl From<EditionsRefusal> for PlanRefusal {
+    ghost use Rattle.std.specs.Prelude.{◌≡◌};
+    ghost use Rattle.planning.specs.declared.plan.PlanRefusal.TheVariants.{Edition};
+
+    ghost from_gives = { λ f g. g ≡ Edition f };
+
+    fn from(f: EditionsRefusal) -> PlanRefusal {
+        PlanRefusal::Edition(f)
+    }
 }
 
 pub fn plan_number(f: PlanRefusal) -> u64
@@ -88,133 +90,74 @@ fn counted(mut t: Totals, s: BoardState) -> Totals
     t
 }
 
-// The slip of the board at index k: its position from 1 and its hands.
-pub(crate) fn slip_of(cards: &[u32], k: usize) -> [u64; 5]
-    requires { 64 * k + 64 ≤ length cards.now }
-    ensures { result ≡ slip_of (k + 1) (card_here k cards.now) }
+// The slip of the board at the position p: the position and its hands.
+pub(crate) fn slip_of(p: u64, card: &Card) -> [u64; 5]
+    ensures { result ≡ slip_of p card.now }
 {
-    let h = hands_of_words(deal_at(cards, k));
-    [(k + 1) as u64, h.north, h.east, h.south, h.west]
+    let h = hands_of_words(deal_at(card));
+    [p, h.north, h.east, h.south, h.west]
 }
 
-// Stores the slip of the board at index k as the n-th, where the board is to be solved.
-fn put_slip(slips: &mut [u64], n: usize, cards: &[u32], k: usize, s: BoardState)
-    requires { 64 * k + 64 ≤ length cards.now }
-    ensures { slips.new ≡ cond (is_solve s) (put 5 slips.old n (slip_of (k + 1) (card_here k cards.now))) slips.old }
+// Stores the slip of the board at the position p as the n-th, where the board is to be solved.
+fn put_slip(slips: &mut [u64], n: usize, p: u64, card: &Card, s: BoardState)
+    ensures { slips.new ≡ cond (is_solve s) (put 5 slips.old n (slip_of p card.now)) slips.old }
 {
-    if state_number(s) == 5 {
-        put_five(slips, n, slip_of(cards, k));
+    if s.is_solve() {
+        put_five(slips, n, slip_of(p, card));
     }
 }
 
 // The totals of all boards of the new edition, and their slips.
-pub fn put_slips(
-    old_cards: &[u32],
-    olds: usize,
-    new_cards: &[u32],
-    news: usize,
-    slips: &mut [u64],
-) -> Totals
-    requires { (64 * olds ≤ length old_cards.now) × (64 * news ≤ length new_cards.now) }
-    ensures { (result ≡ totals_of (board_plans (cards_in olds old_cards.now) (cards_in news new_cards.now))) × (slips.new ≡ put_all 5 slips.old 0 (slips_of (board_plans (cards_in olds old_cards.now) (cards_in news new_cards.now)))) }
+pub fn put_slips(olds: &[Card], news: &[Card], slips: &mut [u64]) -> Totals
+    ensures { (result ≡ totals_of (board_plans olds.now news.now)) × (slips.new ≡ put_all 5 slips.old 0 (slips_of (board_plans olds.now news.now))) }
 {
-    let mut t = Totals {
-        boards: 0,
-        blank: 0,
-        own: 0,
-        old: 0,
-        near: 0,
-        twin: 0,
-        solve: 0,
-    };
-    let mut k = 0;
-    while k < news {
-        let s = state_of(old_cards, olds, new_cards, news, k);
-        put_slip(slips, t.solve as usize, new_cards, k, s);
+    let mut t = Totals::default();
+    for (k, card) in news.iter().enumerate() {
+        let s = state_of(olds, news, k);
+        put_slip(slips, t.solve as usize, (k + 1) as u64, card, s);
         t = counted(t, s);
-        k += 1;
     }
     t
 }
 
 // How many boards of the new edition are in each state: their totals alone, with no slip lent.
-pub(crate) fn count_boards(old_cards: &[u32], olds: usize, new_cards: &[u32], news: usize) -> Totals
-    requires { (64 * olds ≤ length old_cards.now) × (64 * news ≤ length new_cards.now) }
-    ensures { result ≡ totals_of (board_plans (cards_in olds old_cards.now) (cards_in news new_cards.now)) }
+pub(crate) fn count_boards(olds: &[Card], news: &[Card]) -> Totals
+    ensures { result ≡ totals_of (board_plans olds.now news.now) }
 {
     let mut none = [0u64; 0];
-    put_slips(old_cards, olds, new_cards, news, &mut none)
-}
-
-// Sets all cards and entries to 0.
-pub fn zero_boxes(
-    old_cards: &mut [u32],
-    old_entries: &mut [u32],
-    new_cards: &mut [u32],
-    new_entries: &mut [u32],
-)
-    ensures { BoxesKept false
-        (record { old_cards = old_cards.old; old_entries = old_entries.old; new_cards = new_cards.old; new_entries = new_entries.old })
-        (record { old_cards = old_cards.new; old_entries = old_entries.new; new_cards = new_cards.new; new_entries = new_entries.new }) }
-{
-    zero(old_cards);
-    zero(old_entries);
-    zero(new_cards);
-    zero(new_entries);
+    put_slips(olds, news, &mut none)
 }
 
 // The answer for the totals where so many slips have room; all cards and entries are set to 0 where it is a refusal.
 pub(crate) fn settle(
-    old_cards: &mut [u32],
-    old_entries: &mut [u32],
-    new_cards: &mut [u32],
-    new_entries: &mut [u32],
+    boxes: &mut LentBoxes,
     room: usize,
     t: Totals,
-) -> Planning
-    ensures { Settled
-        (record { old_cards = old_cards.old; old_entries = old_entries.old; new_cards = new_cards.old; new_entries = new_entries.old })
-        room t result
-        (record { old_cards = old_cards.new; old_entries = old_entries.new; new_cards = new_cards.new; new_entries = new_entries.new }) }
+) -> Result<Totals, PlanRefusal>
+    ensures settled { Settled (words_of boxes.old) room t result (words_of boxes.new) }
+    ensures same { SameLent boxes.old boxes.new }
 {
-    let solve = t.solve;
-    if (room as u64) < solve {
-        zero_boxes(old_cards, old_entries, new_cards, new_entries);
-        return Planning::Refused(PlanRefusal::SlipsShort(solve));
+    if (room as u64) < t.solve {
+        boxes.zero();
+        return Err(PlanRefusal::SlipsShort(t.solve));
     }
-    Planning::Planned(t)
+    Ok(t)
 }
 
 // The answer for the totals; all lent words are set to 0 where it is a refusal.
 pub fn finish_plan(
-    old_cards: &mut [u32],
-    old_entries: &mut [u32],
-    new_cards: &mut [u32],
-    new_entries: &mut [u32],
+    boxes: &mut LentBoxes,
     slips: &mut [u64],
     t: Totals,
-) -> Planning
-    ensures { PlanEnded
-        (record { old_cards = old_cards.old; old_entries = old_entries.old; new_cards = new_cards.old; new_entries = new_entries.old })
-        slips.old t result
-        (record { old_cards = old_cards.new; old_entries = old_entries.new; new_cards = new_cards.new; new_entries = new_entries.new })
-        slips.new }
+) -> Result<Totals, PlanRefusal>
+    ensures ended { PlanEnded (words_of boxes.old) slips.old t result (words_of boxes.new) slips.new }
+    ensures same { SameLent boxes.old boxes.new }
 {
-    let p = settle(
-        old_cards,
-        old_entries,
-        new_cards,
-        new_entries,
-        slips.len() / 5,
-        t,
-    );
-    match p {
-        Planning::Planned(_) => p,
-        Planning::Refused(_) => {
-            zero_numbers(slips);
-            p
-        }
+    let p = settle(boxes, slips.len() / 5, t);
+    if p.is_err() {
+        zero_numbers(slips);
     }
+    p
 }
 
 // Plans by the given conventions.
@@ -222,52 +165,28 @@ pub fn plan_with(
     c: Conventions,
     old: &[u8],
     new: &[u8],
-    old_cards: &mut [u32],
-    old_entries: &mut [u32],
-    new_cards: &mut [u32],
-    new_entries: &mut [u32],
+    boxes: &mut LentBoxes,
     slips: &mut [u64],
-) -> Planning
-    ensures { IsPlanned c old.now new.now
-        (record { old_cards = old_cards.old; old_entries = old_entries.old; new_cards = new_cards.old; new_entries = new_entries.old })
-        slips.old
-        (record { old_cards = old_cards.new; old_entries = old_entries.new; new_cards = new_cards.new; new_entries = new_entries.new })
-        slips.new result }
+) -> Result<Totals, PlanRefusal>
+    ensures planned { IsPlanned c old.now new.now (words_of boxes.old) slips.old (words_of boxes.new) slips.new result }
+    ensures same { SameLent boxes.old boxes.new }
 {
     zero_numbers(slips);
-    match read_both(c, old, new, old_cards, old_entries, new_cards, new_entries) {
-        Editions::Refused(f) => Planning::Refused(PlanRefusal::Edition(f)),
-        Editions::Both(olds, news) => {
-            let t = put_slips(old_cards, olds as usize, new_cards, news as usize, slips);
-            finish_plan(old_cards, old_entries, new_cards, new_entries, slips, t)
-        }
-    }
+    let both = read_both(c, old, new, boxes)?;
+    let (olds, news) = boxes.cards(both);
+    let t = put_slips(olds, news, slips);
+    finish_plan(boxes, slips, t)
 }
 
-// Plans a new edition, given an old one: what is in which state, and a slip for each board to solve.
+// Plans a new edition, given an old one: what is in which state, and a slip for each board to solve. A refusal leaves all lent words zero.
 pub fn plan(
     old: &[u8],
     new: &[u8],
-    old_cards: &mut [u32],
-    old_entries: &mut [u32],
-    new_cards: &mut [u32],
-    new_entries: &mut [u32],
+    boxes: &mut LentBoxes,
     slips: &mut [u64],
-) -> Planning
-    ensures { IsPlanned built_in old.now new.now
-        (record { old_cards = old_cards.old; old_entries = old_entries.old; new_cards = new_cards.old; new_entries = new_entries.old })
-        slips.old
-        (record { old_cards = old_cards.new; old_entries = old_entries.new; new_cards = new_cards.new; new_entries = new_entries.new })
-        slips.new result }
+) -> Result<Totals, PlanRefusal>
+    ensures planned { IsPlanned built_in old.now new.now (words_of boxes.old) slips.old (words_of boxes.new) slips.new result }
+    ensures same { SameLent boxes.old boxes.new }
 {
-    plan_with(
-        built_in(),
-        old,
-        new,
-        old_cards,
-        old_entries,
-        new_cards,
-        new_entries,
-        slips,
-    )
+    plan_with(built_in(), old, new, boxes, slips)
 }

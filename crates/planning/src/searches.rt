@@ -1,54 +1,48 @@
 // Every board's searches: the hand words that each compares, from one reading.
-ghost use Rattle.std.specs.Prelude.{◌≡◌, ◌*◌, ◌≤◌, ◌<◌, length};
+ghost use Rattle.std.specs.Prelude.{◌≡◌, ◌≤◌, ◌<◌, length};
 ghost use Rattle.tables.specs.Letters.{built_in};
 ghost use Rattle.reader.specs.Store.{put_all};
-ghost use Rattle.planning.specs.PlanSteps.{cards_in, plan_here};
+ghost use Rattle.planning.specs.PlanSteps.{plan_here};
 ghost use Rattle.planning.specs.States.{board_plans};
 ghost use Rattle.planning.specs.Searches.{search_numbers, searches_from, words_in_all};
-ghost use Rattle.planning.specs.Plans.{SearchesTold};
+ghost use Rattle.planning.specs.Plans.{words_of, SameLent, SearchesTold};
 
-use crate::cards::deal_at;
-use crate::editions::{Editions, read_both};
+use crate::cards::{Card, deal_at};
+use crate::editions::{EditionsRefusal, LentBoxes, read_both};
 use crate::numbers::{put_five, zero_numbers};
 use crate::search::search_with;
-use crate::state::{from_of, state_number, state_of};
+use crate::state::state_of;
 use tables::letters::{Conventions, built_in};
 
-// Whether both editions were taken, and the words compared for all boards, 0 after a refusal.
-#[derive(Clone, Copy)]
+// The boards of the new edition, and the words compared for all of them.
+#[derive(Clone, Copy, Debug, PartialEq, Eq)]
 pub struct Searched {
-    pub editions: Editions,
+    pub boards: usize,
     pub words: u64,
 }
 
 // The five numbers of the board at index k. A search is made where those before it found no board: for old from state 2 (old) on, for near
 // from 3 (near), for twin from 4 (twin).
-fn search_numbers(
-    old_cards: &[u32],
-    olds: usize,
-    new_cards: &[u32],
-    news: usize,
-    k: usize,
-) -> [u64; 5]
-    requires { (64 * olds ≤ length old_cards.now) × (64 * news ≤ length new_cards.now) × (k < news) }
-    ensures { result ≡ search_numbers (cards_in olds old_cards.now) (cards_in news new_cards.now) (plan_here (cards_in olds old_cards.now) (cards_in news new_cards.now) k new_cards.now) }
+fn search_numbers(olds: &[Card], news: &[Card], k: usize) -> [u64; 5]
+    requires { k < length news.now }
+    ensures { result ≡ search_numbers olds.now news.now (plan_here olds.now news.now k) }
 {
-    let s = state_of(old_cards, olds, new_cards, news, k);
-    let state = state_number(s);
-    let from = from_of(s);
+    let s = state_of(olds, news, k);
+    let state = s.number();
+    let from = s.source();
     if state < 2 {
         return [state, from, 0, 0, 0];
     }
-    let d = deal_at(new_cards, k);
-    let old = search_with(old_cards, olds, d, true);
+    let d = deal_at(&news[k]);
+    let old = search_with(olds, d, true);
     if state < 3 {
         return [state, from, old.words as u64, 0, 0];
     }
-    let near = search_with(new_cards, news, d, true);
+    let near = search_with(news, d, true);
     if state < 4 {
         return [state, from, old.words as u64, near.words as u64, 0];
     }
-    let twin = search_with(new_cards, k, d, false);
+    let twin = search_with(&news[..k], d, false);
     [
         state,
         from,
@@ -59,24 +53,16 @@ fn search_numbers(
 }
 
 // Stores the five numbers of each board, as many as there is room for. Returns the words of all boards.
-fn put_searches(
-    old_cards: &[u32],
-    olds: usize,
-    new_cards: &[u32],
-    news: usize,
-    numbers: &mut [u64],
-) -> u64
-    requires { (64 * olds ≤ length old_cards.now) × (64 * news ≤ length new_cards.now) × (olds ≤ 16777215) × (news ≤ 16777215) }
-    ensures { (result ≡ words_in_all (cards_in olds old_cards.now) (cards_in news new_cards.now) (board_plans (cards_in olds old_cards.now) (cards_in news new_cards.now)))
-        × (numbers.new ≡ put_all 5 numbers.old 0 (searches_from (cards_in olds old_cards.now) (cards_in news new_cards.now) (board_plans (cards_in olds old_cards.now) (cards_in news new_cards.now)))) }
+fn put_searches(olds: &[Card], news: &[Card], numbers: &mut [u64]) -> u64
+    requires { (length olds.now ≤ 16777215) × (length news.now ≤ 16777215) }
+    ensures { (result ≡ words_in_all olds.now news.now (board_plans olds.now news.now))
+        × (numbers.new ≡ put_all 5 numbers.old 0 (searches_from olds.now news.now (board_plans olds.now news.now))) }
 {
     let mut words = 0;
-    let mut k = 0;
-    while k < news {
-        let five = search_numbers(old_cards, olds, new_cards, news, k);
+    for k in 0..news.len() {
+        let five = search_numbers(olds, news, k);
         put_five(numbers, k, five);
         words += five[2] + five[3] + five[4];
-        k += 1;
     }
     words
 }
@@ -86,27 +72,20 @@ pub fn plan_searches_with(
     c: Conventions,
     old: &[u8],
     new: &[u8],
-    old_cards: &mut [u32],
-    old_entries: &mut [u32],
-    new_cards: &mut [u32],
-    new_entries: &mut [u32],
+    boxes: &mut LentBoxes,
     numbers: &mut [u64],
-) -> Searched
-    ensures { SearchesTold c old.now new.now
-        (record { old_cards = old_cards.old; old_entries = old_entries.old; new_cards = new_cards.old; new_entries = new_entries.old })
-        numbers.old
-        (record { old_cards = old_cards.new; old_entries = old_entries.new; new_cards = new_cards.new; new_entries = new_entries.new })
-        numbers.new result.editions result.words }
+) -> Result<Searched, EditionsRefusal>
+    ensures told { SearchesTold c old.now new.now (words_of boxes.old) numbers.old (words_of boxes.new) numbers.new result }
+    ensures same { SameLent boxes.old boxes.new }
 {
     zero_numbers(numbers);
-    let editions = read_both(c, old, new, old_cards, old_entries, new_cards, new_entries);
-    match editions {
-        Editions::Refused(_) => Searched { editions, words: 0 },
-        Editions::Both(olds, news) => {
-            let words = put_searches(old_cards, olds as usize, new_cards, news as usize, numbers);
-            Searched { editions, words }
-        }
-    }
+    let both = read_both(c, old, new, boxes)?;
+    let (olds, news) = boxes.cards(both);
+    let words = put_searches(olds, news, numbers);
+    Ok(Searched {
+        boards: both.new.boards,
+        words,
+    })
 }
 
 // Five numbers a board: its state, its source board, and the hand words compared in the searches for old, near and twin, 0 for a search that is
@@ -114,26 +93,11 @@ pub fn plan_searches_with(
 pub fn plan_searches(
     old: &[u8],
     new: &[u8],
-    old_cards: &mut [u32],
-    old_entries: &mut [u32],
-    new_cards: &mut [u32],
-    new_entries: &mut [u32],
+    boxes: &mut LentBoxes,
     numbers: &mut [u64],
-) -> Searched
-    ensures { SearchesTold built_in old.now new.now
-        (record { old_cards = old_cards.old; old_entries = old_entries.old; new_cards = new_cards.old; new_entries = new_entries.old })
-        numbers.old
-        (record { old_cards = old_cards.new; old_entries = old_entries.new; new_cards = new_cards.new; new_entries = new_entries.new })
-        numbers.new result.editions result.words }
+) -> Result<Searched, EditionsRefusal>
+    ensures told { SearchesTold built_in old.now new.now (words_of boxes.old) numbers.old (words_of boxes.new) numbers.new result }
+    ensures same { SameLent boxes.old boxes.new }
 {
-    plan_searches_with(
-        built_in(),
-        old,
-        new,
-        old_cards,
-        old_entries,
-        new_cards,
-        new_entries,
-        numbers,
-    )
+    plan_searches_with(built_in(), old, new, boxes, numbers)
 }

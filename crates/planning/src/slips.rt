@@ -1,19 +1,18 @@
 // Slips as structs: the plan of `plan`, with a struct where that one stores five numbers.
-ghost use Rattle.std.specs.Prelude.{◌≡◌, ◌+◌, ◌*◌, ◌≤◌, ◌<◌, length};
+ghost use Rattle.std.specs.Prelude.{◌≡◌, ◌≤◌, length};
 ghost use Rattle.tables.specs.Letters.{built_in};
-ghost use Rattle.planning.specs.declared.plan.Planning.TheVariants.{Refused};
-ghost use Rattle.planning.specs.Cards.{card_here};
 ghost use Rattle.planning.specs.Slips.{slip_numbers};
 ghost use Rattle.planning.specs.SlipSteps.{slip_struct, next_of, filled_from, IsCounted};
-ghost use Rattle.planning.specs.Plans.{IsPlanned};
+ghost use Rattle.planning.specs.Plans.{words_of, SameLent, IsPlanned};
 
-use crate::editions::{Editions, read_both};
-use crate::plan::{PlanRefusal, Planning, count_boards, settle, slip_of};
-use crate::state::{state_number, state_of};
+use crate::cards::Card;
+use crate::editions::{Both, LentBoxes, read_both};
+use crate::plan::{PlanRefusal, Totals, count_boards, settle, slip_of};
+use crate::state::state_of;
 use tables::letters::{Conventions, built_in};
 
 // A board's position from 1 and its hands.
-#[derive(Clone, Copy)]
+#[derive(Clone, Copy, Debug, Default, PartialEq, Eq)]
 pub struct Slip {
     pub position: u64,
     pub north: u64,
@@ -29,20 +28,18 @@ pub struct NextSlip {
     pub slip: Slip,
 }
 
-// What planning answers, and how many cards of each edition the slips are of: none after a refusal.
+// The totals of a plan, and the boards and entries of each edition.
 #[derive(Clone, Copy)]
 pub struct Counted {
-    pub answer: Planning,
-    pub olds: usize,
-    pub news: usize,
+    pub totals: Totals,
+    pub both: Both,
 }
 
-// The slip of the board at index k.
-fn slip_here(cards: &[u32], k: usize) -> Slip
-    requires { 64 * k + 64 ≤ length cards.now }
-    ensures { result ≡ slip_struct (k + 1) (card_here k cards.now) }
+// The slip of the board at the position p.
+fn slip_here(p: u64, card: &Card) -> Slip
+    ensures { result ≡ slip_struct p card.now }
 {
-    let five = slip_of(cards, k);
+    let five = slip_of(p, card);
     Slip {
         position: five[0],
         north: five[1],
@@ -53,53 +50,31 @@ fn slip_here(cards: &[u32], k: usize) -> Slip
 }
 
 // The slip of the first board from index k on that is to be solved; zeros where there is none.
-fn next_slip(old_cards: &[u32], olds: usize, new_cards: &[u32], news: usize, k: usize) -> NextSlip
-    requires { (64 * olds ≤ length old_cards.now) × (64 * news ≤ length new_cards.now) }
-    ensures { result ≡ next_of olds old_cards.now news new_cards.now k }
+fn next_slip(olds: &[Card], news: &[Card], k: usize) -> NextSlip
+    requires { k ≤ length news.now }
+    ensures { (result ≡ next_of olds.now news.now k) × (result.next ≤ length news.now) }
 {
-    let mut i = k;
-    while i < news {
-        let s = state_of(old_cards, olds, new_cards, news, i);
-        if state_number(s) == 5 {
-            let slip = slip_here(new_cards, i);
+    for i in k..news.len() {
+        if state_of(olds, news, i).is_solve() {
+            let slip = slip_here((i + 1) as u64, &news[i]);
             return NextSlip { next: i + 1, slip };
         }
-        i += 1;
     }
-    let slip = Slip {
-        position: 0,
-        north: 0,
-        east: 0,
-        south: 0,
-        west: 0,
-    };
-    NextSlip { next: i, slip }
+    NextSlip {
+        next: news.len(),
+        slip: Slip::default(),
+    }
 }
 
 // Fills the structs with the slips of the boards to solve, as many as there is room for, and the rest with zeros.
-fn fill_slips(old_cards: &[u32], olds: usize, new_cards: &[u32], news: usize, slips: &mut [Slip])
-    requires { (64 * olds ≤ length old_cards.now) × (64 * news ≤ length new_cards.now) }
-    ensures { slips.new ≡ filled_from (next_of olds old_cards.now news new_cards.now) 0 (length slips.old) }
+fn fill_slips(olds: &[Card], news: &[Card], slips: &mut [Slip])
+    ensures { slips.new ≡ filled_from (next_of olds.now news.now) 0 (length slips.old) }
 {
     let mut k = 0;
-    let mut i = 0;
-    while i < slips.len() {
-        let f = next_slip(old_cards, olds, new_cards, news, k);
+    for i in 0..slips.len() {
+        let f = next_slip(olds, news, k);
         slips[i] = f.slip;
         k = f.next;
-        i += 1;
-    }
-}
-
-// A refusal, after which the slips are of no card.
-fn refused(f: PlanRefusal) -> Counted
-    ensures { result ≡ record { answer = Refused f; olds = 0; news = 0 } }
-{
-    let answer = Planning::Refused(f);
-    Counted {
-        answer,
-        olds: 0,
-        news: 0,
     }
 }
 
@@ -108,33 +83,17 @@ fn plan_counted(
     c: Conventions,
     old: &[u8],
     new: &[u8],
-    old_cards: &mut [u32],
-    old_entries: &mut [u32],
-    new_cards: &mut [u32],
-    new_entries: &mut [u32],
+    boxes: &mut LentBoxes,
     room: usize,
-) -> Counted
-    ensures { IsCounted c old.now new.now
-        (record { old_cards = old_cards.old; old_entries = old_entries.old; new_cards = new_cards.old; new_entries = new_entries.old })
-        room
-        (record { old_cards = old_cards.new; old_entries = old_entries.new; new_cards = new_cards.new; new_entries = new_entries.new })
-        result }
+) -> Result<Counted, PlanRefusal>
+    ensures counted { IsCounted c old.now new.now (words_of boxes.old) room (words_of boxes.new) result }
+    ensures same { SameLent boxes.old boxes.new }
 {
-    match read_both(c, old, new, old_cards, old_entries, new_cards, new_entries) {
-        Editions::Refused(f) => refused(PlanRefusal::Edition(f)),
-        Editions::Both(olds, news) => {
-            let t = count_boards(old_cards, olds as usize, new_cards, news as usize);
-            let answer = settle(old_cards, old_entries, new_cards, new_entries, room, t);
-            match answer {
-                Planning::Refused(f) => refused(f),
-                Planning::Planned(_) => Counted {
-                    answer,
-                    olds: olds as usize,
-                    news: news as usize,
-                },
-            }
-        }
-    }
+    let both = read_both(c, old, new, boxes)?;
+    let (olds, news) = boxes.cards(both);
+    let t = count_boards(olds, news);
+    let totals = settle(boxes, room, t)?;
+    Ok(Counted { totals, both })
 }
 
 // Plans by the given conventions, with a struct for each slip.
@@ -142,56 +101,34 @@ pub fn plan_slips_with(
     c: Conventions,
     old: &[u8],
     new: &[u8],
-    old_cards: &mut [u32],
-    old_entries: &mut [u32],
-    new_cards: &mut [u32],
-    new_entries: &mut [u32],
+    boxes: &mut LentBoxes,
     slips: &mut [Slip],
-) -> Planning
-    ensures { IsPlanned c old.now new.now
-        (record { old_cards = old_cards.old; old_entries = old_entries.old; new_cards = new_cards.old; new_entries = new_entries.old })
-        (slip_numbers slips.old)
-        (record { old_cards = old_cards.new; old_entries = old_entries.new; new_cards = new_cards.new; new_entries = new_entries.new })
-        (slip_numbers slips.new) result }
+) -> Result<Totals, PlanRefusal>
+    ensures planned { IsPlanned c old.now new.now (words_of boxes.old) (slip_numbers slips.old) (words_of boxes.new) (slip_numbers slips.new) result }
+    ensures same { SameLent boxes.old boxes.new }
 {
-    let p = plan_counted(
-        c,
-        old,
-        new,
-        old_cards,
-        old_entries,
-        new_cards,
-        new_entries,
-        slips.len(),
-    );
-    fill_slips(old_cards, p.olds, new_cards, p.news, slips);
-    p.answer
+    match plan_counted(c, old, new, boxes, slips.len()) {
+        Ok(p) => {
+            let (olds, news) = boxes.cards(p.both);
+            fill_slips(olds, news, slips);
+            Ok(p.totals)
+        }
+        Err(f) => {
+            slips.fill(Slip::default());
+            Err(f)
+        }
+    }
 }
 
 // Plans a new edition, given an old one, with a struct for each slip.
 pub fn plan_slips(
     old: &[u8],
     new: &[u8],
-    old_cards: &mut [u32],
-    old_entries: &mut [u32],
-    new_cards: &mut [u32],
-    new_entries: &mut [u32],
+    boxes: &mut LentBoxes,
     slips: &mut [Slip],
-) -> Planning
-    ensures { IsPlanned built_in old.now new.now
-        (record { old_cards = old_cards.old; old_entries = old_entries.old; new_cards = new_cards.old; new_entries = new_entries.old })
-        (slip_numbers slips.old)
-        (record { old_cards = old_cards.new; old_entries = old_entries.new; new_cards = new_cards.new; new_entries = new_entries.new })
-        (slip_numbers slips.new) result }
+) -> Result<Totals, PlanRefusal>
+    ensures planned { IsPlanned built_in old.now new.now (words_of boxes.old) (slip_numbers slips.old) (words_of boxes.new) (slip_numbers slips.new) result }
+    ensures same { SameLent boxes.old boxes.new }
 {
-    plan_slips_with(
-        built_in(),
-        old,
-        new,
-        old_cards,
-        old_entries,
-        new_cards,
-        new_entries,
-        slips,
-    )
+    plan_slips_with(built_in(), old, new, boxes, slips)
 }

@@ -1,32 +1,24 @@
 // The state of a board, by position.
-ghost use Rattle.std.specs.Prelude.{◌≡◌, ◌*◌, ◌≤◌, ◌<◌, length};
+ghost use Rattle.std.specs.Prelude.{◌≡◌};
 ghost use Rattle.tables.specs.Letters.{built_in};
-ghost use Rattle.planning.specs.PlanSteps.{cards_in};
 ghost use Rattle.planning.specs.States.{board_plans, state_at};
-ghost use Rattle.planning.specs.Plans.{StateTold};
+ghost use Rattle.planning.specs.Plans.{words_of, SameLent, StateTold};
 
-use crate::editions::{Editions, read_both};
+use crate::cards::Card;
+use crate::editions::{EditionsRefusal, LentBoxes, read_both};
 use crate::state::{BoardState, state_of};
 use tables::letters::{Conventions, built_in};
 
-// Whether both editions were taken, and the state of a board.
-#[derive(Clone, Copy)]
-pub struct StateAnswer {
-    pub editions: Editions,
-    pub state: BoardState,
-}
-
-// The state of the board at the position p; blank outside 1 to news.
-fn state_in(old_cards: &[u32], olds: usize, new_cards: &[u32], news: usize, p: u64) -> BoardState
-    requires { (64 * olds ≤ length old_cards.now) × (64 * news ≤ length new_cards.now) }
-    ensures { result ≡ state_at (board_plans (cards_in olds old_cards.now) (cards_in news new_cards.now)) p }
+// The state of the board at the position p; blank outside 1 to the boards.
+fn state_in(olds: &[Card], news: &[Card], p: u64) -> BoardState
+    ensures { result ≡ state_at (board_plans olds.now news.now) p }
 {
     if p == 0 {
         return BoardState::Blank;
     }
     let k = (p - 1) as usize;
-    if k < news {
-        return state_of(old_cards, olds, new_cards, news, k);
+    if k < news.len() {
+        return state_of(olds, news, k);
     }
     BoardState::Blank
 }
@@ -36,53 +28,26 @@ pub fn state_at_with(
     c: Conventions,
     old: &[u8],
     new: &[u8],
-    old_cards: &mut [u32],
-    old_entries: &mut [u32],
-    new_cards: &mut [u32],
-    new_entries: &mut [u32],
+    boxes: &mut LentBoxes,
     position: u64,
-) -> StateAnswer
-    ensures { StateTold c old.now new.now
-        (record { old_cards = old_cards.old; old_entries = old_entries.old; new_cards = new_cards.old; new_entries = new_entries.old })
-        (record { old_cards = old_cards.new; old_entries = old_entries.new; new_cards = new_cards.new; new_entries = new_entries.new })
-        position result.editions result.state }
+) -> Result<BoardState, EditionsRefusal>
+    ensures told { StateTold c old.now new.now (words_of boxes.old) (words_of boxes.new) position result }
+    ensures same { SameLent boxes.old boxes.new }
 {
-    let editions = read_both(c, old, new, old_cards, old_entries, new_cards, new_entries);
-    match editions {
-        Editions::Refused(_) => StateAnswer {
-            editions,
-            state: BoardState::Blank,
-        },
-        Editions::Both(olds, news) => {
-            let state = state_in(old_cards, olds as usize, new_cards, news as usize, position);
-            StateAnswer { editions, state }
-        }
-    }
+    let both = read_both(c, old, new, boxes)?;
+    let (olds, news) = boxes.cards(both);
+    Ok(state_in(olds, news, position))
 }
 
-// The state of the board at a position of the new edition; blank outside 1 to boards and after a refusal.
+// The state of the board at a position of the new edition; blank outside 1 to boards.
 pub fn state_at(
     old: &[u8],
     new: &[u8],
-    old_cards: &mut [u32],
-    old_entries: &mut [u32],
-    new_cards: &mut [u32],
-    new_entries: &mut [u32],
+    boxes: &mut LentBoxes,
     position: u64,
-) -> StateAnswer
-    ensures { StateTold built_in old.now new.now
-        (record { old_cards = old_cards.old; old_entries = old_entries.old; new_cards = new_cards.old; new_entries = new_entries.old })
-        (record { old_cards = old_cards.new; old_entries = old_entries.new; new_cards = new_cards.new; new_entries = new_entries.new })
-        position result.editions result.state }
+) -> Result<BoardState, EditionsRefusal>
+    ensures told { StateTold built_in old.now new.now (words_of boxes.old) (words_of boxes.new) position result }
+    ensures same { SameLent boxes.old boxes.new }
 {
-    state_at_with(
-        built_in(),
-        old,
-        new,
-        old_cards,
-        old_entries,
-        new_cards,
-        new_entries,
-        position,
-    )
+    state_at_with(built_in(), old, new, boxes, position)
 }

@@ -3,33 +3,28 @@ use Prim.Native.Nat.{ℕ, ◌+◌, ◌-◌, ◌*◌, ◌≤◌}
 use mathlib.Core.Path.{◌≡◌, refl, sym, ◌∙◌}
 use mathlib.Core.List.{List, [], ◌∷◌, map}
 use mathlib.Core.Bool.{Bool, true, false, cond, ◌&&◌, not}
-use mathlib.Core.Option.{Option, none, some}
+use Rattle.std.specs.Prelude.{Option, Some, None, Ok, Err}
 use native.Mathlib.Omega.{arith}
 use borrow.Author.Tests.{ltb-true, ltb-false, eqb-true, le-leb}
 use lib.Dec.{eqb, ltb, leb}
 use lib.ListN.{length, take, length-map, length-take}
 use Rattle.tables.specs.declared.letters.Conventions.{Conventions}
-use Rattle.tables.specs.declared.numbers.Number.{Number}
-use Rattle.tables.specs.declared.numbers.Number.TheVariants.{Value, Bad}
 use Rattle.tables.specs.Text.{trimmed, first_character, characters, differs}
-use Rattle.tables.specs.Numbers.{digits_from, some_digits, number_of, raised, lowered, signed_of}
+use Rattle.tables.specs.Numbers.{Number, digits_from, some_digits, number_of, raised, lowered, signed_of}
 use Rattle.tables.specs.NumberSteps.{IsWithin}
 use Rattle.tables.specs.Letters.{every, seat_of, strain_of, capital}
-use Rattle.tables.specs.Tables.{TableReading, holds, refuses, digit_of, first_bad, digits_checked, digits_reading, table_of_digits}
+use Rattle.tables.specs.Tables.{TableReading, digit_of, first_bad, digits_checked, digits_reading, table_of_digits}
 use Rattle.tables.specs.declared.refusal.Refusal.TheVariants.{Length}
 use Rattle.tables.proofs.Laws.{by_cases}
 use Rattle.tables.proofs.TextLaws.{front_few}
-use Rattle.reader.specs.declared.deal.DealRead.{DealRead}
-use Rattle.reader.specs.declared.deal.DealRead.TheVariants.{Dealt, NoDeal}
 use Rattle.reader.specs.declared.board.Identity.{Identity}
 use Rattle.reader.specs.declared.board.DealCard.{DealCard}
 use Rattle.reader.specs.declared.board.TableCard.{TableCard}
 use Rattle.reader.specs.declared.board.Board.{Board}
 use Rattle.reader.specs.Words.{level_of, is_doubling, trump_suit, contract_trump, is_no_side, same_word, is_both_sides, vulnerability_of}
-use Rattle.reader.specs.Deals.{deal_of, hand_words}
+use Rattle.reader.specs.Deals.{DealRead, deal_of, hand_words}
 use Rattle.reader.specs.Boards.{with_number, with_dealer, with_vulnerability, with_declarer, with_result, identity_by, deal_read, deal_by, digits_table, table_by, is_kept_contract, contract_by, applied, no_board}
 use Rattle.reader.specs.Kept.{TableKept}
-use Rattle.reader.proofs.Tags.{never}
 
 -- ---- numbers
 
@@ -42,7 +37,7 @@ digits_within limit (b ∷ bs) v h =
         (p q r : Bool) →
         ltb limit (v * 10 + (b - 48)) ≡ r →
         (v * 10 + (b - 48) ≤ limit → IsWithin (digits_from limit bs (v * 10 + (b - 48))) limit) →
-        IsWithin (cond p Bad (cond q Bad (cond r Bad (digits_from limit bs (v * 10 + (b - 48)))))) limit
+        IsWithin (cond p None (cond q None (cond r None (digits_from limit bs (v * 10 + (b - 48)))))) limit
     go true q r e f = tt
     go false true r e f = tt
     go false false true e f = tt
@@ -61,16 +56,16 @@ number_within limit (b ∷ bs) = go (eqb b 43)
     go false = some_within limit (b ∷ bs)
 
 lowered_within : (half : ℕ) (n : Number) → IsWithin (lowered half n) half
-lowered_within half Bad = tt
-lowered_within half (Value v) = omega arith
+lowered_within half None = tt
+lowered_within half (Some v) = omega arith
 
 raised_within : (half limit : ℕ) (n : Number) → IsWithin n limit → IsWithin (raised half n) (half + limit)
-raised_within half limit Bad h = tt
-raised_within half limit (Value v) h = omega arith
+raised_within half limit None h = tt
+raised_within half limit (Some v) h = omega arith
 
 wider : (n : Number) (a b : ℕ) → a ≤ b → IsWithin n a → IsWithin n b
-wider Bad a b h w = tt
-wider (Value v) a b h w = omega arith
+wider None a b h w = tt
+wider (Some v) a b h w = omega arith
 
 -- A result plus 128.
 pub result_within : (s : List ℕ) → IsWithin (signed_of 128 s) 255
@@ -128,15 +123,15 @@ pub record IdentityLow (i : Identity) : Type 0 where
   pub result_low : i.result ≤ 255
 
 number_put : (i : Identity) (n : Number) → IsWithin n 4294967295 → IdentityLow i → IdentityLow (with_number i n)
-number_put i Bad w h =
+number_put i None w h =
     record { number_met_low = omega arith; number_low = omega arith; dealer_low = h.dealer_low; vulnerable_low = h.vulnerable_low; declarer_low = h.declarer_low; result_met_low = h.result_met_low; result_low = h.result_low }
-number_put i (Value v) w h =
+number_put i (Some v) w h =
     record { number_met_low = omega arith; number_low = w; dealer_low = h.dealer_low; vulnerable_low = h.vulnerable_low; declarer_low = h.declarer_low; result_met_low = h.result_met_low; result_low = h.result_low }
 
 result_put : (i : Identity) (n : Number) → IsWithin n 255 → IdentityLow i → IdentityLow (with_result i n)
-result_put i Bad w h =
+result_put i None w h =
     record { number_met_low = h.number_met_low; number_low = h.number_low; dealer_low = h.dealer_low; vulnerable_low = h.vulnerable_low; declarer_low = h.declarer_low; result_met_low = omega arith; result_low = omega arith }
-result_put i (Value v) w h =
+result_put i (Some v) w h =
     record { number_met_low = h.number_met_low; number_low = h.number_low; dealer_low = h.dealer_low; vulnerable_low = h.vulnerable_low; declarer_low = h.declarer_low; result_met_low = omega arith; result_low = w }
 
 dealer_put : (i : Identity) (s : ℕ) → s ≤ 4 → IdentityLow i → IdentityLow (with_dealer i s)
@@ -184,8 +179,8 @@ two_one false = omega arith
 
 deal_read_sized : (r : DealRead) (value : List ℕ) (d : DealCard) → DealSized d → DealSized (deal_read r value d)
 unfolding hand_words
-deal_read_sized (Dealt h) value d s = record { deal_kind_low = two_one (eqb d.kind 2); words_eight = refl }
-deal_read_sized NoDeal value d s = record { deal_kind_low = kind_two (eqb (length (trimmed value)) 0) d.kind s.deal_kind_low; words_eight = s.words_eight }
+deal_read_sized (Some h) value d s = record { deal_kind_low = two_one (eqb d.kind 2); words_eight = refl }
+deal_read_sized None value d s = record { deal_kind_low = kind_two (eqb (length (trimmed value)) 0) d.kind s.deal_kind_low; words_eight = s.words_eight }
 
 deal_sized : (c : Conventions) (k : ℕ) (value : List ℕ) (d : DealCard) → DealSized d → DealSized (deal_by c k value d)
 unfolding deal_by
@@ -204,14 +199,14 @@ record Twenty (cells : List ℕ) : Type 0 where
   low : every is_tricks cells ≡ true
 
 abbrev TwentyIn : TableReading → Type 0
-TwentyIn (holds cells) = Twenty cells
-TwentyIn (refuses f) = Unit {0}
+TwentyIn (Ok cells) = Twenty cells
+TwentyIn (Err f) = Unit {0}
 
-digits_low : (xs : List ℕ) (i : ℕ) → first_bad xs i ≡ none → every is_tricks (map digit_of xs) ≡ true
+digits_low : (xs : List ℕ) (i : ℕ) → first_bad xs i ≡ None → every is_tricks (map digit_of xs) ≡ true
 digits_low [] i e = refl
 digits_low (x ∷ xs) i e =
     by_cases (ltb 13 (digit_of x))
-    (λ t. never (sym (rw t at e)))
+    (λ t. let h : Some i ≡ None = rw t at e in cc)
     (λ t. rw (le-leb (digit_of x) 13 (ltb-false 13 (digit_of x) t), digits_low xs (i + 1) (rw t at e)))
 
 digits_twenty : (value : List ℕ) → TwentyIn (table_of_digits value)
@@ -219,16 +214,16 @@ unfolding table_of_digits digits_reading
 digits_twenty value = go (characters (trimmed value)) (eqb (length (characters (trimmed value))) 20) refl
   where
     checked : (xs : List ℕ) (bad : Option ℕ) → first_bad xs 0 ≡ bad → length xs ≡ 20 → TwentyIn (digits_checked xs bad)
-    checked xs none b e = record { twenty = length-map xs digit_of ∙ e; low = digits_low xs 0 b }
-    checked xs (some i) b e = tt
+    checked xs None b e = record { twenty = length-map xs digit_of ∙ e; low = digits_low xs 0 b }
+    checked xs (Some i) b e = tt
 
-    go : (xs : List ℕ) (t : Bool) → eqb (length xs) 20 ≡ t → TwentyIn (cond t (digits_checked xs (first_bad xs 0)) (refuses (Length (length xs))))
+    go : (xs : List ℕ) (t : Bool) → eqb (length xs) 20 ≡ t → TwentyIn (cond t (digits_checked xs (first_bad xs 0)) (Err (Length (length xs))))
     go xs true e = checked xs (first_bad xs 0) refl (eqb-true (length xs) 20 e)
     go xs false e = tt
 
 digits_kept : (r : TableReading) → TwentyIn r → TableKept (digits_table r)
-digits_kept (holds cells) e = record { kind_low = omega arith; twenty = e.twenty; cells_low = e.low; none_zero = λ k. absurd (omega arith) }
-digits_kept (refuses f) e = record { kind_low = omega arith; twenty = refl; cells_low = refl; none_zero = λ k. refl }
+digits_kept (Ok cells) e = record { kind_low = omega arith; twenty = e.twenty; cells_low = e.low; none_zero = λ k. absurd (omega arith) }
+digits_kept (Err f) e = record { kind_low = omega arith; twenty = refl; cells_low = refl; none_zero = λ k. refl }
 
 table_kept : (k : ℕ) (value : List ℕ) (t : TableCard) → TableKept t → TableKept (table_by k value t)
 unfolding table_by

@@ -10,14 +10,11 @@ use lib.Dec.{eqb, ltb}
 use lib.ListN.{length, replicate}
 use Rattle.tables.specs.declared.letters.Conventions.{Conventions}
 use Rattle.tables.specs.declared.refusal.Refusal.{Refusal}
-use Rattle.tables.specs.declared.dd.Decoded.TheVariants.{Table, Refused}
-use Rattle.tables.specs.declared.dd.TableRead.{TableRead}
 use Rattle.tables.specs.Text.{trimmed, first_character}
 use Rattle.tables.specs.Letters.{seat_of}
-use Rattle.tables.specs.Tables.{TableReading, holds, refuses, table_read, table_of_digits}
+use Rattle.tables.specs.Tables.{TableReading, table_of_digits}
 use Rattle.reader.specs.declared.deal.Hands.{Hands}
-use Rattle.reader.specs.declared.deal.DealRead.{DealRead}
-use Rattle.reader.specs.declared.deal.DealRead.TheVariants.{Dealt, NoDeal}
+use Rattle.std.specs.Prelude.{Some, None, Ok, Err}
 use Rattle.reader.specs.declared.tag.Span.{Span}
 use Rattle.reader.specs.declared.section.Open.{Open}
 use Rattle.reader.specs.declared.board.Identity.{Identity}
@@ -25,7 +22,7 @@ use Rattle.reader.specs.declared.board.DealCard.{DealCard}
 use Rattle.reader.specs.declared.board.TableCard.{TableCard}
 use Rattle.reader.specs.declared.board.Values.{Values}
 use Rattle.reader.specs.declared.board.Board.{Board}
-use Rattle.reader.specs.Deals.{deal_of, hand_words}
+use Rattle.reader.specs.Deals.{DealRead, deal_of, hand_words}
 use Rattle.reader.specs.Boards.{identity_by, parsed_deal, deal_read, deal_by, digits_table, table_by, contract_by, is_kept_value, is_kept, value_put, values_by, applied, no_open, seat_open, open_by}
 use Rattle.reader.specs.BoardSteps.{values_put}
 
@@ -64,14 +61,14 @@ applied_opening_rows c value place b = same_values b b.table (is_kept_value 19 v
 -- A Deal that parsed, one that did not, and a blank one.
 pub applied_dealt :
     (c : Conventions) (value : List ℕ) (place : ℕ) (b : Board) (h : Hands) →
-    deal_of c value ≡ Dealt h →
+    deal_of c value ≡ Some h →
     applied c 4 value place b ≡ with_parts b b.id (parsed_deal h b.deal) b.table b.values b.contract
 unfolding applied identity_by deal_by table_by values_by is_kept contract_by
 applied_dealt c value place b h e = rw e
 
 pub applied_unparsed :
     (c : Conventions) (value : List ℕ) (place : ℕ) (b : Board) →
-    deal_of c value ≡ NoDeal →
+    deal_of c value ≡ None →
     eqb (length (trimmed value)) 0 ≡ false →
     applied c 4 value place b ≡ with_parts b b.id (record { kind = 2; words = b.deal.words }) b.table (value_put 4 place b.values) b.contract
 unfolding applied identity_by deal_by table_by values_by is_kept contract_by
@@ -79,7 +76,7 @@ applied_unparsed c value place b e t = rw (e, t)
 
 pub applied_blank :
     (c : Conventions) (value : List ℕ) (place : ℕ) (b : Board) →
-    deal_of c value ≡ NoDeal →
+    deal_of c value ≡ None →
     eqb (length (trimmed value)) 0 ≡ true →
     applied c 4 value place b ≡ b
 unfolding applied identity_by deal_by table_by values_by is_kept contract_by
@@ -128,7 +125,7 @@ deal_stays c k value place b e = rw e
 -- After one that parses, where none was kept unparsed.
 pub deal_parsed :
     (c : Conventions) (value : List ℕ) (place : ℕ) (b : Board) (h : Hands) →
-    deal_of c value ≡ Dealt h →
+    deal_of c value ≡ Some h →
     eqb b.deal.kind 2 ≡ false →
     (applied c 4 value place b).deal ≡ record { kind = 1; words = hand_words h }
 unfolding applied deal_by
@@ -147,8 +144,8 @@ deal_unparsed_stays c k value place b e = go (eqb k 4) (deal_of c value)
     blank false = refl
 
     go : (t : Bool) (r : DealRead) → (cond t (deal_read r value b.deal) b.deal).kind ≡ 2
-    go true (Dealt h) = rw e
-    go true NoDeal = blank (eqb (length (trimmed value)) 0)
+    go true (Some h) = rw e
+    go true None = blank (eqb (length (trimmed value)) 0)
     go false r = e
 
 -- ---- the table
@@ -164,7 +161,7 @@ table_stays c k value place b e = rw e
 -- After good digits, and after bad ones, where no table of rows is there.
 pub table_read_lem :
     (c : Conventions) (value : List ℕ) (place : ℕ) (b : Board) (cells : List ℕ) →
-    table_of_digits value ≡ holds cells →
+    table_of_digits value ≡ Ok cells →
     eqb b.table.kind 2 ≡ false →
     (applied c 18 value place b).table ≡ record { kind = 1; cells = cells }
 unfolding applied table_by
@@ -172,7 +169,7 @@ table_read_lem c value place b cells e t = rw (t, e)
 
 pub table_refused :
     (c : Conventions) (value : List ℕ) (place : ℕ) (b : Board) (f : Refusal) →
-    table_of_digits value ≡ refuses f →
+    table_of_digits value ≡ Err f →
     eqb b.table.kind 2 ≡ false →
     (applied c 18 value place b).table ≡ record { kind = 0; cells = replicate 20 0 }
 unfolding applied table_by
@@ -255,7 +252,7 @@ applied_from c k value place b = go (is_kept c k value)
     go true = put_from k place b.values
     go false = none_from place b.values
 
--- What holds of every place.
+-- What Ok of every place.
 pub record AllPlaces (P : ℕ → Type 0) (v : Values) : Type 0 where
   pub id_place : P v.id
   pub event_place : P v.event
@@ -298,16 +295,6 @@ pub applied_places :
     AllPlaces P (applied c k value place b).values
 applied_places P c k value place b p a =
     all_from P place b.values (applied c k value place b).values p a (applied_from c k value place b)
-
--- ---- the digits of a table, as they are answered
-
-pub digits_table_lem : (x : TableReading) (r : TableRead) → r ≡ table_read x → r.answer ≡ Table → digits_table x ≡ record { kind = 1; cells = r.table }
-digits_table_lem (holds cells) r e t = rw e
-digits_table_lem (refuses f) r e t = let z : ◌≡◌ {A = ℕ} 0 1 = cc in absurd (omega arith)
-
-pub digits_refused : (x : TableReading) (r : TableRead) (f : Refusal) → r ≡ table_read x → r.answer ≡ Refused f → digits_table x ≡ record { kind = 0; cells = r.table }
-digits_refused (holds cells) r f e t = let z : ◌≡◌ {A = ℕ} 0 1 = cc in absurd (omega arith)
-digits_refused (refuses g) r f e t = rw e
 
 -- ---- sections
 

@@ -2,7 +2,7 @@
 use Rattle.tables.proofs.TextLaws.{front_few}
 use Rattle.reader.specs.declared.store.Entry.{Entry}
 use Prim.Native.Nat.{ℕ, ◌+◌, ◌-◌, ◌≤◌, ◌<◌, ◌*◌}
-use mathlib.Core.Path.{◌≡◌, refl, sym, ap, ◌∙◌}
+use mathlib.Core.Path.{◌≡◌, refl, sym, ap}
 use mathlib.Core.Bool.{Bool, true, false, cond, ◌&&◌, ◌||◌}
 use mathlib.Core.List.{List, [], ◌∷◌}
 use native.Mathlib.Nat.{add-zero}
@@ -18,9 +18,10 @@ use Rattle.reader.specs.declared.auction.Bidding.{Bidding}
 use Rattle.tables.specs.Letters.{capital}
 use Rattle.reader.specs.Words.{call_of, call_part, is_call_byte, section_end, is_all_pass}
 use Rattle.reader.proofs.EntryLaws.{All, none, one, all_map, Inside, TokensInside, tokens_bytes, out_all_lem, out_few, out_count}
-use Rattle.reader.specs.Store.{put, entry_words}
+use Rattle.reader.specs.declared.store.Entries.{Entries}
+use Rattle.reader.proofs.PieceLaws.{adds_none, adds_then}
 use Rattle.reader.specs.Pieces.{Piece, Out, entry, tokens_at}
-use Rattle.reader.specs.PieceSteps.{Emits}
+use Rattle.reader.specs.PieceSteps.{Adds, Emits}
 use Rattle.reader.specs.Auction.{annotation, bidding, call_out, passes_out, called_by, call_token_of, called, called_piece}
 
 -- ---- counts
@@ -60,62 +61,56 @@ called_by_lem c b t s e = rw (s, e)
 count_of : {r q : Bidding} → r ≡ q → r.count ≡ q.count
 count_of e = ap (λ (x : Bidding). x.count) e
 
-pub passes_out_lem : (a n : ℕ) (b : Bidding) (p len : ℕ) {l l₁ l₂ l₃ : List ℕ} {r : Bidding}
-    → l₁ ≡ put 4 l n (entry_words a (entry 6 p len 0)) → l₂ ≡ put 4 l₁ (n + 1) (entry_words a (entry 6 p len 0)) → l₃ ≡ put 4 l₂ (n + 2) (entry_words a (entry 6 p len 0))
-    → r ≡ bidding true b.end true (b.count + 3) → Emits a n l l₃ r (passes_out b p len) × (r.count ≤ b.count + 3)
-passes_out_lem a n b p len {l} {l₁} {l₂} {l₃} {r} e₁ e₂ e₃ er =
-    let q : n + 2 ≡ n + 1 + 1 = omega arith in
-    (record { answer = er; words = e₃ ∙ rw (e₂, e₁, q) }, omega (arith, count_of er))
+pub passes_out_lem : (b : Bidding) (p len : ℕ) {l l₁ l₂ l₃ : Entries} {r : Bidding}
+    → Adds l l₁ (entry 6 p len 0 ∷ []) → Adds l₁ l₂ (entry 6 p len 0 ∷ []) → Adds l₂ l₃ (entry 6 p len 0 ∷ [])
+    → r ≡ bidding true b.end true (b.count + 3) → Emits l l₃ r (passes_out b p len) × (r.count ≤ b.count + 3)
+passes_out_lem b p len e₁ e₂ e₃ er = (record { answer = er; adds = adds_then e₁ (adds_then e₂ e₃) }, omega (arith, count_of er))
 
-pub call_annotated : (a n : ℕ) (b : Bidding) (p len k code : ℕ) {l l₁ l₂ : List ℕ} {r : Bidding} → k < len
-    → l₁ ≡ put 4 l n (entry_words a (entry 6 p k code)) → l₂ ≡ put 4 l₁ (n + 1) (entry_words a (entry 7 (p + k) (len - k) 0))
-    → r ≡ bidding true b.end false (b.count + 2) → Emits a n l l₂ r (call_out b p len k code) × (r.count ≤ b.count + 3)
-call_annotated a n b p len k code {l} {l₁} {l₂} {r} h e₁ e₂ er =
+pub call_annotated : (b : Bidding) (p len k code : ℕ) {l l₁ l₂ : Entries} {r : Bidding} → k < len
+    → Adds l l₁ (entry 6 p k code ∷ []) → Adds l₁ l₂ (entry 7 (p + k) (len - k) 0 ∷ [])
+    → r ≡ bidding true b.end false (b.count + 2) → Emits l l₂ r (call_out b p len k code) × (r.count ≤ b.count + 3)
+call_annotated b p len k code h e₁ e₂ er =
     let z : ltb 0 (len - k) ≡ true = lt-ltb 0 (len - k) (omega arith) in
-    (record { answer = rw z er; words = rw z (e₂ ∙ rw e₁) }, omega (arith, count_of er))
+    (record { answer = rw z er; adds = rw z (adds_then e₁ e₂) }, omega (arith, count_of er))
 
-pub call_plain : (a n : ℕ) (b : Bidding) (p len k code : ℕ) {l l₁ : List ℕ} {r : Bidding} → len ≤ k
-    → l₁ ≡ put 4 l n (entry_words a (entry 6 p k code))
-    → r ≡ bidding true b.end false (b.count + 1) → Emits a n l l₁ r (call_out b p len k code) × (r.count ≤ b.count + 3)
-call_plain a n b p len k code {l} {l₁} {r} h e₁ er =
+pub call_plain : (b : Bidding) (p len k code : ℕ) {l l₁ : Entries} {r : Bidding} → len ≤ k
+    → Adds l l₁ (entry 6 p k code ∷ [])
+    → r ≡ bidding true b.end false (b.count + 1) → Emits l l₁ r (call_out b p len k code) × (r.count ≤ b.count + 3)
+call_plain b p len k code h e₁ er =
     let z : ltb 0 (len - k) ≡ false = le-ltb 0 (len - k) (omega arith) in
-    (record { answer = rw z er; words = rw z e₁ }, omega (arith, count_of er))
+    (record { answer = rw z er; adds = rw z e₁ }, omega (arith, count_of er))
 
-module _ (c : Conventions) (b : Bidding) (t : Piece) (a n : ℕ) where
-  pub step_stopped : {l : List ℕ} → b.stopped ≡ true → Emits a n l l b (called c b t) × (b.count ≤ b.count + 3)
+module _ (c : Conventions) (b : Bidding) (t : Piece) where
+  pub step_stopped : {l : Entries} → b.stopped ≡ true → Emits l l b (called c b t) × (b.count ≤ b.count + 3)
   unfolding called
-  step_stopped s = (rw s (record { answer = refl; words = refl }), omega arith)
+  step_stopped {l} s = (rw s (record { answer = refl; adds = adds_none l }), omega arith)
 
-  pub step_plus : {l l' : List ℕ} {r : Bidding} → b.stopped ≡ false → call_token_of c t.bytes ≡ Plus
-      → l' ≡ put 4 l n (entry_words a (entry 6 t.at (length t.bytes) 38)) → r ≡ bidding true 1 false (b.count + 1)
-      → Emits a n l l' r (called c b t) × (r.count ≤ b.count + 3)
-  step_plus s e ew er = (rw (called_by_lem c b t s e) (record { answer = er; words = ew }), omega (arith, count_of er))
+  pub step_plus : {l l' : Entries} {r : Bidding} → b.stopped ≡ false → call_token_of c t.bytes ≡ Plus
+      → Adds l l' (entry 6 t.at (length t.bytes) 38 ∷ []) → r ≡ bidding true 1 false (b.count + 1)
+      → Emits l l' r (called c b t) × (r.count ≤ b.count + 3)
+  step_plus s e ew er = (rw (called_by_lem c b t s e) (record { answer = er; adds = ew }), omega (arith, count_of er))
 
-  pub step_star : {l : List ℕ} {r : Bidding} → b.stopped ≡ false → call_token_of c t.bytes ≡ Star
-      → r ≡ bidding b.made 2 true b.count → Emits a n l l r (called c b t) × (r.count ≤ b.count + 3)
-  step_star s e er = (rw (called_by_lem c b t s e) (record { answer = er; words = refl }), omega (arith, count_of er))
+  pub step_star : {l : Entries} {r : Bidding} → b.stopped ≡ false → call_token_of c t.bytes ≡ Star
+      → r ≡ bidding b.made 2 true b.count → Emits l l r (called c b t) × (r.count ≤ b.count + 3)
+  step_star {l} s e er = (rw (called_by_lem c b t s e) (record { answer = er; adds = adds_none l }), omega (arith, count_of er))
 
-  pub step_annotation : {l l' : List ℕ} {r : Bidding} → b.stopped ≡ false → call_token_of c t.bytes ≡ Annotation → b.made ≡ true
-      → l' ≡ put 4 l n (entry_words a (entry 7 t.at (length t.bytes) 0)) → r ≡ bidding true b.end false (b.count + 1)
-      → Emits a n l l' r (called c b t) × (r.count ≤ b.count + 3)
-  step_annotation s e m ew er = (rw (called_by_lem c b t s e, m) (record { answer = er; words = ew }), omega (arith, count_of er))
+  pub step_annotation : {l l' : Entries} {r : Bidding} → b.stopped ≡ false → call_token_of c t.bytes ≡ Annotation → b.made ≡ true
+      → Adds l l' (entry 7 t.at (length t.bytes) 0 ∷ []) → r ≡ bidding true b.end false (b.count + 1)
+      → Emits l l' r (called c b t) × (r.count ≤ b.count + 3)
+  step_annotation s e m ew er = (rw (called_by_lem c b t s e, m) (record { answer = er; adds = ew }), omega (arith, count_of er))
 
-  pub step_lost : {l : List ℕ} {r : Bidding} → b.stopped ≡ false → call_token_of c t.bytes ≡ Annotation → b.made ≡ false
-      → r ≡ bidding false b.end false b.count → Emits a n l l r (called c b t) × (r.count ≤ b.count + 3)
-  step_lost s e m er = (rw (called_by_lem c b t s e, m) (record { answer = er; words = refl }), omega (arith, count_of er))
+  pub step_lost : {l : Entries} {r : Bidding} → b.stopped ≡ false → call_token_of c t.bytes ≡ Annotation → b.made ≡ false
+      → r ≡ bidding false b.end false b.count → Emits l l r (called c b t) × (r.count ≤ b.count + 3)
+  step_lost {l} s e m er = (rw (called_by_lem c b t s e, m) (record { answer = er; adds = adds_none l }), omega (arith, count_of er))
 
-  pub step_none : {l : List ℕ} {r : Bidding} → b.stopped ≡ false → call_token_of c t.bytes ≡ NoCall
-      → r ≡ bidding b.made b.end false b.count → Emits a n l l r (called c b t) × (r.count ≤ b.count + 3)
-  step_none s e er = (rw (called_by_lem c b t s e) (record { answer = er; words = refl }), omega (arith, count_of er))
+  pub step_none : {l : Entries} {r : Bidding} → b.stopped ≡ false → call_token_of c t.bytes ≡ NoCall
+      → r ≡ bidding b.made b.end false b.count → Emits l l r (called c b t) × (r.count ≤ b.count + 3)
+  step_none {l} s e er = (rw (called_by_lem c b t s e) (record { answer = er; adds = adds_none l }), omega (arith, count_of er))
 
   -- AP and a call, whose stores their own functions make.
-  pub step_as : {l l' : List ℕ} {r : Bidding} {k : CallToken} → b.stopped ≡ false → call_token_of c t.bytes ≡ k
-      → Emits a n l l' r (called_by k b t) × (r.count ≤ b.count + 3) → Emits a n l l' r (called c b t) × (r.count ≤ b.count + 3)
+  pub step_as : {l l' : Entries} {r : Bidding} {k : CallToken} → b.stopped ≡ false → call_token_of c t.bytes ≡ k
+      → Emits l l' r (called_by k b t) × (r.count ≤ b.count + 3) → Emits l l' r (called c b t) × (r.count ≤ b.count + 3)
   step_as s e h = rw (called_by_lem c b t s e) h
-
--- The place of the next entry after a token.
-pub next_call_count : (c : Conventions) (w : Bidding) (t : Piece) (base : ℕ) {r : Bidding} → r ≡ (called c w t).state → base + r.count ≡ base + w.count + length (called c w t).entries
-next_call_count c w t base e = omega (arith, count_of e, (called_counted c w t).count)
 
 -- ---- entries of a piece
 

@@ -11,7 +11,7 @@ use lib.ListN.{length, length-append}
 use borrow.Author.Tests.{eqb-true}
 use Rattle.tables.specs.declared.letters.Conventions.{Conventions}
 use Rattle.tables.specs.Text.{lead}
-use Rattle.tables.specs.Tables.{TableReading, holds, refuses, gathered}
+use Rattle.tables.specs.Tables.{TableReading, gathered}
 use Rattle.tables.proofs.Laws.{either}
 use Rattle.reader.specs.declared.store.Entry.{Entry}
 use Rattle.reader.specs.declared.tag.Span.{Span}
@@ -40,6 +40,7 @@ use Rattle.reader.proofs.PlayLaws.{TricksOnly, LastTrickOnly, tricks_counted, la
 use Rattle.reader.proofs.ApplyLaws.{AllPlaces, applied_places}
 use Rattle.reader.proofs.Counts.{any, chosen}
 use Rattle.reader.proofs.StandLaws.{stands_left, stands_right, stands_fit}
+use Rattle.std.specs.Prelude.{Ok, Err}
 
 -- The kinds of entries: 2 a value, 6 a call, 7 an annotation, 8 a trick.
 abbrev pub IsValueKind : ℕ → Type 0
@@ -132,14 +133,14 @@ closed_kept b o n w es new h calls tricks = go (eqb o.kind 1) refl (eqb o.kind 2
     play = record { first = n + 1; count = (last_trick w.tricks).state.count; seat = o.seat; end = w.tricks.end }
 
     rows : (x : TableReading) → Kept (es ++ new) (n + length new) (rows_closed b x)
-    rows (holds cells) = record { counted = grown.counted; placed = record { values = grown.placed.values; auction = grown.placed.auction; play = grown.placed.play } }
-    rows (refuses f) = grown
+    rows (Ok cells) = record { counted = grown.counted; placed = record { values = grown.placed.values; auction = grown.placed.auction; play = grown.placed.play } }
+    rows (Err f) = grown
 
     go : (x : Bool) → eqb o.kind 1 ≡ x → (y : Bool) → eqb o.kind 2 ≡ y → (called played fault : Bool)
         → Kept (es ++ new) (n + length new)
         (cond x (cond called (with_sections b b.table auction b.play b.trump) b)
         (cond y (cond played (with_sections b b.table b.auction play b.contract) b)
-        (cond fault b (rows_closed b (gathered w.rows.cells.tricks)))))
+        (cond fault b (rows_closed b (gathered w.rows.cells)))))
     go true ex y ey true played fault =
         let f = calls ex in
         record {
@@ -155,7 +156,7 @@ closed_kept b o n w es new h calls tricks = go (eqb o.kind 1) refl (eqb o.kind 2
         }
     go false ex true ey called false fault = grown
     go false ex false ey called played true = grown
-    go false ex false ey called played false = rows (gathered w.rows.cells.tricks)
+    go false ex false ey called played false = rows (gathered w.rows.cells)
 
 call_kind : (lo hi : ℕ) (e : Entry) → Inside lo hi e → IsCallKind e.kind
 call_kind lo hi e i = either (eqb e.kind 6) (eqb e.kind 7) i.placed (λ t. inl (eqb-true e.kind 6 t)) (λ t. inr (eqb-true e.kind 7 t))

@@ -11,10 +11,9 @@ use mathlib.Core.List.{List, [], ◌∷◌, ◌++◌}
 use native.Mathlib.Omega.{arith}
 use lib.Count as Count
 use Rattle.tables.proofs.Laws.{by_cases, both, clash}
-use Rattle.reader.specs.declared.deal.HandRead.{HandRead}
-use Rattle.reader.specs.declared.deal.HandRead.TheVariants.{Held, NoHand}
+use Rattle.std.specs.Prelude.{Some, None}
 use Rattle.reader.specs.Deals.{bit, has, hand_bits, ones, card_count}
-use Rattle.reader.specs.DealSteps.{place}
+use Rattle.reader.specs.DealSteps.{HandRead, place}
 
 -- ---- bits
 
@@ -230,7 +229,7 @@ swap true q r = refl
 swap false true r = refl
 swap false false r = refl
 
-place_is : (x : ℕ) (ks : List ℕ) → place x ks ≡ cond (free x ks && distinct ks) (Held (x + hand_bits ks)) NoHand
+place_is : (x : ℕ) (ks : List ℕ) → place x ks ≡ cond (free x ks && distinct ks) (Some (x + hand_bits ks)) None
 place_is x [] = rw add-zero
 place_is x (k ∷ ks) =
     let a : x + 2 ^ k + hand_bits ks ≡ x + (2 ^ k + hand_bits ks) = omega arith in
@@ -242,22 +241,22 @@ free_zero [] = refl
 free_zero (k ∷ ks) = rw (bit_zero k) (free_zero ks)
 
 -- Cards are placed where they are distinct, and their number is the sum of their bits.
-pub place_all : (ks : List ℕ) → place 0 ks ≡ cond (distinct ks) (Held (hand_bits ks)) NoHand
+pub place_all : (ks : List ℕ) → place 0 ks ≡ cond (distinct ks) (Some (hand_bits ks)) None
 place_all ks = place_is 0 ks ∙ rw (free_zero ks, zero_left (hand_bits ks))
   where
     zero_left : (n : ℕ) → 0 + n ≡ n
     zero_left n = omega arith
 
-pub place_sum : (x : ℕ) (ks : List ℕ) {y : ℕ} → place x ks ≡ Held y → y ≡ x + hand_bits ks
+pub place_sum : (x : ℕ) (ks : List ℕ) {y : ℕ} → place x ks ≡ Some y → y ≡ x + hand_bits ks
 place_sum x ks {y} e =
     by_cases (free x ks && distinct ks)
-    (λ t. let h : Held (x + hand_bits ks) ≡ Held y = rw (place_is x ks, t) at e in cc)
-    (λ t. let h : NoHand ≡ Held y = rw (place_is x ks, t) at e in let z : ◌≡◌ {A = ℕ} 0 1 = cc in absurd (omega arith))
+    (λ t. let h : Some (x + hand_bits ks) ≡ Some y = rw (place_is x ks, t) at e in cc)
+    (λ t. let h : None ≡ Some y = rw (place_is x ks, t) at e in let z : ◌≡◌ {A = ℕ} 0 1 = cc in absurd (omega arith))
 
 -- More cards are placed into what the first have made.
 abbrev pub place_more : HandRead → List ℕ → HandRead
-place_more NoHand b = NoHand
-place_more (Held y) b = place y b
+place_more None b = None
+place_more (Some y) b = place y b
 
 pub place_append : (x : ℕ) (a b : List ℕ) → place x (a ++ b) ≡ place_more (place x a) b
 place_append x [] b = refl

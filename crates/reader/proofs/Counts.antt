@@ -14,10 +14,7 @@ use Rattle.tables.specs.Letters.{seat_of}
 use Rattle.tables.proofs.Laws.{by_cases, clash, stop}
 use Rattle.reader.specs.declared.tag.Span.{Span}
 use Rattle.reader.specs.declared.tag.Tag.{Tag as TagPlaces}
-use Rattle.reader.specs.declared.tag.TagLine.{TagLine}
-use Rattle.reader.specs.declared.tag.TagLine.TheVariants.{NoTag, Plain as PlainTag, WithComment as CommentTag}
-use Rattle.reader.specs.declared.tag.Close.{Close}
-use Rattle.reader.specs.declared.tag.Close.TheVariants.{At, Nothing}
+use Rattle.std.specs.Prelude.{Option, Some, None, option_and_then}
 use Rattle.reader.specs.declared.line.Line.{Line}
 use Rattle.reader.specs.declared.line.Line.TheVariants.{Blank, Brace, Directive, Tag as TagOn, Bracket, Data}
 use Rattle.reader.specs.declared.line.TagReading.{TagReading}
@@ -27,7 +24,7 @@ use Rattle.reader.specs.declared.section.Walk.{Walk}
 use Rattle.reader.specs.declared.board.State.{State}
 use Rattle.reader.specs.declared.store.Entry.{Entry}
 use Rattle.reader.specs.Store.{flat}
-use Rattle.reader.specs.Tag.{cut, trim_part, with_pair, with_data, data_after, split_at, split_of, data_bracket, pair_of, tag_line}
+use Rattle.reader.specs.Tag.{TagLine, cut, trim_part, with_data, data_after, split_of, data_bracket, tag_line}
 use Rattle.reader.specs.Names.{tag_number}
 use Rattle.reader.specs.Lines.{is_blank, has_brace, last_brace, split_as, split_line, bracket_as, bracket_line, kind_by, line_kind, opens_board}
 use Rattle.reader.specs.LineSteps.{LinePlaced, ReadingPlaced}
@@ -36,6 +33,7 @@ use Rattle.reader.specs.Sections.{commentary_after, closes_section, stops_at, da
 use Rattle.reader.specs.Boards.{last_entries, closed, no_span, at, seat_open, open_by, tagged, data_added, tag_line_out, blocked, braced, in_commentary, line_by, line_out, lines_out, no_state, record_out, is_all_white}
 use Rattle.reader.specs.Records.{records_of}
 use Rattle.reader.specs.Editions.{cards_from, entries_from, cards_of, entries_of}
+use Rattle.reader.proofs.Tags.{with_tag}
 use Rattle.reader.proofs.EntryLaws.{All, none, one, bytes_in, out_few}
 use Rattle.reader.proofs.AuctionLaws.{CallsFew}
 use Rattle.reader.proofs.PlayLaws.{TricksFew, last_counted}
@@ -158,21 +156,21 @@ late_data : (g : TagPlaces) (e : ℕ) (line : List ℕ) → LineLate (split_as (
 unfolding trim_part
 late_data g e line = by_cases (eqb (trim_part (e + 1) (length line) line).len 0) (λ t. rw t tt) (λ t. rw t (omega arith, t))
 
-late_pair : (t : TagLine) (e : ℕ) (line : List ℕ) → LineLate (split_as (with_pair (pair_of t) (e + 1) line))
-late_pair NoTag e line = tt
-late_pair (PlainTag t) e line = late_data t e line
-late_pair (CommentTag t c) e line = late_data t e line
+late_pair : (t : TagLine) (e : ℕ) (line : List ℕ) → LineLate (split_as (with_tag t (e + 1) line))
+late_pair None e line = tt
+late_pair (Some (t, None)) e line = late_data t e line
+late_pair (Some (t, Some c)) e line = late_data t e line
 
-late_split : (c : Close) (line : List ℕ) → LineLate (split_as (split_at c line))
+late_split : (c : Option ℕ) (line : List ℕ) → LineLate (split_as (option_and_then (λ k. data_after (k + 1) line) c))
 unfolding data_after
-late_split Nothing line = tt
-late_split (At k) line = late_pair (tag_line (take (k + 1) line)) k line
+late_split None line = tt
+late_split (Some k) line = late_pair (tag_line (take (k + 1) line)) k line
 
 late_bracket : (t : TagLine) (line : List ℕ) → LineLate (bracket_as t line)
 unfolding split_line split_of
-late_bracket NoTag line = late_split (data_bracket line) line
-late_bracket (PlainTag t) line = tt
-late_bracket (CommentTag t c) line = tt
+late_bracket None line = late_split (data_bracket line) line
+late_bracket (Some (t, None)) line = tt
+late_bracket (Some (t, Some c)) line = tt
 
 late_by : (b : ℕ) (line : List ℕ) → LineLate (kind_by b line)
 unfolding bracket_line

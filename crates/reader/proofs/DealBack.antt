@@ -3,7 +3,6 @@ use Prim.Native.Nat.{ℕ, zero, suc, ◌+◌, ◌-◌, ◌*◌, ◌^◌, ◌≤�
 use mathlib.Core.Path.{◌≡◌, refl, ap, ◌∙◌}
 use mathlib.Core.Bool.{Bool, true, false, cond, not, ◌&&◌, ◌||◌}
 use mathlib.Core.List.{List, [], ◌∷◌, ◌++◌, append_assoc, append-nil}
-use mathlib.Core.Option.{Option, some}
 use native.Mathlib.Omega.{arith}
 use lib.Dec.{eqb, ltb, leb}
 use lib.ListN.{length, get_or, length-append}
@@ -17,7 +16,7 @@ use Rattle.tables.proofs.RowLaws.{every_append, field_then, field_last}
 use Rattle.tables.proofs.Digits.{at_each}
 use Rattle.tables.proofs.RowLaws.{plain_word}
 use Rattle.reader.specs.declared.deal.Hands.{Hands}
-use Rattle.reader.specs.declared.deal.DealRead.TheVariants.{Dealt}
+use Rattle.std.specs.Prelude.{Option, Some}
 use Rattle.reader.specs.Deals.{has, card_count, card_before, cards_from_suit, is_dash, cards_named, starts_white, hands_after, card_text, onward, turned, deal_in, deal_of, Proper, ranks_text, suit_text, hand_text, back, clockwise, hands_text, deal_text}
 use Rattle.reader.proofs.DealLaws.{DealProper}
 use Rattle.reader.proofs.CardSets.{down, down_none, down_more, down_zero, total_deck, times_deck, times_append, times_distinct, count_down}
@@ -175,7 +174,7 @@ abbrev with_cards : List ℕ → Option (List ℕ) → Option (List ℕ)
 with_cards [] o = o
 with_cards (k ∷ ks) o = card_before k (with_cards ks o)
 
-with_some : (ks ds : List ℕ) → with_cards ks (some ds) ≡ some (ks ++ ds)
+with_some : (ks ds : List ℕ) → with_cards ks (Some ds) ≡ Some (ks ++ ds)
 with_some [] ds = refl
 with_some (k ∷ ks) ds = rw (with_some ks ds)
 
@@ -206,7 +205,7 @@ module _ (c : Conventions) (ok : Accepted c) where
   abbrev full : ℕ → List ℕ
   full x = suit_text c 3 x ++ (46 ∷ (suit_text c 2 x ++ (46 ∷ (suit_text c 1 x ++ (46 ∷ (suit_text c 0 x ++ []))))))
 
-  full_cards : (x : ℕ) → cards_from_suit c (full x) 3 ≡ some (down 52 x)
+  full_cards : (x : ℕ) → cards_from_suit c (full x) 3 ≡ Some (down 52 x)
   full_cards x =
       let d3 : down 52 x ≡ suit_down 3 13 x ++ down 39 x = down_suit 3 13 x in
       let d2 : down 39 x ≡ suit_down 2 13 x ++ down 26 x = down_suit 2 13 x in
@@ -221,7 +220,7 @@ module _ (c : Conventions) (ok : Accepted c) where
   full_long x = simp length-append (omega arith)
 
   -- A written hand names its cards.
-  hand_named : (x : ℕ) → x < 2 ^ 52 → card_count x ≤ 13 → cards_named c (hand_text c x) ≡ some (down 52 x)
+  hand_named : (x : ℕ) → x < 2 ^ 52 → card_count x ≤ 13 → cards_named c (hand_text c x) ≡ Some (down 52 x)
   unfolding cards_named hand_text
   hand_named x h few =
       by_cases (eqb x 0)
@@ -245,7 +244,7 @@ module _ (c : Conventions) (ok : Accepted c) where
       rw (times_append i (down 52 h.north) _, times_append i (down 52 h.east) _, times_append i (down 52 h.south) _, times_deck h.north i d.north_low, times_deck h.east i d.east_low, times_deck h.south i d.south_low, times_deck h.west i d.west_low)
       (omega (arith, p.apart i)))
 
-  hands_back : (h : Hands) → Proper h → hands_after c (hands_text c h) ≡ Dealt h
+  hands_back : (h : Hands) → Proper h → hands_after c (hands_text c h) ≡ Some h
   unfolding hands_after
   hands_back h p =
       let d = p.deck in
@@ -282,17 +281,17 @@ pub turned_clockwise : (seat : ℕ) (h : Hands) → turned seat (clockwise seat 
 turned_clockwise zero h = refl
 turned_clockwise (suc seat) h = ap onward (turned_clockwise seat (back h))
 
-deal_in_back : (c : Conventions) → Accepted c → (seat : ℕ) → seat < 4 → (h : Hands) → Proper h → deal_in c (deal_text c seat h) ≡ Dealt h
+deal_in_back : (c : Conventions) → Accepted c → (seat : ℕ) → seat < 4 → (h : Hands) → Proper h → deal_in c (deal_text c seat h) ≡ Some h
 unfolding deal_text
 deal_in_back c ok seat l h p = rw (seat_back c ok seat l, le-ltb 3 seat (omega arith), hands_back c ok (clockwise seat h) (clockwise_proper seat h p), turned_clockwise seat h)
 
 -- A deal that was written from any seat, by any accepted letters, is read back.
-pub DealBack : (c : Conventions) → Accepted c → (seat : ℕ) → seat < 4 → (h : Hands) → Proper h → deal_of c (deal_text c seat h) ≡ Dealt h
+pub DealBack : (c : Conventions) → Accepted c → (seat : ℕ) → seat < 4 → (h : Hands) → Proper h → deal_of c (deal_text c seat h) ≡ Some h
 unfolding deal_of
 DealBack c ok seat l h p = rw (deal_trimmed c ok seat l h) (deal_in_back c ok seat l h p)
 
 -- A deal that was read can be written from any seat, and is read as the same deal.
-pub ReadAgain : (c d : Conventions) → Accepted c → (seat : ℕ) → seat < 4 → (value : List ℕ) {h : Hands} → deal_of d value ≡ Dealt h → deal_of c (deal_text c seat h) ≡ Dealt h
+pub ReadAgain : (c d : Conventions) → Accepted c → (seat : ℕ) → seat < 4 → (value : List ℕ) {h : Hands} → deal_of d value ≡ Some h → deal_of c (deal_text c seat h) ≡ Some h
 ReadAgain c d ok seat l value {h} e = DealBack c ok seat l h (DealProper d value e)
 
 -- ---- for writers: one rank at a time, and lengths

@@ -6,28 +6,24 @@ use Rattle.tables.specs.Letters.{every, honour_of, honour_letters, index_in, cap
 use Rattle.tables.specs.Text.{trimmed, is_white, trim_start, word, past_word, fields}
 use Rattle.tables.proofs.Laws.{both, by_cases, step, stop}
 use Rattle.reader.proofs.CardSets.{in_pack, distinct_front, distinct_back, distinct_times, times_append, bit_total, total_below, count_total, place_all, place_sum, place_append}
-use Rattle.reader.specs.Deals.{onward, card_count, whole_hands, Proper, deal_of, hand_words, hands_of_words, from_words, has, hand_bits, card_before, cards_from_suit, at_most, is_dash, cards_named, hand_before, all_named, dealt, four_hands, starts_white, hands_after, turned, turned_deal, deal_in, InDeck}
-use Rattle.reader.specs.DealSteps.{place, cards_placed, hand_into, add_card, step_of, end_of, run_from, deal_words, IsGrown}
+use Rattle.reader.specs.Deals.{DealRead, onward, card_count, whole_hands, Proper, deal_of, hand_words, hands_of_words, from_words, has, hand_bits, card_before, cards_from_suit, at_most, is_dash, cards_named, hand_before, all_named, dealt, four_hands, starts_white, hands_after, turned, turned_deal, deal_in, InDeck}
+use Rattle.reader.specs.DealSteps.{HandRead, place, cards_placed, hand_into, add_card, step_of, end_of, run_from, deal_words, IsGrown}
 use mathlib.Core.Path.{◌≡◌, refl, sym, ap, ◌∙◌}
 use mathlib.Core.List.{List, [], ◌∷◌, ◌++◌}
-use mathlib.Core.Option.{Option, none, some}
 use native.Mathlib.Omega.{arith}
 use lib.Dec.{eqb, ltb, leb}
 use lib.ListN.{length, drop, get_or}
 use Rattle.tables.specs.declared.letters.Conventions.{Conventions}
 use Rattle.tables.proofs.TextLaws.{length_zero, fields_none, fields_some}
 use Rattle.reader.specs.declared.deal.Hands.{Hands}
-use Rattle.reader.specs.declared.deal.DealRead.{DealRead}
-use Rattle.reader.specs.declared.deal.DealRead.TheVariants.{Dealt, NoDeal}
-use Rattle.reader.specs.declared.deal.HandRead.{HandRead}
-use Rattle.reader.specs.declared.deal.HandRead.TheVariants.{Held, NoHand}
+use Rattle.std.specs.Prelude.{Option, Some, None}
 use Rattle.reader.specs.declared.deal.PartHand.{PartHand}
 
 -- ---- a hand
 
-placed_card : (x k n : ℕ) (o : Option (List ℕ)) → cards_placed x (at_most n (card_before k o)) ≡ cond (eqb n 0) NoHand (cond (has k x) NoHand (cards_placed (x + 2 ^ k) (at_most (n - 1) o)))
-placed_card x k n none = by_cases (eqb n 0) (λ e. rw e) (λ e. rw e (by_cases (has k x) (λ t. rw t) (λ t. rw t)))
-placed_card x k n (some ks) =
+placed_card : (x k n : ℕ) (o : Option (List ℕ)) → cards_placed x (at_most n (card_before k o)) ≡ cond (eqb n 0) None (cond (has k x) None (cards_placed (x + 2 ^ k) (at_most (n - 1) o)))
+placed_card x k n None = by_cases (eqb n 0) (λ e. rw e) (λ e. rw e (by_cases (has k x) (λ t. rw t) (λ t. rw t)))
+placed_card x k n (Some ks) =
     by_cases (eqb n 0)
     (λ e. rw (e, lt-leb (suc (length ks)) n (omega (arith, eqb-true n 0 e))))
     (λ e.
@@ -55,7 +51,7 @@ pub suits_into : (c : Conventions) (x : ℕ) (t : List ℕ) → is_dash t ≡ fa
 unfolding hand_into cards_named
 suits_into c x t e = rw e (run_is c t x 3 13)
 
-pub dash_into : (c : Conventions) (x : ℕ) (t : List ℕ) → is_dash t ≡ true → Held x ≡ hand_into c x t
+pub dash_into : (c : Conventions) (x : ℕ) (t : List ℕ) → is_dash t ≡ true → Some x ≡ hand_into c x t
 unfolding hand_into cards_named
 dash_into c x t e = rw e
 
@@ -88,58 +84,58 @@ dash_none (b ∷ bs) e = by_cases (is_white b) (λ t. rw t) (λ t. rw t (sym (da
 
 -- ---- four hands
 
-read_cases : {P : Type 0} (r : HandRead) → (r ≡ NoHand → P) → ((y : ℕ) → r ≡ Held y → P) → P
-read_cases NoHand f g = f refl
-read_cases (Held y) f g = g y refl
+read_cases : {P : Type 0} (r : HandRead) → (r ≡ None → P) → ((y : ℕ) → r ≡ Some y → P) → P
+read_cases None f g = f refl
+read_cases (Some y) f g = g y refl
 
-pub never_held : {P : Type 0} {y : ℕ} → NoHand ≡ Held y → P
+pub never_held : {P : Type 0} {y : ℕ} → None ≡ Some y → P
 never_held e = let z : ◌≡◌ {A = ℕ} 0 1 = cc in absurd (omega arith)
 
-undealt : (a b d e : List ℕ) → place 0 (a ++ (b ++ (d ++ e))) ≡ NoHand → NoDeal ≡ dealt a b d e
+undealt : (a b d e : List ℕ) → place 0 (a ++ (b ++ (d ++ e))) ≡ None → None ≡ dealt a b d e
 undealt a b d e h = by_cases (distinct (a ++ (b ++ (d ++ e)))) (λ t. never_held (sym (rw (place_all (a ++ (b ++ (d ++ e))), t) at h))) (λ t. rw t)
 
-pub all_dealt : (ks : List ℕ) {y : ℕ} → place 0 ks ≡ Held y → distinct ks ≡ true
+pub all_dealt : (ks : List ℕ) {y : ℕ} → place 0 ks ≡ Some y → distinct ks ≡ true
 all_dealt ks h = by_cases (distinct ks) (λ t. t) (λ t. never_held (rw (place_all ks, t) at h))
 
 abbrev four : Option (List ℕ) → Option (List ℕ) → Option (List ℕ) → Option (List ℕ) → DealRead
-four A B C D = four_hands (hand_before A (hand_before B (hand_before C (hand_before D (some [])))))
+four A B C D = four_hands (hand_before A (hand_before B (hand_before C (hand_before D (Some [])))))
 
 -- Each of the four can be read, or there is no deal.
-pieces : (A B C D : Option (List ℕ)) → ((a b d e : List ℕ) → A ≡ some a → B ≡ some b → C ≡ some d → D ≡ some e → NoDeal ≡ dealt a b d e) → NoDeal ≡ four A B C D
-pieces none B C D h = refl
-pieces (some a) none C D h = refl
-pieces (some a) (some b) none D h = refl
-pieces (some a) (some b) (some d) none h = refl
-pieces (some a) (some b) (some d) (some e) h = h a b d e refl refl refl refl
+pieces : (A B C D : Option (List ℕ)) → ((a b d e : List ℕ) → A ≡ Some a → B ≡ Some b → C ≡ Some d → D ≡ Some e → None ≡ dealt a b d e) → None ≡ four A B C D
+pieces None B C D h = refl
+pieces (Some a) None C D h = refl
+pieces (Some a) (Some b) None D h = refl
+pieces (Some a) (Some b) (Some d) None h = refl
+pieces (Some a) (Some b) (Some d) (Some e) h = h a b d e refl refl refl refl
 
 module _ (A B C D : Option (List ℕ)) where
-  bad_first : cards_placed 0 A ≡ NoHand → NoDeal ≡ four A B C D
+  bad_first : cards_placed 0 A ≡ None → None ≡ four A B C D
   bad_first h = pieces A B C D (λ a b d e ea eb ed ee. undealt a b d e (place_append 0 a (b ++ (d ++ e)) ∙ rw (rw ea at h)))
 
-  bad_second : {x : ℕ} → cards_placed 0 A ≡ Held x → cards_placed x B ≡ NoHand → NoDeal ≡ four A B C D
+  bad_second : {x : ℕ} → cards_placed 0 A ≡ Some x → cards_placed x B ≡ None → None ≡ four A B C D
   bad_second {x} g h =
       pieces A B C D
       (λ a b d e ea eb ed ee.
       undealt a b d e (place_append 0 a (b ++ (d ++ e)) ∙ rw (rw ea at g) (place_append x b (d ++ e) ∙ rw (rw eb at h))))
 
-  bad_third : {x y : ℕ} → cards_placed 0 A ≡ Held x → cards_placed x B ≡ Held y → cards_placed y C ≡ NoHand → NoDeal ≡ four A B C D
+  bad_third : {x y : ℕ} → cards_placed 0 A ≡ Some x → cards_placed x B ≡ Some y → cards_placed y C ≡ None → None ≡ four A B C D
   bad_third {x} {y} f g h =
       pieces A B C D
       (λ a b d e ea eb ed ee.
       undealt a b d e
       (place_append 0 a (b ++ (d ++ e)) ∙ rw (rw ea at f) (place_append x b (d ++ e) ∙ rw (rw eb at g) (place_append y d e ∙ rw (rw ed at h)))))
 
-  bad_fourth : {x y z : ℕ} → cards_placed 0 A ≡ Held x → cards_placed x B ≡ Held y → cards_placed y C ≡ Held z → cards_placed z D ≡ NoHand → NoDeal ≡ four A B C D
+  bad_fourth : {x y z : ℕ} → cards_placed 0 A ≡ Some x → cards_placed x B ≡ Some y → cards_placed y C ≡ Some z → cards_placed z D ≡ None → None ≡ four A B C D
   bad_fourth {x} {y} {z} f g h k =
       pieces A B C D
       (λ a b d e ea eb ed ee.
       undealt a b d e
       (place_append 0 a (b ++ (d ++ e)) ∙ rw (rw ea at f) (place_append x b (d ++ e) ∙ rw (rw eb at g) (place_append y d e ∙ rw (rw ed at h) (rw ee at k)))))
 
-all_four : (a b d e : List ℕ) (x y z q : ℕ) → place 0 a ≡ Held x → place x b ≡ Held y → place y d ≡ Held z → place z e ≡ Held q
-    → Dealt (record { north = x; east = y - x; south = z - y; west = q - z }) ≡ dealt a b d e
+all_four : (a b d e : List ℕ) (x y z q : ℕ) → place 0 a ≡ Some x → place x b ≡ Some y → place y d ≡ Some z → place z e ≡ Some q
+    → Some (record { north = x; east = y - x; south = z - y; west = q - z }) ≡ dealt a b d e
 all_four a b d e x y z q f g h k =
-    let w : place 0 (a ++ (b ++ (d ++ e))) ≡ Held q = place_append 0 a (b ++ (d ++ e)) ∙ rw f (place_append x b (d ++ e) ∙ rw g (place_append y d e ∙ rw h k)) in
+    let w : place 0 (a ++ (b ++ (d ++ e))) ≡ Some q = place_append 0 a (b ++ (d ++ e)) ∙ rw f (place_append x b (d ++ e) ∙ rw g (place_append y d e ∙ rw h k)) in
     let sa = place_sum 0 a f in
     let sb = place_sum x b g in
     let sd = place_sum y d h in
@@ -150,13 +146,13 @@ all_four a b d e x y z q f g h k =
     let ea : x ≡ hand_bits a = omega arith in
     rw (all_dealt (a ++ (b ++ (d ++ e))) w, eb, ed, ee, ea)
 
-good_four : (A B C D : Option (List ℕ)) (x y z q : ℕ) → cards_placed 0 A ≡ Held x → cards_placed x B ≡ Held y → cards_placed y C ≡ Held z → cards_placed z D ≡ Held q
-    → Dealt (record { north = x; east = y - x; south = z - y; west = q - z }) ≡ four A B C D
-good_four none B C D x y z q f g h k = never_held f
-good_four (some a) none C D x y z q f g h k = never_held g
-good_four (some a) (some b) none D x y z q f g h k = never_held h
-good_four (some a) (some b) (some d) none x y z q f g h k = never_held k
-good_four (some a) (some b) (some d) (some e) x y z q f g h k = all_four a b d e x y z q f g h k
+good_four : (A B C D : Option (List ℕ)) (x y z q : ℕ) → cards_placed 0 A ≡ Some x → cards_placed x B ≡ Some y → cards_placed y C ≡ Some z → cards_placed z D ≡ Some q
+    → Some (record { north = x; east = y - x; south = z - y; west = q - z }) ≡ four A B C D
+good_four None B C D x y z q f g h k = never_held f
+good_four (Some a) None C D x y z q f g h k = never_held g
+good_four (Some a) (Some b) None D x y z q f g h k = never_held h
+good_four (Some a) (Some b) (Some d) None x y z q f g h k = never_held k
+good_four (Some a) (Some b) (Some d) (Some e) x y z q f g h k = all_four a b d e x y z q f g h k
 
 pub words_dealt : (c : Conventions) (s t u v : List ℕ) → deal_words c s t u v ≡ four_hands (all_named c (s ∷ t ∷ u ∷ v ∷ []))
 unfolding deal_words hand_into
@@ -180,18 +176,18 @@ words_dealt c s t u v =
 
 -- ---- fields
 
-named_length : (c : Conventions) (ts : List (List ℕ)) {hs : List (List ℕ)} → all_named c ts ≡ some hs → length hs ≡ length ts
+named_length : (c : Conventions) (ts : List (List ℕ)) {hs : List (List ℕ)} → all_named c ts ≡ Some hs → length hs ≡ length ts
 named_length c [] {hs} e = let h : [] ≡ hs = cc in rw (sym h)
 named_length c (t ∷ ts) {hs} e = pick (cards_named c t) (all_named c ts) (λ gs q. named_length c ts q) e
   where
-    pick : (o : Option (List ℕ)) (p : Option (List (List ℕ))) → ((gs : List (List ℕ)) → p ≡ some gs → length gs ≡ length ts) → hand_before o p ≡ some hs → length hs ≡ suc (length ts)
-    pick none p i f = absurd (let z : ◌≡◌ {A = ℕ} 0 1 = cc in omega arith)
-    pick (some ks) none i f = absurd (let z : ◌≡◌ {A = ℕ} 0 1 = cc in omega arith)
-    pick (some ks) (some gs) i f =
+    pick : (o : Option (List ℕ)) (p : Option (List (List ℕ))) → ((gs : List (List ℕ)) → p ≡ Some gs → length gs ≡ length ts) → hand_before o p ≡ Some hs → length hs ≡ suc (length ts)
+    pick None p i f = absurd (let z : ◌≡◌ {A = ℕ} 0 1 = cc in omega arith)
+    pick (Some ks) None i f = absurd (let z : ◌≡◌ {A = ℕ} 0 1 = cc in omega arith)
+    pick (Some ks) (Some gs) i f =
         let h : ks ∷ gs ≡ hs = cc in
         rw (sym h) (ap suc (i gs refl))
 
-four_only : (hs : List (List ℕ)) → (length hs ≡ 4 → ⊥) → NoDeal ≡ four_hands (some hs)
+four_only : (hs : List (List ℕ)) → (length hs ≡ 4 → ⊥) → None ≡ four_hands (Some hs)
 four_only [] h = refl
 four_only (a ∷ []) h = refl
 four_only (a ∷ b ∷ []) h = refl
@@ -200,12 +196,12 @@ four_only (a ∷ b ∷ d ∷ e ∷ []) h = absurd (h refl)
 four_only (a ∷ b ∷ d ∷ e ∷ f ∷ fs) h = refl
 
 -- Fewer or more than four hands are no deal.
-not_four : (c : Conventions) (ts : List (List ℕ)) → (length ts ≡ 4 → ⊥) → NoDeal ≡ four_hands (all_named c ts)
+not_four : (c : Conventions) (ts : List (List ℕ)) → (length ts ≡ 4 → ⊥) → None ≡ four_hands (all_named c ts)
 not_four c ts h = pick (all_named c ts) refl
   where
-    pick : (o : Option (List (List ℕ))) → all_named c ts ≡ o → NoDeal ≡ four_hands o
-    pick none e = refl
-    pick (some hs) e = four_only hs (λ z. h (sym (named_length c ts e) ∙ z))
+    pick : (o : Option (List (List ℕ))) → all_named c ts ≡ o → None ≡ four_hands o
+    pick None e = refl
+    pick (Some hs) e = four_only hs (λ z. h (sym (named_length c ts e) ∙ z))
 
 one_field : (s : List ℕ) → length (fields s) ≤ suc (length (fields (past_word (trim_start s))))
 one_field s =
@@ -222,7 +218,7 @@ starts_kept : (s : List ℕ) → is_white (get_or s 0 0) ≡ false → trim_star
 starts_kept [] e = refl
 starts_kept (b ∷ bs) e = rw e
 
-pub blank_first : (c : Conventions) (s : List ℕ) → is_white (get_or s 0 0) ≡ true → NoDeal ≡ hands_after c s
+pub blank_first : (c : Conventions) (s : List ℕ) → is_white (get_or s 0 0) ≡ true → None ≡ hands_after c s
 unfolding hands_after
 blank_first c s e = rw (starts_is s, e)
 
@@ -234,7 +230,7 @@ not_empty : (x y : List ℕ) → y ≡ trim_start (past_word x) → (length y �
 not_empty x y e h z = h (ap length e ∙ ap (λ (l : List ℕ). length (trim_start (past_word l))) (length_zero x z))
 
 module _ (c : Conventions) (s t u v : List ℕ) (hs : is_white (get_or s 0 0) ≡ false) (et : t ≡ trim_start (past_word s)) (eu : u ≡ trim_start (past_word t)) (ev : v ≡ trim_start (past_word u)) where
-  pub few_hands : length v ≡ 0 → NoDeal ≡ hands_after c s
+  pub few_hands : length v ≡ 0 → None ≡ hands_after c s
   unfolding hands_after
   few_hands h =
       let a : length (fields s) ≤ suc (length (fields (past_word s))) = rw (starts_kept s hs) at (one_field s) in
@@ -252,7 +248,7 @@ module _ (c : Conventions) (s t u v : List ℕ) (hs : is_white (get_or s 0 0) �
       let f : fields s ≡ word s ∷ fields (past_word s) = rw k at (fields_some s (rw (sym k) at h0)) in
       f ∙ rw (next_field s t et ht, next_field t u eu hu, next_field u v ev h)
 
-  pub many_hands : (length v ≡ 0 → ⊥) → 0 < length (trim_start (past_word v)) → NoDeal ≡ hands_after c s
+  pub many_hands : (length v ≡ 0 → ⊥) → 0 < length (trim_start (past_word v)) → None ≡ hands_after c s
   unfolding hands_after
   many_hands h k =
       let m : fields s ≡ word s ∷ word t ∷ word u ∷ word v ∷ word (trim_start (past_word v)) ∷ fields (past_word (trim_start (past_word v)))
@@ -267,7 +263,7 @@ module _ (c : Conventions) (s t u v : List ℕ) (hs : is_white (get_or s 0 0) �
 
 -- ---- the seat
 
-pub deal_in_is : (c : Conventions) (v : List ℕ) → deal_in c v ≡ cond (eqb (get_or v 1 0) 58) (cond (ltb 3 (seat_of c (get_or v 0 0))) NoDeal (turned_deal (seat_of c (get_or v 0 0)) (hands_after c (drop 2 v)))) NoDeal
+pub deal_in_is : (c : Conventions) (v : List ℕ) → deal_in c v ≡ cond (eqb (get_or v 1 0) 58) (cond (ltb 3 (seat_of c (get_or v 0 0))) None (turned_deal (seat_of c (get_or v 0 0)) (hands_after c (drop 2 v)))) None
 deal_in_is c [] = refl
 deal_in_is c (a ∷ []) = refl
 deal_in_is c (a ∷ b ∷ rest) = refl
@@ -302,27 +298,27 @@ rank_most c b =
 
 -- A hand of at most 13 of the 52 cards.
 abbrev packed : Option (List ℕ) → Bool
-packed none = true
-packed (some ks) = every in_pack ks
+packed None = true
+packed (Some ks) = every in_pack ks
 
 abbrev fitting : List ℕ → Bool
 fitting ks = leb (length ks) 13 && every in_pack ks
 
 abbrev fits : Option (List ℕ) → Bool
-fits none = true
-fits (some ks) = fitting ks
+fits None = true
+fits (Some ks) = fitting ks
 
 abbrev all_fit : List (List ℕ) → Bool
 all_fit [] = true
 all_fit (h ∷ hs) = fitting h && all_fit hs
 
 abbrev fit_all : Option (List (List ℕ)) → Bool
-fit_all none = true
-fit_all (some hs) = all_fit hs
+fit_all None = true
+fit_all (Some hs) = all_fit hs
 
 packed_card : (k : ℕ) (o : Option (List ℕ)) → k < 52 → packed o ≡ true → packed (card_before k o) ≡ true
-packed_card k none h e = refl
-packed_card k (some ks) h e = rw (lt-ltb k 52 h) e
+packed_card k None h e = refl
+packed_card k (Some ks) h e = rw (lt-ltb k 52 h) e
 
 packed_cards : (c : Conventions) (t : List ℕ) (s : ℕ) → s ≤ 3 → packed (cards_from_suit c t s) ≡ true
 packed_cards c [] s h = by_cases (eqb s 0) (λ e. rw e) (λ e. rw e)
@@ -335,17 +331,17 @@ packed_cards c (b ∷ bs) s h =
     (λ f. rw (e, f) (packed_card (13 * s + rank_of c b) (cards_from_suit c bs s) (omega (arith, rank_most c b, eqb-false (rank_of c b) 13 f)) (packed_cards c bs s h))))
 
 most_fits : (o : Option (List ℕ)) → packed o ≡ true → fits (at_most 13 o) ≡ true
-most_fits none e = refl
-most_fits (some ks) e = by_cases (leb (length ks) 13) (λ t. rw t (rw t e)) (λ t. rw t)
+most_fits None e = refl
+most_fits (Some ks) e = by_cases (leb (length ks) 13) (λ t. rw t (rw t e)) (λ t. rw t)
 
 named_fits : (c : Conventions) (t : List ℕ) → fits (cards_named c t) ≡ true
 unfolding cards_named
 named_fits c t = by_cases (is_dash t) (λ e. rw e) (λ e. rw e (most_fits (cards_from_suit c t 3) (packed_cards c t 3 (omega arith))))
 
 hand_fits : (o : Option (List ℕ)) (p : Option (List (List ℕ))) → fits o ≡ true → fit_all p ≡ true → fit_all (hand_before o p) ≡ true
-hand_fits none p e f = refl
-hand_fits (some ks) none e f = refl
-hand_fits (some ks) (some hs) e f = rw e f
+hand_fits None p e f = refl
+hand_fits (Some ks) None e f = refl
+hand_fits (Some ks) (Some hs) e f = rw e f
 
 each_fits : (c : Conventions) (ts : List (List ℕ)) → fit_all (all_named c ts) ≡ true
 each_fits c [] = refl
@@ -359,7 +355,7 @@ count_few ks d f =
 low_total : (ks : List ℕ) → distinct ks ≡ true → fitting ks ≡ true → hand_bits ks < 2 ^ 52
 low_total ks d f = total_below ks d (both (leb (length ks) 13) (every in_pack ks) f).1
 
-never_dealt : {P : Type 0} {h : Hands} → NoDeal ≡ Dealt h → P
+never_dealt : {P : Type 0} {h : Hands} → None ≡ Some h → P
 never_dealt e = let z : ◌≡◌ {A = ℕ} 0 1 = cc in absurd (omega arith)
 
 totals_proper : (n e s w : List ℕ) → distinct (n ++ (e ++ (s ++ w))) ≡ true → fitting n ≡ true → fitting e ≡ true → fitting s ≡ true → fitting w ≡ true
@@ -380,7 +376,7 @@ totals_proper n e s w d fn fe fs fw =
       west_few = count_few w dw fw;
     }
 
-dealt_proper : (n e s w : List ℕ) {h : Hands} → all_fit (n ∷ e ∷ s ∷ w ∷ []) ≡ true → dealt n e s w ≡ Dealt h → Proper h
+dealt_proper : (n e s w : List ℕ) {h : Hands} → all_fit (n ∷ e ∷ s ∷ w ∷ []) ≡ true → dealt n e s w ≡ Some h → Proper h
 dealt_proper n e s w {h} f q =
     let fn = both (fitting n) (all_fit (e ∷ s ∷ w ∷ [])) f in
     let fe = both (fitting e) (all_fit (s ∷ w ∷ [])) fn.1 in
@@ -388,21 +384,21 @@ dealt_proper n e s w {h} f q =
     let fw = both (fitting w) true fs.1 in
     by_cases (distinct (n ++ (e ++ (s ++ w))))
     (λ t.
-    let g : Dealt (record { north = hand_bits n; east = hand_bits e; south = hand_bits s; west = hand_bits w }) ≡ Dealt h = rw t at q in
+    let g : Some (record { north = hand_bits n; east = hand_bits e; south = hand_bits s; west = hand_bits w }) ≡ Some h = rw t at q in
     let k : record { north = hand_bits n; east = hand_bits e; south = hand_bits s; west = hand_bits w } ≡ h = cc in
     rw (sym k) (totals_proper n e s w t fn.0 fe.0 fs.0 fw.0))
     (λ t. never_dealt (rw t at q))
 
-four_proper : (o : Option (List (List ℕ))) {h : Hands} → fit_all o ≡ true → four_hands o ≡ Dealt h → Proper h
-four_proper none f q = never_dealt q
-four_proper (some []) f q = never_dealt q
-four_proper (some (n ∷ [])) f q = never_dealt q
-four_proper (some (n ∷ e ∷ [])) f q = never_dealt q
-four_proper (some (n ∷ e ∷ s ∷ [])) f q = never_dealt q
-four_proper (some (n ∷ e ∷ s ∷ w ∷ [])) f q = dealt_proper n e s w f q
-four_proper (some (n ∷ e ∷ s ∷ w ∷ x ∷ xs)) f q = never_dealt q
+four_proper : (o : Option (List (List ℕ))) {h : Hands} → fit_all o ≡ true → four_hands o ≡ Some h → Proper h
+four_proper None f q = never_dealt q
+four_proper (Some []) f q = never_dealt q
+four_proper (Some (n ∷ [])) f q = never_dealt q
+four_proper (Some (n ∷ e ∷ [])) f q = never_dealt q
+four_proper (Some (n ∷ e ∷ s ∷ [])) f q = never_dealt q
+four_proper (Some (n ∷ e ∷ s ∷ w ∷ [])) f q = dealt_proper n e s w f q
+four_proper (Some (n ∷ e ∷ s ∷ w ∷ x ∷ xs)) f q = never_dealt q
 
-after_proper : (c : Conventions) (s : List ℕ) {h : Hands} → hands_after c s ≡ Dealt h → Proper h
+after_proper : (c : Conventions) (s : List ℕ) {h : Hands} → hands_after c s ≡ Some h → Proper h
 unfolding hands_after
 after_proper c s q = by_cases (starts_white s) (λ e. never_dealt (rw e at q)) (λ e. four_proper (all_named c (fields s)) (each_fits c (fields s)) (rw e at q))
 
@@ -420,13 +416,13 @@ pub turned_proper : (seat : ℕ) (h : Hands) → Proper h → Proper (turned sea
 turned_proper zero h p = p
 turned_proper (suc seat) h p = onward_proper (turned seat h) (turned_proper seat h p)
 
-turned_deal_proper : (seat : ℕ) (r : DealRead) {h : Hands} → ((g : Hands) → r ≡ Dealt g → Proper g) → turned_deal seat r ≡ Dealt h → Proper h
-turned_deal_proper seat NoDeal f q = never_dealt q
-turned_deal_proper seat (Dealt g) {h} f q =
+turned_deal_proper : (seat : ℕ) (r : DealRead) {h : Hands} → ((g : Hands) → r ≡ Some g → Proper g) → turned_deal seat r ≡ Some h → Proper h
+turned_deal_proper seat None f q = never_dealt q
+turned_deal_proper seat (Some g) {h} f q =
     let k : turned seat g ≡ h = cc in
     rw (sym k) (turned_proper seat g (f g refl))
 
-in_proper : (c : Conventions) (v : List ℕ) {h : Hands} → deal_in c v ≡ Dealt h → Proper h
+in_proper : (c : Conventions) (v : List ℕ) {h : Hands} → deal_in c v ≡ Some h → Proper h
 in_proper c [] q = never_dealt q
 in_proper c (a ∷ []) q = never_dealt q
 in_proper c (a ∷ b ∷ rest) q =
@@ -438,7 +434,7 @@ in_proper c (a ∷ b ∷ rest) q =
     (λ e. never_dealt (rw e at q))
 
 -- Whatever is read as a deal is one.
-pub DealProper : (c : Conventions) (value : List ℕ) {h : Hands} → deal_of c value ≡ Dealt h → Proper h
+pub DealProper : (c : Conventions) (value : List ℕ) {h : Hands} → deal_of c value ≡ Some h → Proper h
 unfolding deal_of
 DealProper c value q = in_proper c (trimmed value) q
 

@@ -7,9 +7,8 @@ use Prim.Native.String.{String}
 use Rattle.tables.specs.Text.{ascii, is_white, trimmed}
 use Rattle.tables.specs.Letters.{built_in, seat_of, rank_of, honour_of, capital}
 use Rattle.reader.specs.declared.deal.Hands.{Hands}
-use Rattle.reader.specs.declared.deal.DealRead.{DealRead}
-use Rattle.reader.specs.declared.deal.DealRead.TheVariants.{Dealt, NoDeal}
-use Rattle.reader.specs.Deals.{has, ones, card_count, whole_hands, cards_named, hands_after, deal_of, card_text, ranks_text, suit_text, hand_text, deal_text, hand_words}
+use Rattle.std.specs.Prelude.{Some, None}
+use Rattle.reader.specs.Deals.{DealRead, has, ones, card_count, whole_hands, cards_named, hands_after, deal_of, card_text, ranks_text, suit_text, hand_text, deal_text, hand_words}
 
 abbrev hands : ℕ → ℕ → ℕ → ℕ → Hands
 hands n e s w = record { north = n; east = e; south = s; west = w }
@@ -30,102 +29,102 @@ from s = reading (ascii s)
 
 -- ---- read
 
-pin_a : from "N:AKQJT98765432... .AKQJT98765432.. ..AKQJT98765432. ...AKQJT98765432" ≡ Dealt deal_a
+pin_a : from "N:AKQJT98765432... .AKQJT98765432.. ..AKQJT98765432. ...AKQJT98765432" ≡ Some deal_a
 unfolding reading
 pin_a = refl
 
-pin_b : from "E:AKQJT98765432... .AKQJT98765432.. ..AKQJT98765432. ...AKQJT98765432" ≡ Dealt deal_b
+pin_b : from "E:AKQJT98765432... .AKQJT98765432.. ..AKQJT98765432. ...AKQJT98765432" ≡ Some deal_b
 unfolding reading
 pin_b = refl
 
 -- From south and from west.
-pin_south : from "S:..AKQJT98765432. ...AKQJT98765432 AKQJT98765432... .AKQJT98765432.." ≡ Dealt deal_a
+pin_south : from "S:..AKQJT98765432. ...AKQJT98765432 AKQJT98765432... .AKQJT98765432.." ≡ Some deal_a
 unfolding reading
 pin_south = refl
 
-pin_west : from "W:...AKQJT98765432 AKQJT98765432... .AKQJT98765432.. ..AKQJT98765432." ≡ Dealt deal_a
+pin_west : from "W:...AKQJT98765432 AKQJT98765432... .AKQJT98765432.. ..AKQJT98765432." ≡ Some deal_a
 unfolding reading
 pin_west = refl
 
 -- Small letters, and white space around the value.
-pin_small : from "  n:akqjt98765432... .akqjt98765432.. ..akqjt98765432. ...akqjt98765432 " ≡ Dealt deal_a
+pin_small : from "  n:akqjt98765432... .akqjt98765432.. ..akqjt98765432. ...akqjt98765432 " ≡ Some deal_a
 unfolding reading
 pin_small = refl
 
 -- Ranks in any order; the two of clubs is 1, the three of diamonds 16384.
-pin_few : from "N:...2 ..3. - 2A..." ≡ Dealt (hands 1 16384 0 2252349569499136)
+pin_few : from "N:...2 ..3. - 2A..." ≡ Some (hands 1 16384 0 2252349569499136)
 unfolding reading
 pin_few = refl
 
 -- No cards: a dash, or three dots.
-pin_none : from "N:- ... - ..." ≡ Dealt (hands 0 0 0 0)
+pin_none : from "N:- ... - ..." ≡ Some (hands 0 0 0 0)
 unfolding reading
 pin_none = refl
 
 -- Any run of white space between hands.
-pin_tabs : reading (ascii "N:-" ++ (9 ∷ ascii "-   -") ++ (32 ∷ 9 ∷ 13 ∷ ascii "-")) ≡ Dealt (hands 0 0 0 0)
+pin_tabs : reading (ascii "N:-" ++ (9 ∷ ascii "-   -") ++ (32 ∷ 9 ∷ 13 ∷ ascii "-")) ≡ Some (hands 0 0 0 0)
 unfolding reading
 pin_tabs = refl
 
 -- ---- refused
 
-pin_fourteen : from "N:AKQJT98765432..2. - - -" ≡ NoDeal
+pin_fourteen : from "N:AKQJT98765432..2. - - -" ≡ None
 unfolding reading
 pin_fourteen = refl
 
-pin_twice : from "N:AKA... - - -" ≡ NoDeal
+pin_twice : from "N:AKA... - - -" ≡ None
 unfolding reading
 pin_twice = refl
 
-pin_across : from "N:AK... .A.. ..A. A..." ≡ NoDeal
+pin_across : from "N:AK... .A.. ..A. A..." ≡ None
 unfolding reading
 pin_across = refl
 
-pin_three : from "N:- - -" ≡ NoDeal
+pin_three : from "N:- - -" ≡ None
 unfolding reading
 pin_three = refl
 
-pin_five : from "N:- - - - -" ≡ NoDeal
+pin_five : from "N:- - - - -" ≡ None
 unfolding reading
 pin_five = refl
 
-pin_blank_after : from "N: - - - -" ≡ NoDeal
+pin_blank_after : from "N: - - - -" ≡ None
 unfolding reading
 pin_blank_after = refl
 
-pin_blank_before : from "N :- - - -" ≡ NoDeal
+pin_blank_before : from "N :- - - -" ≡ None
 unfolding reading
 pin_blank_before = refl
 
-pin_no_seat : from "X:- - - -" ≡ NoDeal
+pin_no_seat : from "X:- - - -" ≡ None
 unfolding reading
 pin_no_seat = refl
 
-pin_word : from "NS:- - - -" ≡ NoDeal
+pin_word : from "NS:- - - -" ≡ None
 unfolding reading
 pin_word = refl
 
-pin_suits : from "N:A.K.Q - - -" ≡ NoDeal
+pin_suits : from "N:A.K.Q - - -" ≡ None
 unfolding reading
 pin_suits = refl
 
-pin_many_suits : from "N:A.K.Q.J. - - -" ≡ NoDeal
+pin_many_suits : from "N:A.K.Q.J. - - -" ≡ None
 unfolding reading
 pin_many_suits = refl
 
-pin_dashes : from "N:-- - - -" ≡ NoDeal
+pin_dashes : from "N:-- - - -" ≡ None
 unfolding reading
 pin_dashes = refl
 
-pin_ten : from "N:10... - - -" ≡ NoDeal
+pin_ten : from "N:10... - - -" ≡ None
 unfolding reading
 pin_ten = refl
 
-pin_empty : from "" ≡ NoDeal
+pin_empty : from "" ≡ None
 unfolding reading
 pin_empty = refl
 
-pin_seat_alone : from "N:" ≡ NoDeal
+pin_seat_alone : from "N:" ≡ None
 unfolding reading
 pin_seat_alone = refl
 

@@ -1,32 +1,31 @@
 -- Laws of cards, and of reading record after record.
 use Prim.Native.Nat.{ℕ, ◌+◌, ◌*◌, ◌-◌, ◌/◌, ◌%◌, ◌≤◌, ◌<◌}
 use mathlib.Core.Path.{◌≡◌, refl, sym, ap, ◌∙◌}
-use mathlib.Core.Bool.{Bool, true, false, cond, not}
+use mathlib.Core.Bool.{Bool, true, false, cond}
 use mathlib.Core.List.{List, [], ◌∷◌, ◌++◌, map, append-nil}
 use native.Mathlib.Omega.{arith}
 use borrow.Author.Tests.{ltb-false, lt-ltb, le-ltb}
 use lib.Dec.{ltb}
 use lib.ListN.{length, take, drop, replicate, length-append, length-map, length-take, length-drop, length-replicate}
 use lib.Seq.{sets, sets-eq, drop-length}
+use Rattle.std.specs.Prelude.{Result, Ok, Err, is_ok}
 use Rattle.tables.specs.declared.letters.Conventions.{Conventions}
-use Rattle.tables.proofs.Laws.{clash, stop}
+use Rattle.tables.proofs.Laws.{clash}
 use Rattle.tables.proofs.PageLaws.{sets_append}
 use Rattle.reader.specs.declared.store.Entry.{Entry}
 use Rattle.reader.specs.declared.board.Board.{Board}
 use Rattle.reader.specs.declared.board.State.{State}
-use Rattle.reader.specs.declared.record.RecordEnd.{RecordEnd}
+use Rattle.reader.specs.declared.edition.ReadRefusal.{ReadRefusal}
 use Rattle.reader.specs.declared.edition.ReadRefusal.TheVariants.{Overlong, BoxFull, ListFull}
-use Rattle.reader.specs.declared.edition.Reading.{Reading}
-use Rattle.reader.specs.declared.edition.Reading.TheVariants.{Taken, Refused}
 use Rattle.reader.specs.declared.edition.Counts.{Counts}
 use Rattle.reader.specs.Store.{zeros, put, put_all, lent, entry_words}
+use Rattle.reader.specs.declared.store.Entries.{Entries}
 use Rattle.reader.specs.PieceSteps.{Emits}
 use Rattle.reader.specs.Records.{records_of}
 use Rattle.reader.specs.RecordSteps.{EndsAt}
 use Rattle.reader.specs.Boards.{record_out}
-use Rattle.reader.specs.Editions.{is_taken, head_words, back_words, card_words, card_of, cards_from, entries_from, cards_of, entries_of, counts_answer, reading_of, IsRead}
+use Rattle.reader.specs.Editions.{head_words, back_words, card_words, card_of, cards_from, entries_from, cards_of, entries_of, counts_of, counts_answer, reading_of, IsRead}
 use Rattle.reader.specs.EditionSteps.{RecordIn, FullCards, none, one, AllIn, ReadingEnded}
-use Rattle.reader.proofs.Seams.{no_records}
 use Rattle.reader.proofs.StoreLaws.{put_all_append, Blocks, blocks_append, blocks_map, put_zeros}
 use Rattle.reader.proofs.BoardLaws.{record_counts}
 use Rattle.reader.proofs.Counts.{EntriesFew, TextEntriesFew}
@@ -88,18 +87,18 @@ own_length t a e h₁ h₂ = omega (arith, length-take (e - a) (drop a t), lengt
 pub record_few : (c : Conventions) (r : List ℕ) {s : State} → s ≡ (record_out c r).state → s.n ≤ 4 * length r
 record_few c r e = omega (arith, ap (λ (x : State). x.n) e, record_counts c r, EntriesFew c r)
 
-pub record_in : {c : Conventions} {r : List ℕ} {a e k n : ℕ} {cards entries : List ℕ} {s : State} (m : ℕ) (cards' entries' : List ℕ) → e ≡ a + length r
-    → Emits a n entries entries' s (record_out c r)
+pub record_in : {c : Conventions} {r : List ℕ} {e k : ℕ} {cards : List ℕ} {s : State} {l l' : Entries} {entries entries' cards' : List ℕ} (a n : ℕ) → l.start ≡ a → l.count ≡ n → entries ≡ l.words.now → entries' ≡ l'.words.now → e ≡ a + length r
+    → Emits l l' s (record_out c r)
     → (cards' ≡ put 64 cards k (card_words a e n s.n s.board)) × (length (card_words a e n s.n s.board) ≡ 64)
-    → m ≡ n + s.n → RecordIn c r a k n cards entries m cards' entries'
-record_in {c} {r} {a} {e} {k} {n} {cards} {entries} {s} m cards' entries' ee em p eq =
+    → RecordIn c r a k n cards entries l'.count cards' entries'
+record_in {c} {r} {e} {k} {cards} {s} a n el en ew ew' ee em p =
     let es : s.n ≡ length (record_out c r).entries = ap (λ (x : State). x.n) em.answer ∙ record_counts c r in
     let eb : s.board ≡ (record_out c r).state.board = ap (λ (x : State). x.board) em.answer in
     let w : card_words a e n s.n s.board ≡ card_of c a n r = rw (ee, es, eb) in
     record {
-      answer = eq ∙ ap (λ (x : ℕ). n + x) es;
+      answer = rw en at em.adds.count;
       card = p.0 ∙ ap (put 64 cards k) w;
-      words = em.words;
+      words = ew' ∙ rw (en, el, ← ew) at em.adds.words;
       whole = sym (ap length w) ∙ p.1;
     }
 
@@ -135,10 +134,11 @@ left_less {c} {r = r} {rest = rest} {a = a} {entries = entries} {boards = boards
 
 pub left_none : {c : Conventions} {text cards₀ entries₀ : List ℕ} {a : ℕ} {cards entries : List ℕ} {boards n : ℕ} → Left c text cards₀ entries₀ [] a cards entries boards n
     → AllIn c text cards₀ entries₀ (record { boards = boards; entries = n }) cards entries
-left_none l =
+left_none {c} {text} {boards = boards} {n = n} l =
+    let eb : boards ≡ length (cards_of c text) = omega (arith, l.boards_in) in
+    let en : n ≡ length (entries_of c text) = omega (arith, l.entries_in) in
     record {
-      boards = omega (arith, l.boards_in);
-      count = omega (arith, l.entries_in);
+      counts = rw (eb, en);
       cards_put = l.words_of_card;
       entries_put = l.words_of_entry;
       whole = l.all_whole none;
@@ -156,46 +156,32 @@ pub turn_first : (c : Conventions) (text cards entries : List ℕ) → Turn c te
 turn_first c text cards entries =
     record { inside = omega arith; few_boards = omega arith; cards_length = refl; entries_length = refl; left = left_all c text cards entries }
 
-unmet : (b : Bool) → not b ≡ true → b ≡ false
-unmet true e = clash e
-unmet false e = refl
-
-met_so : (b : Bool) → not b ≡ false → b ≡ true
-met_so true e = refl
-met_so false e = clash (sym e)
-
 module _ {c : Conventions} {text cards₀ entries₀ cards entries : List ℕ} {a boards n : ℕ} (i : Turn c text cards₀ entries₀ cards entries a boards n) where
   -- There are never more entries than those of the text.
   pub turn_few : n ≤ 4 * length text
   turn_few = omega (arith, i.left.entries_in, TextEntriesFew c text)
 
   -- A record is read.
-  pub turn_next : {r : RecordEnd} (m : ℕ) (cards' entries' : List ℕ) → EndsAt text a r → not r.met ≡ false → length cards' ≡ length cards → length entries' ≡ length entries
-      → RecordIn c (take (r.end - a) (drop a text)) a boards n cards entries m cards' entries'
-      → Turn c text cards₀ entries₀ cards' entries' r.end (boards + 1) m
-  turn_next {r} m cards' entries' e met lc le k =
-      let own : List ℕ = take (r.end - a) (drop a text) in
-      let h₁ : a < r.end = e.after in
-      let h₂ : r.end ≤ length text = e.inside in
-      let eo : length own ≡ r.end - a = length-take (r.end - a) (drop a text) ∙ omega (arith, length-drop a text) in
-      let ee : a + length own ≡ r.end = omega arith in
-      let first : records_of (drop a text) ≡ own ∷ records_of (drop r.end text) = rw (met_so r.met met) at e.first in
+  pub turn_next : {e : ℕ} (m : ℕ) (cards' entries' : List ℕ) → EndsAt text a e → length cards' ≡ length cards → length entries' ≡ length entries
+      → RecordIn c (take (e - a) (drop a text)) a boards n cards entries m cards' entries'
+      → Turn c text cards₀ entries₀ cards' entries' e (boards + 1) m
+  turn_next {e} m cards' entries' ends lc le k =
+      let own : List ℕ = take (e - a) (drop a text) in
+      let h₁ : a < e = ends.after in
+      let h₂ : e ≤ length text = ends.inside in
+      let eo : length own ≡ e - a = length-take (e - a) (drop a text) ∙ omega (arith, length-drop a text) in
+      let ee : a + length own ≡ e = omega arith in
       record {
         inside = h₂;
         few_boards = omega (arith, i.few_boards);
         cards_length = lc ∙ i.cards_length;
         entries_length = le ∙ i.entries_length;
-        left = rw ee at (left_less (rw first at i.left) k);
+        left = rw ee at (left_less (rw ends.first at i.left) k);
       }
 
   -- No record is left.
-  pub turn_stop : {r : RecordEnd} → EndsAt text a r → not r.met ≡ true → AllIn c text cards₀ entries₀ (record { boards = boards; entries = n }) cards entries
-  turn_stop {r} e met =
-      let first : records_of (drop a text) ≡ [] = rw (unmet r.met met) at e.first in
-      left_none (rw first at i.left)
-
-  pub turn_end : length text ≤ a → AllIn c text cards₀ entries₀ (record { boards = boards; entries = n }) cards entries
-  turn_end h = left_none (rw (stop text a h, no_records) at i.left)
+  pub turn_stop : records_of (drop a text) ≡ [] → AllIn c text cards₀ entries₀ (record { boards = boards; entries = n }) cards entries
+  turn_stop first = left_none (rw first at i.left)
 
 -- ---- the whole
 
@@ -216,14 +202,15 @@ unfolding entries_of
 all_blocks c text = entry_blocks_lem c 0 (records_of text)
 
 -- Where the answer is no refusal, everything fits.
-taken_fits : (lc le b n : ℕ) → is_taken (counts_answer lc le b n) ≡ true → (64 * b ≤ lc) × (4 * n ≤ le)
-taken_fits lc le b n e = go (ltb (lc / 64) b) refl (ltb (le / 4) n) refl e
+taken_fits : (lc le : ℕ) (n : Counts) → is_ok (counts_answer lc le n) ≡ true → (64 * n.boards ≤ lc) × (4 * n.entries ≤ le)
+taken_fits lc le n e = go (ltb (lc / 64) n.boards) refl (ltb (le / 4) n.entries) refl e
   where
-    go : (f : Bool) → ltb (lc / 64) b ≡ f → (g : Bool) → ltb (le / 4) n ≡ g → is_taken (cond f (Refused (BoxFull b)) (cond g (Refused (ListFull n)) (Taken b n))) ≡ true
-        → (64 * b ≤ lc) × (4 * n ≤ le)
+    go : (f : Bool) → ltb (lc / 64) n.boards ≡ f → (g : Bool) → ltb (le / 4) n.entries ≡ g
+        → is_ok {T = Counts} (cond f (Err (BoxFull n.boards)) (cond g (Err (ListFull n.entries)) (Ok n))) ≡ true
+        → (64 * n.boards ≤ lc) × (4 * n.entries ≤ le)
     go true ef g eg h = clash h
     go false ef true eg h = clash h
-    go false ef false eg h = omega (arith, ltb-false (lc / 64) b ef, ltb-false (le / 4) n eg)
+    go false ef false eg h = omega (arith, ltb-false (lc / 64) n.boards ef, ltb-false (le / 4) n.entries eg)
 
 -- The words at the end: put into zeros, and kept or set to 0.
 pub ended : (w L : ℕ) {xs : List (List ℕ)} {d d' : List ℕ} (f : Bool) → Blocks w xs → (f ≡ true → w * length xs ≤ L) → length d ≡ L
@@ -231,9 +218,9 @@ pub ended : (w L : ℕ) {xs : List (List ℕ)} {d d' : List ℕ} (f : Bool) → 
 ended w L true b h el e e' = e' ∙ e ∙ put_zeros w L b (h refl)
 ended w L false b h el e e' = e' ∙ rw el
 
-pub read_all : {c : Conventions} {t cs es zc ze : List ℕ} {r : Counts} {a : Reading} (cards entries cards' entries' : List ℕ) → length t ≤ 16777215
+pub read_all : {c : Conventions} {t cs es zc ze : List ℕ} {r : Counts} {a : Result Counts ReadRefusal} (cards entries cards' entries' : List ℕ) → length t ≤ 16777215
     → zc ≡ zeros cs → ze ≡ zeros es → length cards ≡ length zc → length entries ≡ length ze
-    → AllIn c t zc ze r cards entries → ReadingEnded cards entries r.boards r.entries a cards' entries'
+    → AllIn c t zc ze r cards entries → ReadingEnded cards entries r a cards' entries'
     → IsRead c t cs es a cards' entries'
 unfolding reading_of
 read_all {c} {t} {cs} {es} {zc} {ze} {r} {a} cards entries cards' entries' short zc_is ze_is kc ke s f =
@@ -241,15 +228,15 @@ read_all {c} {t} {cs} {es} {zc} {ze} {r} {a} cards entries cards' entries' short
     let le = length es in
     let ec : length cards ≡ lc = kc ∙ rw zc_is (length-replicate lc 0) in
     let ee : length entries ≡ le = ke ∙ rw ze_is (length-replicate le 0) in
-    let ans : a ≡ counts_answer lc le (length (cards_of c t)) (length (entries_of c t)) = rw (ec, ee, s.boards, s.count) at f.answer in
-    let fits : is_taken a ≡ true → (64 * length (cards_of c t) ≤ lc) × (4 * length (entries_of c t) ≤ le) = λ h. taken_fits lc le (length (cards_of c t)) (length (entries_of c t)) (rw ans at h) in
+    let ans : a ≡ counts_answer lc le (counts_of c t) = rw (ec, ee, s.counts) at f.answer in
+    let fits : is_ok a ≡ true → (64 * length (cards_of c t) ≤ lc) × (4 * length (entries_of c t) ≤ le) = λ h. taken_fits lc le (counts_of c t) (rw ans at h) in
     record {
       answer = ans ∙ rw (le-ltb _ _ short);
-      cards_after = ended 64 lc (is_taken a) (card_blocks s.whole) (λ h. (fits h).0) ec (rw zc_is at s.cards_put) f.cards_after;
-      entries_after = ended 4 le (is_taken a) (all_blocks c t) (λ h. (fits h).1) ee (rw ze_is at s.entries_put) f.entries_after;
+      cards_after = ended 64 lc (is_ok a) (card_blocks s.whole) (λ h. (fits h).0) ec (rw zc_is at s.cards_put) f.cards_after;
+      entries_after = ended 4 le (is_ok a) (all_blocks c t) (λ h. (fits h).1) ee (rw ze_is at s.entries_put) f.entries_after;
     }
 
 pub read_none : {c : Conventions} {t cs es : List ℕ} {cards' entries' : List ℕ} → 16777215 < length t → cards' ≡ zeros cs → entries' ≡ zeros es
-    → IsRead c t cs es (Refused (Overlong (length t))) cards' entries'
+    → IsRead c t cs es (Err (Overlong (length t))) cards' entries'
 unfolding reading_of
 read_none h ec ee = record { answer = rw (lt-ltb _ _ h); cards_after = ec; entries_after = ee }

@@ -10,7 +10,7 @@ use borrow.Author.Tests.{eqb-false, ne_eqb}
 use Rattle.tables.specs.declared.letters.Conventions.{Conventions}
 use Rattle.tables.specs.Text.{lead, first_character}
 use Rattle.tables.specs.Letters.{seat_of}
-use Rattle.tables.specs.Tables.{TableReading, holds, refuses, gathered}
+use Rattle.tables.specs.Tables.{TableReading, gathered}
 use Rattle.tables.proofs.Laws.{by_cases}
 use Rattle.reader.specs.declared.tag.Span.{Span}
 use Rattle.reader.specs.declared.line.Line.{Line}
@@ -34,6 +34,7 @@ use Rattle.reader.specs.Plain.{TagPair, plain_of}
 use Rattle.reader.proofs.EntryLaws.{All, none, one}
 use Rattle.reader.proofs.Counts.{chosen}
 use Rattle.reader.proofs.LineTags.{pair_on, tags_on, line_tags, tags_of_lines, line_commentary, TagsOfLines}
+use Rattle.std.specs.Prelude.{Ok, Err}
 
 -- ---- folds over tags
 
@@ -84,15 +85,15 @@ closed_board c r s P same other =
     chosen P (eqb o.kind 2) (play_closed b o s.n v) (table_closed b v)
     (λ g. chosen P v.tricks.any (with_sections b b.table b.auction _ b.contract) b (λ h. other b.table b.auction _ b.contract (λ i. refl)) (λ h. same))
     (λ g.
-    chosen P v.rows.fault b (rows_closed b (gathered v.rows.cells.tricks)) (λ h. same)
-    (λ h. rows (gathered v.rows.cells.tricks) (eqb-false o.kind 0 e) (eqb-false o.kind 1 f) (eqb-false o.kind 2 g)))))
+    chosen P v.rows.fault b (rows_closed b (gathered v.rows.cells)) (λ h. same)
+    (λ h. rows (gathered v.rows.cells) (eqb-false o.kind 0 e) (eqb-false o.kind 1 f) (eqb-false o.kind 2 g)))))
   where
     high : (k : ℕ) → k ≤ 2 → (k ≡ 0 → ⊥) → (k ≡ 1 → ⊥) → (k ≡ 2 → ⊥) → ⊥
     high k h x y z = omega (arith, x, y, z)
 
     rows : (g : TableReading) → (s.section.kind ≡ 0 → ⊥) → (s.section.kind ≡ 1 → ⊥) → (s.section.kind ≡ 2 → ⊥) → P (rows_closed s.board g)
-    rows (holds cells) x y z = other (record { kind = 2; cells = cells }) s.board.auction s.board.play s.board.trump (λ h. absurd (high s.section.kind h x y z))
-    rows (refuses f) x y z = same
+    rows (Ok cells) x y z = other (record { kind = 2; cells = cells }) s.board.auction s.board.play s.board.trump (λ h. absurd (high s.section.kind h x y z))
+    rows (Err f) x y z = same
 
 -- ---- a tag
 

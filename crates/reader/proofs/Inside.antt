@@ -11,26 +11,21 @@ use borrow.Author.Tests.{ne_eqb, eqb-false}
 use Rattle.tables.specs.Text.{is_word, lead, trim_start, trimmed, word, past_word}
 use Rattle.tables.proofs.Laws.{by_cases}
 use Rattle.reader.specs.declared.tag.Tag.{Tag as TagPlaces}
-use Rattle.reader.specs.declared.tag.TagLine.{TagLine}
-use Rattle.reader.specs.declared.tag.TagLine.TheVariants.{NoTag, Plain as PlainTag, WithComment as CommentTag}
-use Rattle.reader.specs.declared.tag.Close.{Close}
-use Rattle.reader.specs.declared.tag.Close.TheVariants.{At, Nothing}
-use Rattle.reader.specs.declared.tag.Split.{Split}
-use Rattle.reader.specs.declared.tag.Split.TheVariants.{Data as DataTag, NoData}
-use Rattle.reader.specs.Tag.{part, trim_span, trim_part, is_comment, with_comment, tag_line, pair_of, with_data, with_pair, data_bracket, data_after, split_at, split_of}
+use Rattle.std.specs.Prelude.{Option as Maybe, Some, None, option_and_then}
+use Rattle.reader.specs.Tag.{TagLine, Split, part, trim_span, trim_part, is_comment, tag_line, with_data, data_bracket, data_after, split_of}
 use Rattle.reader.specs.TagSteps.{TagPlaced, TagInside, SpanInside, SplitPlaced}
 use Rattle.reader.specs.TagBytes.{Cut, close, unquote}
 use Rattle.reader.specs.Lines.{is_blank, split_as, split_line, bracket_as, bracket_line, line_kind}
 use Rattle.reader.specs.LineSteps.{LinePlaced}
 use Rattle.reader.proofs.TagLaws.{length_part}
-use Rattle.reader.proofs.Tags.{trim_whole, front_whole, close_at_lem, unquote_is, comment_as, place_value, place_name, place_tag, line_by_lem, tag_placed, no_tag_lem}
+use Rattle.reader.proofs.Tags.{with_comment, with_tag, trim_whole, front_whole, close_at_lem, unquote_is, comment_as, place_value, place_name, place_tag, line_by_lem, tag_placed, no_tag_lem}
 
 -- The trimmed text, and the white space before it, are no longer than the text.
 pub trim_length : (s : List ℕ) → length (lead s) + length (trimmed s) ≤ length s
 trim_length s = omega (arith, simp length-append at (ap length (trim_whole s)))
 
 inside_comment : (t : List ℕ) (g : TagPlaces) (n c : ℕ) → TagInside g n → c + length t ≤ n → TagPlaced (with_comment (comment_as t c) g) n
-inside_comment [] g n c h k = h
+inside_comment [] g n c h k = (h, tt)
 inside_comment (x ∷ xs) g n c h k =
     let z : eqb (suc (length xs)) 0 ≡ false = ne_eqb (suc (length xs)) 0 (λ e. omega arith) in
     by_cases (is_comment (x ∷ xs)) (λ t. rw (z, t) (h, k)) (λ t. rw (z, t) tt)
@@ -84,29 +79,29 @@ inside_data g e line h =
     (λ t. rw t tt)
     (λ t. rw t (wider g (length (take e line)) (length line) l h, part_inside e line (eqb-false _ 0 t)))
 
-inside_pair : (t : TagLine) (e : ℕ) (line : List ℕ) → TagPlaced t (length (take e line)) → SplitPlaced (with_pair (pair_of t) e line) (length line)
-inside_pair NoTag e line h = tt
-inside_pair (PlainTag t) e line h = inside_data t e line h
-inside_pair (CommentTag t c) e line h = inside_data t e line h.0
+inside_pair : (t : TagLine) (e : ℕ) (line : List ℕ) → TagPlaced t (length (take e line)) → SplitPlaced (with_tag t e line) (length line)
+inside_pair None e line h = tt
+inside_pair (Some (t, None)) e line h = inside_data t e line h.0
+inside_pair (Some (t, Some c)) e line h = inside_data t e line h.0
 
-inside_split : (c : Close) (line : List ℕ) → SplitPlaced (split_at c line) (length line)
+inside_split : (c : Maybe ℕ) (line : List ℕ) → SplitPlaced (option_and_then (λ k. data_after (k + 1) line) c) (length line)
 unfolding data_after
-inside_split Nothing line = tt
-inside_split (At k) line = inside_pair (tag_line (take (k + 1) line)) (k + 1) line (TagInsideLine (take (k + 1) line))
+inside_split None line = tt
+inside_split (Some k) line = inside_pair (tag_line (take (k + 1) line)) (k + 1) line (TagInsideLine (take (k + 1) line))
 
 pub SplitInsideLine : (line : List ℕ) → SplitPlaced (split_of line) (length line)
 unfolding split_of
 SplitInsideLine line = inside_split (data_bracket line) line
 
 inside_as : (d : Split) (n : ℕ) → SplitPlaced d n → LinePlaced (split_as d) n
-inside_as NoData n h = tt
-inside_as (DataTag t d) n h = h
+inside_as None n h = tt
+inside_as (Some (t, d)) n h = h
 
 inside_bracket : (t : TagLine) (line : List ℕ) → TagPlaced t (length line) → LinePlaced (bracket_as t line) (length line)
 unfolding split_line
-inside_bracket NoTag line h = inside_as (split_of line) (length line) (SplitInsideLine line)
-inside_bracket (PlainTag t) line h = h
-inside_bracket (CommentTag t c) line h = h
+inside_bracket None line h = inside_as (split_of line) (length line) (SplitInsideLine line)
+inside_bracket (Some (t, None)) line h = h.0
+inside_bracket (Some (t, Some c)) line h = h
 
 span_inside : (line : List ℕ) → SpanInside (trim_span line) (length line)
 unfolding trim_span

@@ -1,24 +1,26 @@
 -- Laws of lines.
-use Prim.Native.Nat.{ℕ, zero, suc, ◌-◌, ◌≤◌, ◌<◌}
-use mathlib.Core.Path.{◌≡◌, refl, ap}
+use Prim.Native.Nat.{ℕ, zero, suc, ◌+◌, ◌≤◌, ◌<◌}
+use mathlib.Core.Path.{◌≡◌, refl, sym, ap, ◌∙◌}
 use mathlib.Core.Bool.{Bool, true, false, cond, not, ◌&&◌, ◌||◌}
 use mathlib.Core.List.{List, [], ◌∷◌}
 use native.Mathlib.Omega.{arith}
 use lib.Dec.{eqb, eqb-suc-suc}
-use lib.ListN.{length, drop, get_or}
-use lib.Seq.{drop-cons}
+use lib.ListN.{length, drop, get_or, length-drop}
+use lib.Seq.{get_or-drop}
+use Rattle.std.specs.Prelude.{Option, Some, None, MatchOption, unwrap_or}
 use borrow.Author.Tests.{eq-eqb, ne_eqb}
 use Rattle.tables.specs.Text.{is_white, lead, trim_end, trimmed, keep_end}
 use Rattle.tables.specs.Letters.{among}
 use Rattle.tables.proofs.Laws.{by_cases, neither}
 use Rattle.reader.specs.declared.line.Line.TheVariants.{Blank}
+use Rattle.reader.specs.declared.tag.Span.{Span}
 use Rattle.reader.specs.Tag.{trim_span}
 use Rattle.reader.specs.Lines.{is_blank, last_brace, kind_by, line_kind}
 use Rattle.reader.proofs.TagLaws.{byte_front}
 
 -- ---- the last brace
 
-pub brace_none : (s : List ℕ) → among 125 s ≡ false → last_brace s ≡ length s
+brace_none : (s : List ℕ) → among 125 s ≡ false → last_brace s ≡ length s
 brace_none [] h = refl
 brace_none (b ∷ bs) h = let n = neither (eqb b 125) (among 125 bs) h in rw n.0 (ap suc (brace_none bs n.1))
 
@@ -40,16 +42,19 @@ last_is (b ∷ bs) (suc i) h e n = rw (still bs i (omega arith) e, still' (eqb b
         or_true true b e = refl
         or_true false b e = e
 
--- A search from the right: e - 1 is the next place, and no brace stands from e on.
-pub brace_at : (s : List ℕ) (e : ℕ) → 0 < e → e ≤ length s → get_or s (e - 1) 0 ≡ 125 → among 125 (drop e s) ≡ false → last_brace s ≡ e - 1
-brace_at s zero z h t n = absurd (omega arith)
-brace_at s (suc e) z h t n = let d : suc e - 1 ≡ e = omega arith in rw d (last_is s e (omega arith) (rw d at t) n)
+-- What a search from the right finds: the place of a brace with none behind it, or no brace.
+abbrev pub LastAt : List ℕ → Option ℕ → Type 0
+LastAt s r = MatchOption r ((k : ℕ) → k < length s → get_or s k 0 ≡ 125 → ⊥) (λ i. (i < length s) × (get_or s i 0 ≡ 125) × ((k : ℕ) → i < k → k < length s → get_or s k 0 ≡ 125 → ⊥))
 
-pub brace_turn : (s : List ℕ) (e : ℕ) → 0 < e → e ≤ length s → (get_or s (e - 1) 0 ≡ 125 → ⊥) → among 125 (drop e s) ≡ false → among 125 (drop (e - 1) s) ≡ false
-brace_turn s zero z h t n = absurd (omega arith)
-brace_turn s (suc e) z h t n =
-    let d : suc e - 1 ≡ e = omega arith in
-    rw (d, drop-cons s e 0 (omega arith), ne_eqb (get_or s e 0) 125 (rw d at t)) n
+none_at : (s : List ℕ) → ((k : ℕ) → k < length s → get_or s k 0 ≡ 125 → ⊥) → among 125 s ≡ false
+none_at [] h = refl
+none_at (b ∷ bs) h = rw (ne_eqb b 125 (h 0 (omega arith)), none_at bs (λ k l. h (suc k) (omega arith)))
+
+pub last_from : (s : List ℕ) (r : Option ℕ) → LastAt s r → (unwrap_or r (length s) ≡ last_brace s) × (unwrap_or r (length s) ≤ length s)
+last_from s None h = (sym (brace_none s (none_at s h)), omega arith)
+last_from s (Some i) h =
+    let n : among 125 (drop (suc i) s) ≡ false = none_at (drop (suc i) s) (λ k l. rw get_or-drop (h.2 (suc i + k) (omega arith) (omega (arith, length-drop (suc i) s)))) in
+    (sym (last_is s i h.0 h.1 n), omega arith)
 
 -- ---- blank lines
 
@@ -72,6 +77,10 @@ pub blank_span : (line : List ℕ) → is_blank line ≡ eqb (trim_span line).le
 unfolding is_blank trim_span
 blank_span line = refl
 
-pub kind_by_lem : (line : List ℕ) (b : ℕ) → b ≡ get_or line (trim_span line).start 0 → line_kind line ≡ cond (eqb (trim_span line).len 0) Blank (kind_by b line)
+kind_by_lem : (line : List ℕ) (b : ℕ) → b ≡ get_or line (trim_span line).start 0 → line_kind line ≡ cond (eqb (trim_span line).len 0) Blank (kind_by b line)
 unfolding is_blank trim_span line_kind
 kind_by_lem line b e = rw (e, byte_front is_white line)
+
+-- A line that is not blank is of the kind of the first byte that is not white.
+pub kind_of_byte : (line : List ℕ) (b : ℕ) (t : Span) → t ≡ trim_span line → (t.len ≡ 0 → ⊥) → b ≡ get_or line t.start 0 → line_kind line ≡ kind_by b line
+kind_of_byte line b t e n h = kind_by_lem line b (rw e at h) ∙ rw (← e, ne_eqb t.len 0 n)

@@ -1,5 +1,5 @@
 -- Laws of the walk from line to line of a text: it meets the lines by which records are read, in their order.
-use Prim.Native.Nat.{ℕ, zero, suc, ◌-◌, ◌≤◌}
+use Prim.Native.Nat.{ℕ, zero, suc, ◌+◌, ◌-◌, ◌≤◌}
 use mathlib.Core.Path.{◌≡◌, refl, sym, ap, ◌∙◌}
 use mathlib.Core.List.{List, []}
 use native.Mathlib.Omega.{arith}
@@ -9,9 +9,9 @@ use denote.Ref.{Bor}
 use borrow.Author.Tests.{leb-true, leb-false}
 use Rattle.tables.proofs.Laws.{by_cases, stop}
 use Rattle.reader.specs.declared.walk.Lines.{Lines}
-use Rattle.reader.specs.LineWalk.{line_at, line_end, lines_of, at_end, next_line, past_lines}
+use Rattle.reader.specs.LineWalk.{IsNextLine, line_at, line_end, lines_of, at_end, next_line, past_lines}
 use Rattle.reader.specs.Pieces.{raw_lines}
-use Rattle.reader.proofs.SectionLaws.{line_at_lem}
+use Rattle.reader.proofs.SectionLaws.{LineAt, line_at_lem}
 
 -- The line at a place ends where the text does, or before.
 pub line_fits : (text : List ℕ) (e : ℕ) → length (line_at text e) ≤ length text - e
@@ -59,3 +59,11 @@ WalkLines s k = lines_from s k 0
 -- It is at its end when it is past as many lines as the text has, and not before.
 pub WalkEnds : (s : Bor (List ℕ)) (k : ℕ) → at_end (past_lines k (lines_of s)) ≡ leb (length (raw_lines s.now)) k
 WalkEnds s k = ends_from s k 0
+
+-- ---- the line that comes
+
+pub line_of_next : {w v : Lines} {l : List ℕ} (text : List ℕ) (e : ℕ) → IsNextLine w l v → w.text.now ≡ text → w.next ≡ e → LineAt text e l
+line_of_next {w} {v} {l} text e n t p = rw (← t, ← p) (line_at_lem w.text.now w.next l (leb-false (length w.text.now) w.next n.left) n.line_is)
+
+pub next_place : {w v : Lines} {l : List ℕ} → IsNextLine w l v → (v.text ≡ w.text) × (v.next ≡ w.next + length l)
+next_place n = (ap (λ (x : Lines). x.text) n.walk_is, ap (λ (x : Lines). x.next) n.walk_is ∙ rw n.line_is)

@@ -1,68 +1,76 @@
--- Laws of tag names: the table of their lengths and bytes gives the numbers of the list of names.
+-- Laws of tag names.
 use Prim.Native.Nat.{ℕ, zero, suc, ◌+◌, ◌-◌, ◌≤◌, ◌<◌}
 use mathlib.Core.Path.{◌≡◌, refl, sym, ap, ◌∙◌}
-use mathlib.Core.Bool.{Bool, true, cond, ◌&&◌}
-use mathlib.Core.List.{List, [], ◌∷◌}
+use mathlib.Core.Bool.{Bool, true, false, ◌&&◌}
+use mathlib.Core.List.{List, [], ◌∷◌, map}
 use native.Mathlib.Omega.{arith}
 use lib.Dec.{eqb}
-use lib.ListN.{length, take, drop, get_or, length-take, length-drop}
-use lib.Seq.{drop-drop}
-use borrow.Author.Tests.{eqb-true, eqb-false}
-use Rattle.tables.specs.Text.{ascii}
-use Rattle.tables.proofs.Laws.{step, stop, by_cases, both}
+use lib.ListN.{get_or}
+use Rattle.std.specs.Prelude.{Some}
+use Rattle.std.specs.List.{find}
+use borrow.Author.Rules.{rules}
+use borrow.Author.Tests.{eqb-true, eqb-false, ne_eqb}
+use Rattle.tables.proofs.Laws.{by_cases, both}
 use Rattle.reader.specs.Words.{same}
-use Rattle.reader.specs.Names.{tag_names, number_in, tag_number}
-use Rattle.reader.specs.NameSteps.{place_in}
-use Rattle.reader.proofs.WordLaws.{same_long, same_is}
+use Rattle.reader.specs.Names.{tag_names, number_in, tag_number, number_of}
+use Rattle.reader.specs.NameSteps.{text_of}
+use Rattle.reader.specs.declared.names.TagName.{TagName}
+use Rattle.reader.specs.declared.names.TagName.TheVariants.{Board, Dealer, Vulnerable, Deal, Event, Site, Date, Declarer, Contract, Result, North, East, South, West, Auction, Play, Note, DoubleDummyTricks, OptimumResultTable, OptimumScore, ParContract}
+use Rattle.reader.proofs.WordLaws.{same_is}
 
--- ---- one turn over the table
+-- ---- the names of the enum are the list, in its order
 
-pub place_step : (ls text t : List ℕ) (i a n : ℕ) → i < length ls
-    → place_in (drop i ls) (drop a text) t n
-    ≡ cond (eqb (get_or ls i 0) (length t) && same (take (get_or ls i 0) (drop a text)) t) n (place_in (drop (i + 1) ls) (drop (a + get_or ls i 0) text) t (n + 1))
-place_step ls text t i a n h = rw (step ls i h, drop-drop (get_or ls i 0) a text)
+abbrev pub all_names : List TagName
+all_names = Board ∷ Dealer ∷ Vulnerable ∷ Deal ∷ Event ∷ Site ∷ Date ∷ Declarer ∷ Contract ∷ Result ∷ North ∷ East ∷ South ∷ West ∷ Auction ∷ Play ∷ Note ∷ DoubleDummyTricks ∷ OptimumResultTable ∷ OptimumScore ∷ ParContract ∷ []
 
-pub place_stop : (ls text t : List ℕ) (i n : ℕ) → length ls ≤ i → place_in (drop i ls) text t n ≡ 0
-place_stop ls text t i n h = rw (stop ls i h)
+-- Numbered from n on.
+abbrev Numbered : List TagName → ℕ → Type 0
+Numbered [] n = Unit {0}
+Numbered (x ∷ xs) n = (number_of (Some x) ≡ n) × Numbered xs (n + 1)
 
--- ---- the table is the list
+found : (t : List ℕ) (xs : List TagName) (n : ℕ) → Numbered xs n → number_of (find (λ x. same (text_of x) t) xs) ≡ number_in (map text_of xs) t n
+found t [] n h = refl
+found t (x ∷ xs) n h = by_cases (same (text_of x) t) (λ e. rw e h.0) (λ e. rw e (found t xs (n + 1) h.1))
 
--- The names that a table holds, and how many bytes they have.
-abbrev parts : List ℕ → List ℕ → List (List ℕ)
-parts [] text = []
-parts (l ∷ ls) text = take l text ∷ parts ls (drop l text)
-
-abbrev total : List ℕ → ℕ
-total [] = 0
-total (l ∷ ls) = l + total ls
-
--- Equal texts are of one length.
-lengths_first : (w t : List ℕ) (n : ℕ) → length w ≡ n → (eqb n (length t) && same w t) ≡ same w t
-lengths_first w t n e =
-    by_cases (eqb n (length t))
-    (λ h. rw h)
-    (λ h. rw (h, same_long w t (λ k. eqb-false n (length t) h (sym e ∙ k))))
-
-place_parts : (ls text t : List ℕ) (n : ℕ) → total ls ≤ length text → place_in ls text t n ≡ number_in (parts ls text) t n
-place_parts [] text t n h = refl
-place_parts (l ∷ ls) text t n h =
-    let e : length (take l text) ≡ l = simp length-take (omega arith) in
-    let k : total ls ≤ length (drop l text) = simp length-drop (omega arith) in
-    rw (lengths_first (take l text) t l e, place_parts ls (drop l text) t (n + 1) k)
-
-abbrev pub name_lengths : List ℕ
-name_lengths = 5 ∷ 6 ∷ 10 ∷ 4 ∷ 5 ∷ 4 ∷ 4 ∷ 8 ∷ 8 ∷ 6 ∷ 5 ∷ 4 ∷ 5 ∷ 4 ∷ 7 ∷ 4 ∷ 4 ∷ 17 ∷ 18 ∷ 12 ∷ 11 ∷ []
-
-abbrev pub name_bytes : List ℕ
-name_bytes = ascii "BoardDealerVulnerableDealEventSiteDateDeclarerContractResultNorthEastSouthWestAuctionPlayNoteDoubleDummyTricksOptimumResultTableOptimumScoreParContract"
-
-names_are : parts name_lengths name_bytes ≡ tag_names
+names_are : map text_of all_names ≡ tag_names
 unfolding tag_names
 names_are = refl
 
-pub table_is : (t : List ℕ) → place_in name_lengths name_bytes t 1 ≡ tag_number t
+pub name_found : (t : List ℕ) → number_of (find (λ x. same (text_of x) t) all_names) ≡ tag_number t
 unfolding tag_number
-table_is t = place_parts name_lengths name_bytes t 1 (omega arith) ∙ ap (λ (ws : List (List ℕ)). number_in ws t 1) names_are
+name_found t = found t all_names 1 (search rules) ∙ ap (λ (ws : List (List ℕ)). number_in ws t 1) names_are
+
+-- ---- a name by its number
+
+abbrev name_at : ℕ → TagName
+name_at n = get_or (Note ∷ all_names) n Note
+
+name_back : (x : TagName) → name_at (number_of (Some x)) ≡ x
+name_back Board = refl
+name_back Dealer = refl
+name_back Vulnerable = refl
+name_back Deal = refl
+name_back Event = refl
+name_back Site = refl
+name_back Date = refl
+name_back Declarer = refl
+name_back Contract = refl
+name_back Result = refl
+name_back North = refl
+name_back East = refl
+name_back South = refl
+name_back West = refl
+name_back Auction = refl
+name_back Play = refl
+name_back Note = refl
+name_back DoubleDummyTricks = refl
+name_back OptimumResultTable = refl
+name_back OptimumScore = refl
+name_back ParContract = refl
+
+-- Another name has another number.
+pub number_not : (x y : TagName) → (x ≡ y → ⊥) → eqb (number_of (Some x)) (number_of (Some y)) ≡ false
+number_not x y h = ne_eqb _ _ (λ e. h (sym (name_back x) ∙ ap name_at e ∙ name_back y))
 
 -- ---- names and their numbers
 

@@ -8,24 +8,21 @@ use lib.Dec.{eqb}
 use lib.ListN.{length, take, drop, get_or}
 use lib.Seq.{drop-drop}
 use Rattle.tables.specs.Text.{trim_start}
-use Rattle.tables.proofs.Laws.{by_cases, clash, stop}
+use Rattle.tables.proofs.Laws.{by_cases, stop}
 use Rattle.reader.specs.declared.tag.Span.{Span}
-use Rattle.reader.specs.declared.tag.TagLine.{TagLine}
-use Rattle.reader.specs.declared.tag.TagLine.TheVariants.{NoTag, Plain as PlainTag, WithComment as CommentTag}
-use Rattle.reader.specs.declared.tag.Split.{Split}
-use Rattle.reader.specs.declared.tag.Split.TheVariants.{Data as DataTag, NoData}
+use Rattle.std.specs.Prelude.{Some, None}
 use Rattle.reader.specs.declared.line.Line.{Line}
 use Rattle.reader.specs.declared.line.Line.TheVariants.{Blank, Brace, Directive, Tag as TagOn, Bracket, Data}
 use Rattle.reader.specs.declared.section.Visit.{Visit}
 use Rattle.reader.specs.declared.section.Visit.TheVariants.{Stop, Pass, Piece as PieceOn}
-use Rattle.reader.specs.Tag.{tag_line, split_of, cut}
+use Rattle.reader.specs.Tag.{TagLine, Split, tag_line, split_of, cut}
 use Rattle.reader.specs.TagSteps.{SpanInside}
 use Rattle.reader.specs.Lines.{is_blank, has_brace, split_as, split_line, bracket_as, bracket_line, kind_by, line_kind}
 use Rattle.reader.specs.LineSteps.{LinePlaced}
 use Rattle.reader.specs.Pieces.{Piece, raw_lines}
 use Rattle.reader.specs.PieceSteps.{piece}
 use Rattle.reader.specs.Sections.{opens_commentary, commentary_after, closes_section, stops_at, data_piece, piece_of, data_in}
-use Rattle.reader.specs.SectionSteps.{visit_kind, visit_of, no_piece, NextPiece}
+use Rattle.reader.specs.SectionSteps.{visit_kind, visit_of, data_from, PieceFrom}
 use Rattle.reader.proofs.Inside.{LineInside}
 use Rattle.reader.proofs.LineLaws.{blank_span}
 use Rattle.reader.proofs.SectionLaws.{LineAt}
@@ -62,14 +59,14 @@ some Pass = true
 some (PieceOn s) = not (eqb s.len 0)
 
 some_split : (s : Split) → some (visit_kind (split_as s)) ≡ true
-some_split (DataTag t d) = refl
-some_split NoData = refl
+some_split (Some (t, d)) = refl
+some_split None = refl
 
 some_tag : (t : TagLine) (l : List ℕ) → some (visit_kind (bracket_as t l)) ≡ true
 unfolding split_line
-some_tag NoTag l = some_split (split_of l)
-some_tag (PlainTag t) l = refl
-some_tag (CommentTag t c) l = refl
+some_tag None l = some_split (split_of l)
+some_tag (Some (t, None)) l = refl
+some_tag (Some (t, Some c)) l = refl
 
 some_by : (b : ℕ) (l : List ℕ) → is_blank l ≡ false → some (visit_kind (kind_by b l)) ≡ true
 unfolding bracket_line
@@ -158,17 +155,14 @@ module _ (r : List ℕ) (p : ℕ) where
   pub seek_pass : (commentary : Bool) (e : ℕ) (l : List ℕ) → Seeking r p commentary e → LineAt r e l → visit_of commentary l ≡ Pass → Seeking r p (commentary_after commentary l) (e + length l)
   seek_pass commentary e l k q h = record { lines = seek_line commentary e l Pass k q h; from_p = omega (arith, k.from_p); inside = q.inside }
 
-  no_next : (e : ℕ) → data_in false p (raw_lines (drop p r)) ≡ [] → p ≤ e → e ≤ length r → NextPiece r p (no_piece e)
-  no_next e d h i = record { data_lines = d; piece_inside = omega arith; inside = i; past = omega (arith, h); later = clash }
+  pub seek_stop : (commentary : Bool) (e : ℕ) (l : List ℕ) → Seeking r p commentary e → LineAt r e l → visit_of commentary l ≡ Stop → data_from r p ≡ []
+  seek_stop commentary e l k q h = seek_line commentary e l Stop k q h
 
-  pub seek_stop : (commentary : Bool) (e : ℕ) (l : List ℕ) → Seeking r p commentary e → LineAt r e l → visit_of commentary l ≡ Stop → NextPiece r p (no_piece e)
-  seek_stop commentary e l k q h = no_next e (seek_line commentary e l Stop k q h) k.from_p k.inside
-
-  pub seek_end : (commentary : Bool) (e : ℕ) → Seeking r p commentary e → length r ≤ e → NextPiece r p (no_piece e)
-  seek_end commentary e k h = no_next e (k.lines ∙ ap (λ (x : List ℕ). data_in commentary e (raw_lines x)) (stop r e h)) k.from_p k.inside
+  pub seek_end : (commentary : Bool) (e : ℕ) → Seeking r p commentary e → length r ≤ e → data_from r p ≡ []
+  seek_end commentary e k h = k.lines ∙ ap (λ (x : List ℕ). data_in commentary e (raw_lines x)) (stop r e h)
 
   pub seek_piece : (commentary : Bool) (e : ℕ) (l : List ℕ) (s : Span) → Seeking r p commentary e → LineAt r e l → visit_of commentary l ≡ PieceOn s
-      → NextPiece r p (record { more = true; piece = record { start = e + s.start; len = s.len }; at = e + length l })
+      → PieceFrom r p (record { piece = record { start = e + s.start; len = s.len }; at = e + length l })
   seek_piece commentary e l s k q h =
       let i = piece_placed commentary l s h in
       record {
@@ -176,5 +170,5 @@ module _ (r : List ℕ) (p : ℕ) where
         piece_inside = omega (arith, q.inside, i);
         inside = q.inside;
         past = omega (arith, k.from_p, i);
-        later = λ t. omega (arith, k.from_p, q.filled);
+        later = omega (arith, k.from_p, q.filled);
       }

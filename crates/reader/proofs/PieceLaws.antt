@@ -6,13 +6,14 @@ use mathlib.Core.List.{List, [], ◌∷◌, ◌++◌, map}
 use native.Mathlib.Nat.{add-zero}
 use native.Mathlib.Omega.{arith}
 use lib.Dec.{eqb}
-use lib.ListN.{length, take, drop, length-map}
+use lib.ListN.{length, take, drop, length-map, length-append}
 use Rattle.tables.specs.Text.{is_white, word, past_word, trim_start, lead, before}
 use Rattle.tables.proofs.Laws.{by_cases}
 use Rattle.reader.specs.declared.store.Entry.{Entry}
+use Rattle.reader.specs.declared.store.Entries.{Entries}
 use Rattle.reader.specs.Store.{put_all, entry_words}
 use Rattle.reader.specs.Pieces.{Out, and_then, out_all, raw_lines, tokens_at, prepend_token}
-use Rattle.reader.specs.PieceSteps.{piece, Emits}
+use Rattle.reader.specs.PieceSteps.{piece, Adds, Emits}
 use Rattle.reader.proofs.StoreLaws.{put_all_append}
 
 -- ---- steps
@@ -22,44 +23,55 @@ map_append f [] ys = refl
 map_append f (x ∷ xs) ys = ap (λ (l : List _). f x ∷ l) (map_append f xs ys)
 
 -- Entries put one run after another.
-pub put_run : (a n : ℕ) (l : List ℕ) (xs ys : List Entry) → put_all 4 l n (map (entry_words a) (xs ++ ys)) ≡ put_all 4 (put_all 4 l n (map (entry_words a) xs)) (n + length xs) (map (entry_words a) ys)
+put_run : (a n : ℕ) (l : List ℕ) (xs ys : List Entry) → put_all 4 l n (map (entry_words a) (xs ++ ys)) ≡ put_all 4 (put_all 4 l n (map (entry_words a) xs)) (n + length xs) (map (entry_words a) ys)
 put_run a n l xs ys =
     ap (put_all 4 l n) (map_append (entry_words a) xs ys)
     ∙ put_all_append 4 l n (map (entry_words a) xs) (map (entry_words a) ys)
     ∙ ap (λ (k : ℕ). put_all 4 (put_all 4 l n (map (entry_words a) xs)) (n + k) (map (entry_words a) ys)) (length-map xs (entry_words a))
 
--- A step that adds nothing.
-pub emits_none : {A : Type 0} (a n : ℕ) (l : List ℕ) (r : A) → Emits a n l l r (record { state = r; entries = [] })
-emits_none a n l r = record { answer = refl; words = refl }
+-- Entries added one run after another.
+pub adds_none : (l : Entries) → Adds l l []
+adds_none l = record { words = refl; count = sym (add-zero l.count); start = refl; lent = refl }
 
--- One step after another.
-pub emits_then : {A : Type 0} {a n m : ℕ} {l l' l'' : List ℕ} {r r' : A} {o p : Out A} → Emits a n l l' r o → m ≡ n + length o.entries → Emits a m l' l'' r' p → Emits a n l l'' r' (and_then o p)
-emits_then {A} {a} {n} {m} {l} {l'} {l''} {r} {r'} {o} {p} e em f =
+pub adds_then : {l l' l'' : Entries} {xs ys : List Entry} → Adds l l' xs → Adds l' l'' ys → Adds l l'' (xs ++ ys)
+adds_then {l} {l'} {l''} {xs} {ys} f g =
     record {
-      answer = f.answer;
-      words = f.words ∙ rw (e.words, em) (sym (put_run a n l o.entries p.entries));
+      words = g.words ∙ rw (f.words, f.count, f.start) (sym (put_run l.start l.count l.words.now xs ys));
+      count = rw length-append (omega (arith, f.count, g.count));
+      start = g.start ∙ f.start;
+      lent = g.lent ∙ f.lent;
     }
 
--- What is left of a run of steps: f over the rest, from the state s and the n-th entry on, leaves what f over all leaves from the start.
-pub record ToEmit {A B : Type 0} (f : A → B → Out A) (a n₀ : ℕ) (l₀ : List ℕ) (o : Out A) (l : List ℕ) (s : A) (n : ℕ) (rest : List B) : Type 0 where
-  pub answer : (out_all f s rest).state ≡ o.state
-  pub words : put_all 4 l n (map (entry_words a) (out_all f s rest).entries) ≡ put_all 4 l₀ n₀ (map (entry_words a) o.entries)
+-- A step that adds nothing.
+pub emits_none : {A : Type 0} (l : Entries) (r : A) → Emits l l r (record { state = r; entries = [] })
+emits_none l r = record { answer = refl; adds = adds_none l }
 
-pub to_emit : {A B : Type 0} (f : A → B → Out A) (a n : ℕ) (l : List ℕ) (s : A) (xs : List B) → ToEmit f a n l (out_all f s xs) l s n xs
-to_emit f a n l s xs = record { answer = refl; words = refl }
+-- One step after another.
+pub emits_then : {A : Type 0} {l l' l'' : Entries} {r r' : A} {o p : Out A} → Emits l l' r o → Emits l' l'' r' p → Emits l l'' r' (and_then o p)
+emits_then e f = record { answer = f.answer; adds = adds_then e.adds f.adds }
+
+-- What is left of a run of steps: f over the rest, from the state s and the entries l on, leaves what f over all leaves from the start.
+pub record ToEmit {A B : Type 0} (f : A → B → Out A) (l₀ : Entries) (o : Out A) (l : Entries) (s : A) (rest : List B) : Type 0 where
+  pub answer : (out_all f s rest).state ≡ o.state
+  pub adds : (l' : Entries) → Adds l l' (out_all f s rest).entries → Adds l₀ l' o.entries
+  pub start : l.start ≡ l₀.start
+
+pub to_emit : {A B : Type 0} (f : A → B → Out A) (l : Entries) (s : A) (xs : List B) → ToEmit f l (out_all f s xs) l s xs
+to_emit f l s xs = record { answer = refl; adds = λ l' h. h; start = refl }
 
 -- One step of the run.
-pub emitting : {A B : Type 0} {f : A → B → Out A} {a n₀ : ℕ} {l₀ : List ℕ} {o : Out A} {l : List ℕ} {s : A} {n : ℕ} {x : B} {rest : List B} {l' : List ℕ} {s' : A} {m : ℕ}
-    → ToEmit f a n₀ l₀ o l s n (x ∷ rest) → Emits a n l l' s' (f s x) → m ≡ n + length (f s x).entries → ToEmit f a n₀ l₀ o l' s' m rest
-emitting {A} {B} {f} {a} {n₀} {l₀} {o} {l} {s} {n} {x} {rest} {l'} {s'} {m} t e em =
+pub emitting : {A B : Type 0} {f : A → B → Out A} {l₀ : Entries} {o : Out A} {l : Entries} {s : A} {x : B} {rest : List B} {l' : Entries} {s' : A}
+    → ToEmit f l₀ o l s (x ∷ rest) → Emits l l' s' (f s x) → ToEmit f l₀ o l' s' rest
+emitting {A} {B} {f} {l₀} {o} {l} {s} {x} {rest} {l'} {s'} t e =
     record {
       answer = rw e.answer t.answer;
-      words = rw (e.words, em, e.answer) (sym (put_run a n l (f s x).entries (out_all f (f s x).state rest).entries) ∙ t.words);
+      adds = λ l'' h. t.adds l'' (adds_then e.adds (rw e.answer at h));
+      start = e.adds.start ∙ t.start;
     }
 
 -- The run's end.
-pub emitted : {A B : Type 0} {f : A → B → Out A} {a n₀ : ℕ} {l₀ : List ℕ} {o : Out A} {l : List ℕ} {s : A} {n : ℕ} → ToEmit f a n₀ l₀ o l s n [] → Emits a n₀ l₀ l s o
-emitted t = record { answer = t.answer; words = t.words }
+pub emitted : {A B : Type 0} {f : A → B → Out A} {l₀ : Entries} {o : Out A} {l : Entries} {s : A} → ToEmit f l₀ o l s [] → Emits l₀ l s o
+emitted {l = l} t = record { answer = t.answer; adds = t.adds l (adds_none l) }
 
 -- ---- tokens
 

@@ -12,7 +12,7 @@ use lib.Seq.{take_at, drop_at, length-take-le}
 use borrow.Author.Tests.{eqb-true, eqb-false, ne_eqb}
 use Rattle.tables.specs.declared.letters.Conventions.{Conventions}
 use Rattle.tables.specs.Text.{lead}
-use Rattle.tables.specs.Tables.{TableReading, holds, refuses, gathered}
+use Rattle.tables.specs.Tables.{TableReading, gathered}
 use Rattle.tables.proofs.Laws.{by_cases}
 use Rattle.reader.specs.declared.store.Entry.{Entry}
 use Rattle.reader.specs.declared.tag.Span.{Span}
@@ -45,6 +45,7 @@ use Rattle.reader.proofs.PlainLaws.{force_is}
 use Rattle.reader.proofs.PlainWords.{entries_within, within_items}
 use Rattle.reader.proofs.PlainSizes.{bytes_few}
 use Rattle.reader.proofs.PlainSteps.{HoldsOfRecord}
+use Rattle.std.specs.Prelude.{Ok, Err}
 
 -- The bytes of the annotations among entries.
 abbrev annotation_one : Entry → ℕ
@@ -171,11 +172,11 @@ closed_holds c r s es n h =
     (λ g.
     chosen P v.tricks.any
     (with_sections b b.table b.auction (record { first = s.n + 1; count = (last_trick v.tricks).state.count; seat = o.seat; end = v.tricks.end }) b.contract) b (λ j. old) (λ j. old))
-    (λ g. chosen P v.rows.fault b (rows_closed b (gathered v.rows.cells.tricks)) (λ j. old) (λ j. rows_hold b (gathered v.rows.cells.tricks) old))))
+    (λ g. chosen P v.rows.fault b (rows_closed b (gathered v.rows.cells)) (λ j. old) (λ j. rows_hold b (gathered v.rows.cells) old))))
   where
     rows_hold : {n : ℕ} {xs : List Entry} (b : Board) (g : TableReading) → Within n xs b.auction → Within n xs (rows_closed b g).auction
-    rows_hold b (holds cells) h = h
-    rows_hold b (refuses f) h = h
+    rows_hold b (Ok cells) h = h
+    rows_hold b (Err f) h = h
 
 together_holds : (r : List ℕ) (s : State) (o k : Out State) → Holding r s o → Holding r o.state k → Holding r s (and_then o k)
 together_holds r s o k a b =

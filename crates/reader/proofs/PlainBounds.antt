@@ -8,15 +8,11 @@ use lib.Dec.{leb, ltb, eqb}
 use lib.ListN.{length, set, length-set}
 use borrow.Author.Tests.{eqb-true, ltb-false, le-leb}
 use Rattle.tables.specs.declared.letters.Conventions.{Conventions}
-use Rattle.tables.specs.declared.numbers.Number.{Number}
-use Rattle.tables.specs.declared.numbers.Number.TheVariants.{Value, Bad}
-use Rattle.tables.specs.declared.dd.Row.{Row}
-use Rattle.tables.specs.declared.dd.Row.TheVariants.{Blank as BlankRow, Cell, Fault}
 use Rattle.tables.specs.declared.refusal.Refusal.TheVariants.{Declarer, Denomination, Over}
 use Rattle.tables.specs.Text.{fields, first_character}
-use Rattle.tables.specs.Numbers.{number_of}
+use Rattle.tables.specs.Numbers.{Number, number_of}
 use Rattle.tables.specs.Letters.{every, seat_of, strain_of}
-use Rattle.tables.specs.Tables.{cell_of, result_row, strain_row, fields_row, row_with, row_of, missing, gathered}
+use Rattle.tables.specs.Tables.{cell_of, result_row, strain_row, fields_row, row_with, row_of, missing, gathered, gives, Row}
 use Rattle.tables.proofs.Laws.{by_cases, both}
 use Rattle.reader.specs.declared.tag.Span.{Span}
 use Rattle.reader.specs.declared.tag.Tag.{Tag as TagPlaces}
@@ -39,6 +35,7 @@ use Rattle.reader.specs.Kept.{TableKept}
 use Rattle.reader.proofs.ApplyBounds.{IdentityLow, DealSized, Bounded, no_board_bounded, applied_bounded}
 use Rattle.reader.proofs.Counts.{chosen}
 use Rattle.reader.proofs.PlainSteps.{board_cases, closed_leaves, HoldsOfRecord}
+use Rattle.std.specs.Prelude.{Some, None, Ok, Err}
 
 -- ---- rows
 
@@ -47,25 +44,25 @@ abbrev is_cell : ℕ → Bool
 is_cell x = eqb x 255 || leb x 13
 
 abbrev SmallRow : Row → Type 0
-SmallRow BlankRow = Unit {0}
-SmallRow (Cell k v) = is_cell v ≡ true
-SmallRow (Fault f) = Unit {0}
+SmallRow (Ok None) = Unit {0}
+SmallRow (Ok (Some x)) = is_cell x.tricks ≡ true
+SmallRow (Err f) = Unit {0}
 
 or_last : (b c : Bool) → c ≡ true → (b || c) ≡ true
 or_last true c e = refl
 or_last false c e = e
 
 result_small : (n cell : ℕ) (m : Number) → SmallRow (result_row n cell m)
-result_small n cell Bad = tt
-result_small n cell (Value v) =
-    chosen SmallRow (ltb 13 v) (Fault (Over n)) (Cell cell v) (λ t. tt) (λ t. or_last (eqb v 255) (leb v 13) (le-leb v 13 (ltb-false 13 v t)))
+result_small n cell None = tt
+result_small n cell (Some v) =
+    chosen SmallRow (ltb 13 v) (Err (Over n)) (gives cell v) (λ t. tt) (λ t. or_last (eqb v 255) (leb v 13) (le-leb v 13 (ltb-false 13 v t)))
 
 fields_small : (c : Conventions) (n : ℕ) (d s t : List ℕ) → SmallRow (fields_row c n d s t)
 unfolding fields_row
 fields_small c n d s t =
     let seat = seat_of c (first_character d) in
-    chosen SmallRow (ltb 3 seat) (Fault (Declarer n)) (strain_row n seat (strain_of c s) t) (λ e. tt)
-    (λ e. chosen SmallRow (ltb 4 (strain_of c s)) (Fault (Denomination n)) (result_row n (cell_of seat (strain_of c s)) (number_of 255 t)) (λ f. tt) (λ f. result_small n (cell_of seat (strain_of c s)) (number_of 255 t)))
+    chosen SmallRow (ltb 3 seat) (Err (Declarer n)) (strain_row n seat (strain_of c s) t) (λ e. tt)
+    (λ e. chosen SmallRow (ltb 4 (strain_of c s)) (Err (Denomination n)) (result_row n (cell_of seat (strain_of c s)) (number_of 255 t)) (λ f. tt) (λ f. result_small n (cell_of seat (strain_of c s)) (number_of 255 t)))
 
 with_small : (c : Conventions) (n : ℕ) (fs : List (List ℕ)) → SmallRow (row_with c n fs)
 with_small c n [] = tt
@@ -84,13 +81,13 @@ set_cells (x ∷ xs) zero v h e = rw (h, (both (is_cell x) (every is_cell xs) e)
 set_cells (x ∷ xs) (suc k) v h e = let z = both (is_cell x) (every is_cell xs) e in rw (z.0, set_cells xs k v h z.1)
 
 record RowsIn (w : Rows) : Type 0 where
-  twenty : length w.cells.tricks ≡ 20
-  cells_in : every is_cell w.cells.tricks ≡ true
+  twenty : length w.cells ≡ 20
+  cells_in : every is_cell w.cells ≡ true
 
 stored_in : (r : Row) (w : Rows) → SmallRow r → RowsIn w → RowsIn (row_stored r w)
-stored_in BlankRow w s h = h
-stored_in (Cell k v) w s h = record { twenty = length-set w.cells.tricks k v ∙ h.twenty; cells_in = set_cells w.cells.tricks k v s h.cells_in }
-stored_in (Fault f) w s h = record { twenty = h.twenty; cells_in = h.cells_in }
+stored_in (Ok None) w s h = h
+stored_in (Ok (Some x)) w s h = record { twenty = length-set w.cells x.place x.tricks ∙ h.twenty; cells_in = set_cells w.cells x.place x.tricks s h.cells_in }
+stored_in (Err f) w s h = record { twenty = h.twenty; cells_in = h.cells_in }
 
 rowed_in : (c : Conventions) (w : Rows) (q : Piece) → RowsIn w → RowsIn (rowed_piece c w q)
 unfolding rowed_piece
@@ -127,10 +124,10 @@ none_missing (x ∷ xs) e m =
 
 -- ---- a section that closes
 
-rows_kept : (b : Board) (w : Rows) → RowsIn w → TableKept b.table → TableKept (rows_closed b (gathered w.cells.tricks)).table
+rows_kept : (b : Board) (w : Rows) → RowsIn w → TableKept b.table → TableKept (rows_closed b (gathered w.cells)).table
 unfolding gathered
 rows_kept b w i h =
-    let l = w.cells.tricks in
+    let l = w.cells in
     by_cases (eqb (missing l) 0)
     (λ e. rw e (record { kind_low = omega arith; twenty = i.twenty; cells_low = none_missing l i.cells_in (eqb-true (missing l) 0 e); none_zero = λ k. absurd (omega arith) }))
     (λ e. rw e h)

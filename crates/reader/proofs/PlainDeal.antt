@@ -11,11 +11,10 @@ use Rattle.tables.specs.declared.letters.Conventions.{Conventions}
 use Rattle.tables.specs.Text.{trimmed}
 use Rattle.tables.proofs.Laws.{by_cases, clash}
 use Rattle.reader.specs.declared.deal.Hands.{Hands}
-use Rattle.reader.specs.declared.deal.DealRead.{DealRead}
-use Rattle.reader.specs.declared.deal.DealRead.TheVariants.{Dealt, NoDeal}
+use Rattle.std.specs.Prelude.{Some, None}
 use Rattle.reader.specs.declared.board.DealCard.{DealCard}
 use Rattle.reader.specs.Names.{tag_number}
-use Rattle.reader.specs.Deals.{deal_of, hand_words, hands_of_words, Proper, card_count, ones}
+use Rattle.reader.specs.Deals.{DealRead, deal_of, hand_words, hands_of_words, Proper, card_count, ones}
 use Rattle.reader.specs.Boards.{deal_read, deal_by, is_unparsed, is_kept, applied, no_board, record_out}
 use Rattle.reader.specs.Plain.{TagPair, PlainBoard, plain_of}
 use Rattle.reader.specs.Kept.{after, kept_by, hands_read, hands_by, last_hands, deal_kind, words_kept, DealKept}
@@ -60,8 +59,8 @@ unparsed_kind (some h) v = refl
 
 read_tells : (k : DealRead) (value : List ℕ) (d : DealCard) (o : Option Hands) (v : Option (List ℕ)) → Tells d o v
     → Tells (deal_read k value d) (hands_read k o) (cond (is_unparsed k value) (some value) v)
-read_tells (Dealt h) value d o v t = record { kind_is = rw t.kind_is (parsed_kind h o v); words_are = refl }
-read_tells NoDeal value d o v t =
+read_tells (Some h) value d o v t = record { kind_is = rw t.kind_is (parsed_kind h o v); words_are = refl }
+read_tells None value d o v t =
     by_cases (eqb (length (trimmed value)) 0)
     (λ e. rw e t)
     (λ e. rw e (record { kind_is = sym (unparsed_kind o value); words_are = t.words_are }))
@@ -85,8 +84,8 @@ ProperIn nothing = Unit {0}
 ProperIn (some h) = Proper h
 
 read_proper : (c : Conventions) (value : List ℕ) (k : DealRead) (o : Option Hands) → deal_of c value ≡ k → ProperIn o → ProperIn (hands_read k o)
-read_proper c value (Dealt h) o e p = DealProper c value e
-read_proper c value NoDeal o e p = p
+read_proper c value (Some h) o e p = DealProper c value e
+read_proper c value None o e p = p
 
 after_proper : (c : Conventions) (ts : List TagPair) (o : Option Hands) → ProperIn o → ProperIn (after (hands_by c) o ts)
 after_proper c [] o p = p
@@ -117,13 +116,13 @@ words_again (some h) = ap hand_words (HandsBack h)
 
 -- ---- the value that is kept unparsed
 
-no_deal : (c : Conventions) (v : List ℕ) → is_kept c 4 v ≡ true → deal_of c v ≡ NoDeal
+no_deal : (c : Conventions) (v : List ℕ) → is_kept c 4 v ≡ true → deal_of c v ≡ None
 unfolding is_kept
 no_deal c v e = unparsed (deal_of c v) e
   where
-    unparsed : (k : DealRead) → is_unparsed k v ≡ true → k ≡ NoDeal
-    unparsed (Dealt h) e = clash e
-    unparsed NoDeal e = refl
+    unparsed : (k : DealRead) → is_unparsed k v ≡ true → k ≡ None
+    unparsed (Some h) e = clash e
+    unparsed None e = refl
 
 -- THEOREM. The deal of a plain board is what document 01 says of words 9 to 17.
 pub PlainDealKept : (c : Conventions) (r : List ℕ) → DealKept c (plain_of c r)

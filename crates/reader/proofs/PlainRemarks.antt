@@ -16,16 +16,13 @@ use Rattle.tables.proofs.Laws.{by_cases, both, either, neither, clash}
 use Rattle.reader.specs.declared.store.Entry.{Entry}
 use Rattle.reader.specs.declared.tag.Span.{Span}
 use Rattle.reader.specs.declared.tag.Tag.{Tag as TagPlaces}
-use Rattle.reader.specs.declared.tag.TagLine.{TagLine}
-use Rattle.reader.specs.declared.tag.TagLine.TheVariants.{NoTag, Plain as PlainTag, WithComment as CommentTag}
-use Rattle.reader.specs.declared.tag.Split.{Split}
-use Rattle.reader.specs.declared.tag.Split.TheVariants.{Data as DataTag, NoData}
+use Rattle.std.specs.Prelude.{Some, None}
 use Rattle.reader.specs.declared.line.Line.{Line}
 use Rattle.reader.specs.declared.line.Line.TheVariants.{Blank, Brace, Directive, Tag as TagOn, Data}
 use Rattle.reader.specs.declared.line.TagReading.{TagReading}
 use Rattle.reader.specs.declared.line.TagReading.TheVariants.{Plain, WithComment, WithData}
 use Rattle.reader.specs.declared.board.State.{State}
-use Rattle.reader.specs.Tag.{cut, trim_span, is_comment, tag_line, split_of}
+use Rattle.reader.specs.Tag.{TagLine, Split, cut, trim_span, is_comment, tag_line, split_of}
 use Rattle.reader.specs.TagBytes.{close, behind, unquote, filled, comment_bytes, TagBytes, tag_bytes, read_tag}
 use Rattle.reader.specs.Lines.{is_blank, has_brace, last_brace, split_as, split_line, bracket_as, bracket_line, line_kind}
 use Rattle.reader.specs.LineSteps.{LinePlaced, ReadingPlaced}
@@ -91,14 +88,14 @@ wrong : {P : Type 0} → ◌≡◌ {A = ℕ} 0 1 → P
 wrong e = absurd (omega arith)
 
 split_no_directive : {P : Type 0} (x : Split) {d : Span} → split_as x ≡ Directive d → P
-split_no_directive NoData e = wrong cc
-split_no_directive (DataTag t g) e = wrong cc
+split_no_directive None e = wrong cc
+split_no_directive (Some (t, g)) e = wrong cc
 
 bracket_no_directive : {P : Type 0} (x : TagLine) (l : List ℕ) {d : Span} → bracket_as x l ≡ Directive d → P
 unfolding split_line
-bracket_no_directive NoTag l e = split_no_directive (split_of l) e
-bracket_no_directive (PlainTag t) l e = wrong cc
-bracket_no_directive (CommentTag t g) l e = wrong cc
+bracket_no_directive None l e = split_no_directive (split_of l) e
+bracket_no_directive (Some (t, None)) l e = wrong cc
+bracket_no_directive (Some (t, Some g)) l e = wrong cc
 
 directive_good : (l : List ℕ) (d : Span) → feed_last l ≡ true → line_kind l ≡ Directive d → good_directive (cut d l) ≡ true
 unfolding line_kind bracket_line
@@ -154,14 +151,14 @@ read_comment m x h e q =
 
 -- The line of such a tag.
 split_no_comment : {P : Type 0} (x : Split) {t : TagPlaces} {d : Span} → split_as x ≡ TagOn (WithComment t d) → P
-split_no_comment NoData e = wrong cc
-split_no_comment (DataTag u g) {t} {d} e = let z : WithData u g ≡ WithComment t d = cc in wrong cc
+split_no_comment None e = wrong cc
+split_no_comment (Some (u, g)) {t} {d} e = let z : WithData u g ≡ WithComment t d = cc in wrong cc
 
 comment_by : (l : List ℕ) (t : TagPlaces) (d : Span) (x : TagLine) → feed_last l ≡ true → bracket_as x l ≡ TagOn (WithComment t d) → tag_bytes x l ≡ read_tag l → good_directive (cut d l) ≡ true
 unfolding split_line
-comment_by l t d NoTag h e f = split_no_comment (split_of l) e
-comment_by l t d (PlainTag u) h e f = let z : Plain u ≡ WithComment t d = cc in wrong cc
-comment_by l t d (CommentTag u g) h e f =
+comment_by l t d None h e f = split_no_comment (split_of l) e
+comment_by l t d (Some (u, None)) h e f = let z : Plain u ≡ WithComment t d = cc in wrong cc
+comment_by l t d (Some (u, Some g)) h e f =
     let z : WithComment u g ≡ WithComment t d = cc in
     let y : g ≡ d = cc in
     rw (← y) (read_comment (trimmed l) (cut g l) (no_feed l h) (TagTrimmed l ∙ sym f) refl)

@@ -10,7 +10,7 @@ use borrow.Author.Tests.{eqb-true}
 use Rattle.tables.specs.declared.letters.Conventions.{Conventions}
 use Rattle.tables.specs.Text.{lead, before}
 use Rattle.tables.proofs.Laws.{by_cases, either}
-use Rattle.tables.specs.Tables.{TableReading, holds, refuses, gathered}
+use Rattle.tables.specs.Tables.{TableReading, gathered}
 use Rattle.reader.specs.declared.store.Entry.{Entry}
 use Rattle.reader.specs.declared.tag.Span.{Span}
 use Rattle.reader.specs.declared.line.Line.{Line}
@@ -32,6 +32,7 @@ use Rattle.reader.proofs.AuctionLaws.{CallsInside}
 use Rattle.reader.proofs.PlayLaws.{TricksOnly, LastTrickOnly}
 use Rattle.reader.proofs.SectionLaws.{LineAt, line_at_lem}
 use Rattle.reader.proofs.Counts.{any, chosen, next_line_lem}
+use Rattle.std.specs.Prelude.{Ok, Err}
 
 -- ---- a section that closes adds calls, annotations and tricks alone
 
@@ -99,14 +100,14 @@ sections_leave : (b : Board) (table : TableCard) (auction play : Section) (trump
 sections_leave b table auction play trump = record { id_left = refl; deal_left = refl; values_left = refl; contract_left = refl }
 
 rows_leave : (b : Board) (x : TableReading) → Leaves b (rows_closed b x)
-rows_leave b (holds cells) = sections_leave b (record { kind = 2; cells = cells }) b.auction b.play b.trump
-rows_leave b (refuses f) = leaves_all b
+rows_leave b (Ok cells) = sections_leave b (record { kind = 2; cells = cells }) b.auction b.play b.trump
+rows_leave b (Err f) = leaves_all b
 
 -- What a closed section makes of a board: nothing, an auction, a play, or what its rows give.
 pub board_cases : (P : Board → Type 0) (b : Board) (o : Open) (n : ℕ) (w : Walk) → P b
     → ((a : Section) → P (with_sections b b.table a b.play b.trump))
     → ((a : Section) → P (with_sections b b.table b.auction a b.contract))
-    → P (rows_closed b (gathered w.rows.cells.tricks))
+    → P (rows_closed b (gathered w.rows.cells))
     → P (board_closed b o n w)
 board_cases P b o n w same auction play rows = go (eqb o.kind 1) (eqb o.kind 2) w.bidding.any w.tricks.any w.rows.fault
   where
@@ -120,7 +121,7 @@ board_cases P b o n w same auction play rows = go (eqb o.kind 1) (eqb o.kind 2) 
         → P
         (cond x (cond calls (with_sections b b.table called b.play b.trump) b)
         (cond y (cond cards (with_sections b b.table b.auction played b.contract) b)
-        (cond fault b (rows_closed b (gathered w.rows.cells.tricks)))))
+        (cond fault b (rows_closed b (gathered w.rows.cells)))))
     go true y true cards fault = auction called
     go true y false cards fault = same
     go false true calls true fault = play played
@@ -139,11 +140,11 @@ closed_leaves c r s =
     board_cases (Leaves b) b s.section s.n w.state (leaves_all b)
     (λ a. sections_leave b b.table a b.play b.trump)
     (λ a. sections_leave b b.table b.auction a b.contract)
-    (rows_leave b (gathered w.state.rows.cells.tricks)))
+    (rows_leave b (gathered w.state.rows.cells)))
 
 -- ---- steps
 
--- P p s q o is about a step of the record r from the state s, at the place p, that comes to o, at the place q. It holds of two steps
+-- P p s q o is about a step of the record r from the state s, at the place p, that comes to o, at the place q. It Ok of two steps
 -- together, of a section that closes, and of every kind of line.
 pub record Steps (c : Conventions) (r : List ℕ) (P : ℕ → State → ℕ → Out State → Type 0) : Type 0 where
   pub together : (p q z : ℕ) (s : State) (o k : Out State) → P p s q o → P q o.state z k → P p s z (and_then o k)
@@ -229,7 +230,7 @@ lines_step c r P h p s (l ∷ ls) i e =
     (line_step c r P h p s l (first_line r p l ls e))
     (lines_step c r P h (p + length l) o.state ls n.inside n.rest)
 
--- THEOREM. Such a P holds of a record, from its start to its end.
+-- THEOREM. Such a P Ok of a record, from its start to its end.
 pub HoldsOfRecord : (c : Conventions) (r : List ℕ) (P : ℕ → State → ℕ → Out State → Type 0) → Steps c r P → P 0 no_state (length r) (record_out c r)
 unfolding record_out
 HoldsOfRecord c r P h = lines_step c r P h 0 no_state (raw_lines r) (omega arith) refl

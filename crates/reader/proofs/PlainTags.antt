@@ -14,15 +14,12 @@ use Rattle.tables.proofs.Laws.{by_cases, both, clash}
 use Rattle.reader.specs.declared.store.Entry.{Entry}
 use Rattle.reader.specs.declared.tag.Span.{Span}
 use Rattle.reader.specs.declared.tag.Tag.{Tag as TagPlaces}
-use Rattle.reader.specs.declared.tag.TagLine.{TagLine}
-use Rattle.reader.specs.declared.tag.TagLine.TheVariants.{NoTag, Plain as PlainTag, WithComment as CommentTag}
-use Rattle.reader.specs.declared.tag.Split.{Split}
-use Rattle.reader.specs.declared.tag.Split.TheVariants.{Data as DataTag, NoData}
+use Rattle.std.specs.Prelude.{Some, None}
 use Rattle.reader.specs.declared.line.Line.TheVariants.{Blank, Brace, Directive, Tag as TagOn, Bracket, Data}
 use Rattle.reader.specs.declared.line.TagReading.{TagReading}
 use Rattle.reader.specs.declared.line.TagReading.TheVariants.{Plain, WithComment, WithData}
 use Rattle.reader.specs.declared.board.State.{State}
-use Rattle.reader.specs.Tag.{cut, tag_line, split_of}
+use Rattle.reader.specs.Tag.{TagLine, Split, cut, tag_line, split_of}
 use Rattle.reader.specs.TagSteps.{TagInside}
 use Rattle.reader.specs.TagBytes.{TagBytes, SplitBytes, tag_bytes, split_bytes}
 use Rattle.reader.specs.Lines.{is_blank, last_brace, split_as, split_line, bracket_as, bracket_line, kind_by, line_kind}
@@ -136,9 +133,9 @@ same_good n' v' a b g = rw (a, b) g
 
 module _ (l m : List ℕ) (h : among 10 m ≡ false) (r : TagReading) where
   split_line_good : (x y : Split) → split_as x ≡ TagOn r → split_bytes x l ≡ split_bytes y m → line_kind m ≡ split_as y → Good (cut (tag_in r).name l) (cut (tag_in r).value l)
-  split_line_good NoData y k e j = no_bracket k
-  split_line_good (DataTag t d) NoData k e j = never (sym e)
-  split_line_good (DataTag t d) (DataTag u g) k e j =
+  split_line_good None y k e j = no_bracket k
+  split_line_good (Some (t, d)) None k e j = never (sym e)
+  split_line_good (Some (t, d)) (Some (u, g)) k e j =
       let z : WithData t d ≡ r = cc in
       let w = some_inj e in
       rw (← z) (same_good (cut u.name m) (cut u.value m) (ap (λ (b : SplitBytes). b.name) w) (ap (λ (b : SplitBytes). b.value) w) (TagsGood m (WithData u g) h j))
@@ -146,24 +143,24 @@ module _ (l m : List ℕ) (h : among 10 m ≡ false) (r : TagReading) where
   tag_line_good : (x y : TagLine) → bracket_as x l ≡ TagOn r → tag_bytes x l ≡ tag_bytes y m → split_bytes (split_of l) l ≡ split_bytes (split_of m) m → line_kind m ≡ bracket_as y m
       → Good (cut (tag_in r).name l) (cut (tag_in r).value l)
   unfolding split_line
-  tag_line_good NoTag NoTag k e f j = split_line_good (split_of l) (split_of m) k f j
-  tag_line_good NoTag (PlainTag u) k e f j = never e
-  tag_line_good NoTag (CommentTag u d) k e f j = never e
-  tag_line_good (PlainTag t) NoTag k e f j = never (sym e)
-  tag_line_good (PlainTag t) (PlainTag u) k e f j =
+  tag_line_good None None k e f j = split_line_good (split_of l) (split_of m) k f j
+  tag_line_good None (Some (u, None)) k e f j = never e
+  tag_line_good None (Some (u, Some d)) k e f j = never e
+  tag_line_good (Some (t, None)) None k e f j = never (sym e)
+  tag_line_good (Some (t, None)) (Some (u, None)) k e f j =
       let z : Plain t ≡ r = cc in
       let w = some_inj e in
       rw (← z) (same_good (cut u.name m) (cut u.value m) (ap (λ (b : TagBytes). b.name) w) (ap (λ (b : TagBytes). b.value) w) (TagsGood m (Plain u) h j))
-  tag_line_good (PlainTag t) (CommentTag u d) k e f j =
+  tag_line_good (Some (t, None)) (Some (u, Some d)) k e f j =
       let z : Plain t ≡ r = cc in
       let w = some_inj e in
       rw (← z) (same_good (cut u.name m) (cut u.value m) (ap (λ (b : TagBytes). b.name) w) (ap (λ (b : TagBytes). b.value) w) (TagsGood m (WithComment u d) h j))
-  tag_line_good (CommentTag t g) NoTag k e f j = never (sym e)
-  tag_line_good (CommentTag t g) (PlainTag u) k e f j =
+  tag_line_good (Some (t, Some g)) None k e f j = never (sym e)
+  tag_line_good (Some (t, Some g)) (Some (u, None)) k e f j =
       let z : WithComment t g ≡ r = cc in
       let w = some_inj e in
       rw (← z) (same_good (cut u.name m) (cut u.value m) (ap (λ (b : TagBytes). b.name) w) (ap (λ (b : TagBytes). b.value) w) (TagsGood m (Plain u) h j))
-  tag_line_good (CommentTag t g) (CommentTag u d) k e f j =
+  tag_line_good (Some (t, Some g)) (Some (u, Some d)) k e f j =
       let z : WithComment t g ≡ r = cc in
       let w = some_inj e in
       rw (← z) (same_good (cut u.name m) (cut u.value m) (ap (λ (b : TagBytes). b.name) w) (ap (λ (b : TagBytes). b.value) w) (TagsGood m (WithComment u d) h j))

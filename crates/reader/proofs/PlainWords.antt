@@ -11,7 +11,7 @@ use lib.Seq.{take_at, drop_at, get_or-append-add, take-append-le, drop-append-le
 use borrow.Author.Tests.{eqb-true, eqb-false, ne_eqb}
 use Rattle.tables.specs.declared.letters.Conventions.{Conventions}
 use Rattle.tables.specs.Text.{lead}
-use Rattle.tables.specs.Tables.{TableReading, holds, refuses, gathered}
+use Rattle.tables.specs.Tables.{TableReading, gathered}
 use Rattle.tables.proofs.Laws.{by_cases}
 use Rattle.reader.specs.declared.store.Entry.{Entry}
 use Rattle.reader.specs.declared.tag.Span.{Span}
@@ -43,6 +43,7 @@ use Rattle.reader.proofs.Counts.{chosen, TextEntriesFew, EntriesFit}
 use Rattle.reader.proofs.Alike.{entries_in, entries_append}
 use Rattle.reader.proofs.PlainSteps.{HoldsOfRecord}
 use Rattle.reader.proofs.PlainLaws.{RecordHolds}
+use Rattle.std.specs.Prelude.{Ok, Err}
 
 -- ---- every word names an entry
 
@@ -87,14 +88,14 @@ module _ (s : State) (w : Walk) (m : ℕ) (k : walk_count w ≤ m) (h : Refers s
       (λ e. refers_more (omega arith) h)
 
   rows_refers : (g : TableReading) → Refers (s.n + m) (rows_closed s.board g)
-  rows_refers (holds cells) = record { values_in = more (omega arith) h.values_in; auction_in = section_more (omega arith) h.auction_in; play_in = section_more (omega arith) h.play_in }
-  rows_refers (refuses f) = refers_more (omega arith) h
+  rows_refers (Ok cells) = record { values_in = more (omega arith) h.values_in; auction_in = section_more (omega arith) h.auction_in; play_in = section_more (omega arith) h.play_in }
+  rows_refers (Err f) = refers_more (omega arith) h
 
   table_refers : Refers (s.n + m) (table_closed s.board w)
   table_refers =
-      chosen (λ x. Refers (s.n + m) x) w.rows.fault s.board (rows_closed s.board (gathered w.rows.cells.tricks))
+      chosen (λ x. Refers (s.n + m) x) w.rows.fault s.board (rows_closed s.board (gathered w.rows.cells))
       (λ e. refers_more (omega arith) h)
-      (λ e. rows_refers (gathered w.rows.cells.tricks))
+      (λ e. rows_refers (gathered w.rows.cells))
 
 closed_refers : (c : Conventions) (r : List ℕ) (s : State) → Refers s.n s.board → Refers (closed c r s).state.n (closed c r s).state.board
 unfolding closed

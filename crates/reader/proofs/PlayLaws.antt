@@ -14,10 +14,11 @@ use Rattle.reader.specs.declared.store.Entry.{Entry}
 use Rattle.reader.specs.declared.play.Slots.{Slots}
 use Rattle.reader.specs.declared.play.Tricks.{Tricks}
 use Rattle.reader.proofs.EntryLaws.{All, none, one, Trick, TokensInside, tokens_bytes, out_all_lem, out_few, out_count}
-use Rattle.reader.specs.Store.{put, entry_words}
+use Rattle.reader.specs.declared.store.Entries.{Entries}
+use Rattle.reader.proofs.PieceLaws.{adds_none, emits_none}
 use Rattle.reader.specs.Words.{card_named, section_end}
 use Rattle.reader.specs.Pieces.{Out, tokens_at, Piece}
-use Rattle.reader.specs.PieceSteps.{Emits}
+use Rattle.reader.specs.PieceSteps.{Adds, Emits}
 use Rattle.reader.specs.Play.{with_card, with_slot, slot_of, taking, new_trick, next_leader, trick_entry, opened, is_gap, played, played_bytes, one_more, last_trick, no_tricks, no_slots, weight, best_slot, winner_of, played_token, played_piece}
 use Rattle.reader.specs.TokenSteps.{Low, Seated, OpenTrick}
 
@@ -37,18 +38,6 @@ pub none_seated : Seated no_tricks
 none_seated = record { leader_low = omega arith; winner_low = omega arith; seat_low = omega arith; slots_low = record { a_low = omega arith; b_low = omega arith; c_low = omega arith; d_low = omega arith } }
 
 -- ---- slots, winners, new tricks
-
-pub slots_are : (s : Slots) (k v : ℕ) {a b c d : ℕ} → Low s → v ≤ 255 → a ≡ cond (eqb k 0) v s.a → b ≡ cond (eqb k 1) v s.b → c ≡ cond (eqb k 2) v s.c
-    → d ≡ cond (eqb k 3) v s.d → (◌≡◌ {A = Slots} (record { a = a; b = b; c = c; d = d }) (with_slot s k v)) × Low (record { a = a; b = b; c = c; d = d })
-slots_are s k v {a} {b} {c} {d} low h ea eb ec ed = (
-  rw (ea, eb, ec, ed),
-  record {
-    a_low = rw ea (cond_low (eqb k 0) v s.a 255 h low.a_low);
-    b_low = rw eb (cond_low (eqb k 1) v s.b 255 h low.b_low);
-    c_low = rw ec (cond_low (eqb k 2) v s.c 255 h low.c_low);
-    d_low = rw ed (cond_low (eqb k 3) v s.d 255 h low.d_low);
-  },
-)
 
 pub winner_is : (trump leader : ℕ) (s : Slots) {p q r t k : ℕ} → p ≡ weight trump (s.a / 13) s.a → q ≡ weight trump (s.a / 13) s.b → r ≡ weight trump (s.a / 13) s.c
     → t ≡ weight trump (s.a / 13) s.d → k ≡ best_slot p q r t → ((leader + k) % 4 ≡ winner_of trump leader s) × ((leader + k) % 4 ≤ 4)
@@ -135,11 +124,6 @@ played_grown c lead trump t bytes =
 count_of : {r q : Tricks} → r ≡ q → r.count ≡ q.count
 count_of e = ap (λ (x : Tricks). x.count) e
 
--- The place of the next entry after a token.
-pub next_trick_count : (c : Conventions) (lead trump : ℕ) (w : Tricks) (bytes : List ℕ) (base : ℕ) {r : Tricks} → r ≡ (played_bytes c lead trump w bytes).state
-    → base + r.count ≡ base + w.count + length (played_bytes c lead trump w bytes).entries
-next_trick_count c lead trump w bytes base e = omega (arith, count_of e, (played_grown c lead trump w bytes).count)
-
 pub next_trick_few : (c : Conventions) (lead trump : ℕ) (w : Tricks) (bytes : List ℕ) {r : Tricks} → r ≡ (played_bytes c lead trump w bytes).state → r.count ≤ w.count + 1
 next_trick_few c lead trump w bytes e = omega (arith, count_of e, (played_grown c lead trump w bytes).count, (played_grown c lead trump w bytes).few)
 
@@ -175,31 +159,30 @@ last_empty : (t : Tricks) → t.any ≡ false → last_trick t ≡ record { stat
 unfolding last_trick
 last_empty t e = cond_false t.any _ _ e
 
-pub open_full : (lead : ℕ) (t : Tricks) (a n : ℕ) {l l' : List ℕ} {r : Tricks} {m : ℕ} {x : Entry} → t.any ≡ true → t.seat ≡ 4 → x ≡ trick_entry t
-    → l' ≡ put 4 l n (entry_words a x) → m ≡ next_leader t.winner t.leader → r ≡ new_trick m t.end (t.count + 1) → Emits a n l l' r (opened lead t)
-open_full lead t a n {l} {l'} {r} {m} {x} ea es ex ew em er =
-    rw (opened_full lead t ea es) (record { answer = er ∙ rw em; words = ew ∙ rw ex })
+pub open_full : (lead : ℕ) (t : Tricks) {l l' : Entries} {r : Tricks} {m : ℕ} {x : Entry} → t.any ≡ true → t.seat ≡ 4 → x ≡ trick_entry t
+    → Adds l l' (x ∷ []) → m ≡ next_leader t.winner t.leader → r ≡ new_trick m t.end (t.count + 1) → Emits l l' r (opened lead t)
+open_full lead t ea es ex ew em er = rw (opened_full lead t ea es) (record { answer = er ∙ rw em; adds = rw ex at ew })
 
-pub open_same : (lead : ℕ) (t : Tricks) (a n : ℕ) {l : List ℕ} → t.any ≡ true → (t.seat ≡ 4 → ⊥) → Emits a n l l t (opened lead t)
-open_same lead t a n ea es = rw (opened_same lead t ea es) (record { answer = refl; words = refl })
+pub open_same : (lead : ℕ) (t : Tricks) {l : Entries} → t.any ≡ true → (t.seat ≡ 4 → ⊥) → Emits l l t (opened lead t)
+open_same lead t {l} ea es = rw (opened_same lead t ea es) (emits_none l t)
 
-pub open_first : (lead : ℕ) (t : Tricks) (a n : ℕ) {l : List ℕ} {r : Tricks} → t.any ≡ false → r ≡ new_trick lead t.end t.count → Emits a n l l r (opened lead t)
-open_first lead t a n ea er = rw (opened_first lead t ea) (record { answer = er; words = refl })
+pub open_first : (lead : ℕ) (t : Tricks) {l : Entries} {r : Tricks} → t.any ≡ false → r ≡ new_trick lead t.end t.count → Emits l l r (opened lead t)
+open_first lead t {l} ea er = rw (opened_first lead t ea) (record { answer = er; adds = adds_none l })
 
-pub play_stopped : (c : Conventions) (lead trump : ℕ) (t : Tricks) (bytes : List ℕ) (a n : ℕ) {l : List ℕ} → t.stopped ≡ true → Emits a n l l t (played_bytes c lead trump t bytes)
-play_stopped c lead trump t bytes a n es = rw (played_stopped c lead trump t bytes es) (record { answer = refl; words = refl })
+pub play_stopped : (c : Conventions) (lead trump : ℕ) (t : Tricks) (bytes : List ℕ) {l : Entries} → t.stopped ≡ true → Emits l l t (played_bytes c lead trump t bytes)
+play_stopped c lead trump t bytes {l} es = rw (played_stopped c lead trump t bytes es) (emits_none l t)
 
-pub play_on : (c : Conventions) (lead trump : ℕ) (t : Tricks) (bytes : List ℕ) (a n : ℕ) {l l' : List ℕ} {o r : Tricks} → t.stopped ≡ false
-    → Emits a n l l' o (opened lead t) → r ≡ played c lead trump o bytes → Emits a n l l' r (played_bytes c lead trump t bytes)
-play_on c lead trump t bytes a n {l} {l'} {o} {r} es e er =
-    rw (played_on c lead trump t bytes es) (record { answer = er ∙ ap (λ (x : Tricks). played c lead trump x bytes) e.answer; words = e.words })
+pub play_on : (c : Conventions) (lead trump : ℕ) (t : Tricks) (bytes : List ℕ) {l l' : Entries} {o r : Tricks} → t.stopped ≡ false
+    → Emits l l' o (opened lead t) → r ≡ played c lead trump o bytes → Emits l l' r (played_bytes c lead trump t bytes)
+play_on c lead trump t bytes es e er =
+    rw (played_on c lead trump t bytes es) (record { answer = er ∙ ap (λ (x : Tricks). played c lead trump x bytes) e.answer; adds = e.adds })
 
-pub last_stored : (t : Tricks) (a n : ℕ) {l l' : List ℕ} {r : Tricks} {x : Entry} → t.any ≡ true → x ≡ trick_entry t → l' ≡ put 4 l n (entry_words a x) → r ≡ one_more t
-    → Emits a n l l' r (last_trick t) × (r.count ≤ t.count + 1)
-last_stored t a n ea ex ew er = (rw (last_open t ea) (record { answer = er; words = ew ∙ rw ex }), omega (arith, count_of er))
+pub last_stored : (t : Tricks) {l l' : Entries} {r : Tricks} {x : Entry} → t.any ≡ true → x ≡ trick_entry t → Adds l l' (x ∷ []) → r ≡ one_more t
+    → Emits l l' r (last_trick t) × (r.count ≤ t.count + 1)
+last_stored t ea ex ew er = (rw (last_open t ea) (record { answer = er; adds = rw ex at ew }), omega (arith, count_of er))
 
-pub last_none : (t : Tricks) (a n : ℕ) {l : List ℕ} → t.any ≡ false → Emits a n l l t (last_trick t) × (t.count ≤ t.count + 1)
-last_none t a n ea = (rw (last_empty t ea) (record { answer = refl; words = refl }), omega arith)
+pub last_none : (t : Tricks) {l : Entries} → t.any ≡ false → Emits l l t (last_trick t) × (t.count ≤ t.count + 1)
+last_none t {l} ea = (rw (last_empty t ea) (emits_none l t), omega arith)
 
 -- ---- entries of a piece
 

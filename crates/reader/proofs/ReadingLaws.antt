@@ -2,16 +2,14 @@
 use Prim.Native.Nat.{ℕ, suc, ◌+◌, ◌-◌, ◌*◌, ◌≤◌}
 use mathlib.Core.Path.{◌≡◌, refl, sym, ap, ◌∙◌}
 use mathlib.Core.Bool.{Bool, true, false, cond}
-use mathlib.Core.List.{List, [], ◌∷◌, ◌++◌, map}
+use mathlib.Core.List.{List, [], ◌∷◌, ◌++◌}
 use native.Mathlib.Omega.{arith}
 use lib.Dec.{eqb, eqb-suc-suc}
 use lib.ListN.{length, length-append}
 use borrow.Author.Tests.{ne_eqb}
 use Rattle.tables.specs.Text.{is_white, lead}
 use Rattle.tables.specs.Letters.{every}
-use Rattle.tables.specs.declared.dd.TableRead.{TableRead}
-use Rattle.tables.specs.declared.dd.Decoded.TheVariants.{Table, Refused}
-use Rattle.tables.specs.Tables.{TableReading, holds, refuses, table_read}
+use Rattle.tables.specs.Tables.{TableReading}
 use Rattle.tables.proofs.Laws.{by_cases}
 use Rattle.tables.specs.declared.letters.Conventions.{Conventions}
 use Rattle.reader.specs.declared.board.Board.{Board}
@@ -24,95 +22,82 @@ use Rattle.reader.specs.declared.line.Line.{Line}
 use Rattle.reader.specs.declared.line.Line.TheVariants.{Blank, Brace, Directive, Tag as TagOn, Bracket, Data}
 use Rattle.reader.specs.Lines.{line_kind, has_brace}
 use Rattle.reader.specs.declared.play.Tricks.{Tricks}
-use Rattle.reader.specs.Store.{put, put_all, entry_words}
+use Rattle.reader.specs.declared.store.Entries.{Entries}
 use Rattle.reader.specs.Pieces.{Out, entry}
-use Rattle.reader.specs.PieceSteps.{Emits}
+use Rattle.reader.specs.PieceSteps.{Adds, Emits}
 use Rattle.reader.specs.Play.{last_trick}
 use Rattle.reader.specs.Sections.{walked_all}
 use Rattle.reader.specs.SectionSteps.{Walks, walk_count}
 use Rattle.reader.specs.Boards.{rows_closed, with_sections, board_closed, last_entries, closed_state, closed, is_all_white, with_commentary, counted_state, adding, directed, data_added, tag_line_out, blocked, braced, in_commentary, line_by, line_out}
 use Rattle.reader.specs.BoardSteps.{LastStored, unchanged, Sound, Stepped}
-use Rattle.reader.proofs.PieceLaws.{put_run}
+use Rattle.reader.proofs.PieceLaws.{adds_none, adds_then, emits_none}
 use Rattle.reader.proofs.PlayLaws.{last_counted}
 use Rattle.reader.proofs.TagStepLaws.{sound_later}
 use Rattle.reader.proofs.WalkLaws.{section_count}
+use Rattle.std.specs.Prelude.{Ok, Err}
 
 -- A text is all white where its lead is the whole of it.
 pub white_all : (s : List ℕ) → eqb (length (lead s)) (length s) ≡ every is_white s
 white_all [] = refl
 white_all (b ∷ bs) = by_cases (is_white b) (λ e. rw e (eqb-suc-suc (length (lead bs)) (length bs) ∙ white_all bs)) (λ e. rw e (ne_eqb 0 (suc (length bs)) (λ k. omega arith)))
 
--- A table that was gathered, and one that was refused.
-pub rows_taken : (b : Board) (g : TableReading) (read : TableRead) → read ≡ table_read g → read.answer ≡ Table → rows_closed b g ≡ with_sections b (record { kind = 2; cells = read.table }) b.auction b.play b.trump
-rows_taken b (holds cells) read e t = rw e
-rows_taken b (refuses f) read e t =
-    let k : Refused f ≡ Table = sym (ap (λ (x : TableRead). x.answer) e) ∙ t in
-    let z : ◌≡◌ {A = ℕ} 0 1 = cc in
-    absurd (omega arith)
-
-pub rows_refused : (b : Board) (g : TableReading) (read : TableRead) → read ≡ table_read g → (read.answer ≡ Table → ⊥) → rows_closed b g ≡ b
-rows_refused b (holds cells) read e t = absurd (t (ap (λ (x : TableRead). x.answer) e))
-rows_refused b (refuses f) read e t = refl
-
 -- ---- sections
 
 -- The last trick's entry stands behind the section's own.
-pub last_stored : (a n : ℕ) (w : Walk) (kind : ℕ) (l l' : List ℕ) (t : Tricks) → eqb kind 2 ≡ true → Emits a (n + w.bidding.count + w.tricks.count) l l' t (last_trick w.tricks)
-    → t.count ≤ w.tricks.count + 1 → LastStored a n kind w l l' (w.bidding.count + t.count)
-last_stored a n w kind l l' t k e few =
-    let d : n + w.bidding.count + w.tricks.count ≡ n + walk_count w = omega arith in
+pub last_stored : (w : Walk) (kind : ℕ) (l l' : Entries) (t : Tricks) → eqb kind 2 ≡ true → Emits l l' t (last_trick w.tricks)
+    → t.count ≤ w.tricks.count + 1 → LastStored kind w l l' (w.bidding.count + t.count)
+last_stored w kind l l' t k e few =
     let g = last_counted w.tricks in
     let f : t.count ≡ w.tricks.count + length (last_trick w.tricks).entries = rw e.answer g.count in
     record {
-      stored = rw k (rw d at e.words);
+      adds = rw k e.adds;
       counted = rw k (omega (arith, f));
       few = omega arith;
     }
 
-pub last_kept_lem : (a n : ℕ) (w : Walk) (kind : ℕ) (l : List ℕ) → eqb kind 2 ≡ false → LastStored a n kind w l l (w.bidding.count + w.tricks.count)
-last_kept_lem a n w kind l k = record { stored = rw k; counted = rw k (omega arith); few = omega arith }
+pub last_kept_lem : (w : Walk) (kind : ℕ) (l : Entries) → eqb kind 2 ≡ false → LastStored kind w l l (w.bidding.count + w.tricks.count)
+last_kept_lem w kind l k = record { adds = rw k (adds_none l); counted = rw k (omega arith); few = omega arith }
 
 -- A section is closed: what the walk stored, what the last trick added, and the board.
-pub section_closed : (c : Conventions) (r : List ℕ) (s : State) (a base most : ℕ) (l l₁ l₂ : List ℕ) (w : Walk) (k : ℕ) (b : Board) (t : State)
+pub section_closed : (c : Conventions) (r : List ℕ) (s : State) (most : ℕ) (l l₁ l₂ : Entries) (w : Walk) (k : ℕ) (b : Board) (t : State)
     → eqb s.section.kind 0 ≡ false
-    → Walks a (base + s.n) most l l₁ w (walked_all c r s.section s.board.contract)
-    → LastStored a (base + s.n) s.section.kind w l₁ l₂ k
+    → Walks most l l₁ w (walked_all c r s.section s.board.contract)
+    → LastStored s.section.kind w l₁ l₂ k
     → b ≡ board_closed s.board s.section s.n w → t ≡ closed_state s b k → most ≤ 6 * length r
-    → Emits a (base + s.n) l l₂ t (closed c r s) × (t.n ≤ s.n + 6 * length r + 1)
+    → Emits l l₂ t (closed c r s) × (t.n ≤ s.n + 6 * length r + 1)
 unfolding closed
-section_closed c r s a base most l l₁ l₂ w k b t z e g eb et h =
+section_closed c r s most l l₁ l₂ w k b t z e g eb et h =
     let ws = walked_all c r s.section s.board.contract in
     let en : walk_count w ≡ length ws.entries = ap walk_count e.emits.answer ∙ section_count c r s.section s.board.contract in
     let ek : k ≡ length (ws.entries ++ last_entries s.section.kind ws.state) =
     g.counted ∙ rw (en, e.emits.answer) (sym (length-append ws.entries (last_entries s.section.kind ws.state))) in
-    let words : l₂ ≡ put_all 4 l (base + s.n) (map (entry_words a) (ws.entries ++ last_entries s.section.kind ws.state)) =
-    g.stored ∙ rw (en, e.emits.answer, e.emits.words) (sym (put_run a (base + s.n) l ws.entries (last_entries s.section.kind ws.state))) in (
-      record { answer = rw z (et ∙ rw (eb, e.emits.answer, ek)); words = rw z words },
+    let adds : Adds l l₂ (ws.entries ++ last_entries s.section.kind ws.state) = adds_then e.emits.adds (rw e.emits.answer at g.adds) in (
+      record { answer = rw z (et ∙ rw (eb, e.emits.answer, ek)); adds = rw z adds },
       omega (arith, g.few, e.few, ap (λ (x : State). x.n) et),
     )
 
 -- There is none to close.
-pub section_none : (c : Conventions) (r : List ℕ) (s : State) (a n : ℕ) (l : List ℕ) → eqb s.section.kind 0 ≡ true → Emits a n l l s (closed c r s)
+pub section_none : (c : Conventions) (r : List ℕ) (s : State) (l : Entries) → eqb s.section.kind 0 ≡ true → Emits l l s (closed c r s)
 unfolding closed
-section_none c r s a n l z = record { answer = rw z; words = rw z }
+section_none c r s l z = rw z (emits_none l s)
 
 -- ---- commentary
 
-pub block_none : (r : List ℕ) (s next t : State) (i j a n : ℕ) (l : List ℕ) → is_all_white r i j ≡ true → next ≡ with_commentary s false 0 → t ≡ counted_state next 0 → Emits a n l l t (blocked r s i j)
+pub block_none : (r : List ℕ) (s next t : State) (i j : ℕ) (l : Entries) → is_all_white r i j ≡ true → next ≡ with_commentary s false 0 → t ≡ counted_state next 0 → Emits l l t (blocked r s i j)
 unfolding blocked
-block_none r s next t i j a n l e en et = record { answer = rw e (et ∙ rw en); words = rw e }
+block_none r s next t i j l e en et = record { answer = rw e (et ∙ rw en); adds = rw e (adds_none l) }
 
-pub block_some : (r : List ℕ) (s next t : State) (i j a n : ℕ) (l l' : List ℕ) → is_all_white r i j ≡ false → next ≡ with_commentary s false 0 → t ≡ counted_state next 1
-    → l' ≡ put 4 l n (entry_words a (entry 4 i (j - i) s.tags)) → Emits a n l l' t (blocked r s i j)
+pub block_some : (r : List ℕ) (s next t : State) (i j : ℕ) (l l' : Entries) → is_all_white r i j ≡ false → next ≡ with_commentary s false 0 → t ≡ counted_state next 1
+    → Adds l l' (entry 4 i (j - i) s.tags ∷ []) → Emits l l' t (blocked r s i j)
 unfolding blocked
-block_some r s next t i j a n l l' e en et ew = record { answer = rw e (et ∙ rw en); words = rw e ew }
+block_some r s next t i j l l' e en et ew = record { answer = rw e (et ∙ rw en); adds = rw e ew }
 
 -- A block that was closed leaves none open.
-pub block_zero : (r : List ℕ) (s t : State) (i j a n : ℕ) {l l' : List ℕ} → Emits a n l l' t (blocked r s i j) → t.block ≡ 0
+pub block_zero : (r : List ℕ) (s t : State) (i j : ℕ) {l l' : Entries} → Emits l l' t (blocked r s i j) → t.block ≡ 0
 unfolding blocked
-block_zero r s t i j a n e = ap (λ (x : State). x.block) e.answer
+block_zero r s t i j e = ap (λ (x : State). x.block) e.answer
 
--- A line that holds nothing, and one inside commentary.
+-- A line that Ok nothing, and one inside commentary.
 pub quiet_commentary : (r : List ℕ) (s : State) (p : ℕ) (l : List ℕ) → s.commentary ≡ true → cond s.commentary (in_commentary r s p l) (unchanged s) ≡ in_commentary r s p l
 quiet_commentary r s p l e = ap (λ (b : Bool). cond b (in_commentary r s p l) (unchanged s)) e
 
@@ -161,9 +146,9 @@ sound_commentary {p} {s} t k q h e g =
       block_before = g;
     }
 
-module _ (c : Conventions) (r : List ℕ) (s : State) (p : ℕ) (l : List ℕ) (a n : ℕ) (ok : Sound p s) where
-  skipped : {w : List ℕ} {o : Out State} → o ≡ record { state = s; entries = [] } → Stepped a n (p + length l) w w s o
-  skipped e = rw e (record { emits = record { answer = refl; words = refl }; sound = sound_later (omega arith) ok })
+module _ (c : Conventions) (r : List ℕ) (s : State) (p : ℕ) (l : List ℕ) (ok : Sound p s) where
+  skipped : {w : Entries} {o : Out State} → o ≡ record { state = s; entries = [] } → Stepped (p + length l) w w s o
+  skipped {w} e = rw e (record { emits = emits_none w s; sound = sound_later (omega arith) ok })
 
   out_plain : (k : Line) → s.commentary ≡ false → line_kind l ≡ k → line_out c r s p l ≡ line_by c r s p l k
   unfolding line_out
@@ -175,10 +160,10 @@ module _ (c : Conventions) (r : List ℕ) (s : State) (p : ℕ) (l : List ℕ) (
   out_commentary e = ap (λ (b : Bool). cond b (in_commentary r s p l) (line_by c r s p l (line_kind l))) e
 
   -- `[` lines that are no tags.
-  pub line_bracket : {w : List ℕ} → s.commentary ≡ false → line_kind l ≡ Bracket → Stepped a n (p + length l) w w s (line_out c r s p l)
+  pub line_bracket : {w : Entries} → s.commentary ≡ false → line_kind l ≡ Bracket → Stepped (p + length l) w w s (line_out c r s p l)
   line_bracket e k = skipped (out_plain Bracket e k)
 
-  added : {w w' : List ℕ} {t : State} (es : List Entry) → Emits a n w w' t (adding s es) → Stepped a n (p + length l) w w' t (adding s es)
+  added : {w w' : Entries} {t : State} (es : List Entry) → Emits w w' t (adding s es) → Stepped (p + length l) w w' t (adding s es)
   added {w} {w'} {t} es e =
       record {
         emits = e;
@@ -186,37 +171,37 @@ module _ (c : Conventions) (r : List ℕ) (s : State) (p : ℕ) (l : List ℕ) (
       }
 
   -- Directives and data.
-  pub line_directed : {w w' : List ℕ} {t : State} (d : Span) → s.commentary ≡ false → line_kind l ≡ Directive d → Emits a n w w' t (directed s p d) → Stepped a n (p + length l) w w' t (line_out c r s p l)
+  pub line_directed : {w w' : Entries} {t : State} (d : Span) → s.commentary ≡ false → line_kind l ≡ Directive d → Emits w w' t (directed s p d) → Stepped (p + length l) w w' t (line_out c r s p l)
   line_directed d e k g = rw (out_plain (Directive d) e k) (added _ g)
 
-  pub line_data : {w w' : List ℕ} {t : State} (d : Span) → s.commentary ≡ false → line_kind l ≡ Data d → Emits a n w w' t (data_added s p d) → Stepped a n (p + length l) w w' t (line_out c r s p l)
+  pub line_data : {w w' : Entries} {t : State} (d : Span) → s.commentary ≡ false → line_kind l ≡ Data d → Emits w w' t (data_added s p d) → Stepped (p + length l) w w' t (line_out c r s p l)
   line_data d e k g = rw (out_plain (Data d) e k) (added _ g)
 
   -- A tag.
-  pub line_tag : {w w' : List ℕ} {t : State} (x : TagReading) → s.commentary ≡ false → line_kind l ≡ TagOn x → Stepped a n (p + length l) w w' t (tag_line_out c r s p l x) → Stepped a n (p + length l) w w' t (line_out c r s p l)
+  pub line_tag : {w w' : Entries} {t : State} (x : TagReading) → s.commentary ≡ false → line_kind l ≡ TagOn x → Stepped (p + length l) w w' t (tag_line_out c r s p l x) → Stepped (p + length l) w w' t (line_out c r s p l)
   line_tag x e k g = rw (out_plain (TagOn x) e k) g
 
   -- Commentary leaves the section as it was.
-  commentary_step : {w w' : List ℕ} {t : State} {o : Out State} → Emits a n w w' t o → o.state.section ≡ s.section → t.block ≤ p + length l + 1 → Stepped a n (p + length l) w w' t o
+  commentary_step : {w w' : Entries} {t : State} {o : Out State} → Emits w w' t o → o.state.section ≡ s.section → t.block ≤ p + length l + 1 → Stepped (p + length l) w w' t o
   commentary_step {w} {w'} {t} e es eb = record { emits = e; sound = sound_commentary t ok (p + length l) (omega arith) (rw e.answer es) eb }
 
   brace_kept : (braced r s p l).state.section ≡ s.section
   unfolding braced blocked
   brace_kept = by_cases (has_brace l) (λ b. rw b) (λ b. rw b)
 
-  pub line_braced : {w w' : List ℕ} {t : State} → s.commentary ≡ false → line_kind l ≡ Brace → Emits a n w w' t (braced r s p l) → t.block ≤ p + length l + 1 → Stepped a n (p + length l) w w' t (line_out c r s p l)
+  pub line_braced : {w w' : Entries} {t : State} → s.commentary ≡ false → line_kind l ≡ Brace → Emits w w' t (braced r s p l) → t.block ≤ p + length l + 1 → Stepped (p + length l) w w' t (line_out c r s p l)
   line_braced {w} {w'} {t} e k g h = rw (out_plain Brace e k) (commentary_step g brace_kept h)
 
   commentary_kept : (in_commentary r s p l).state.section ≡ s.section
   unfolding in_commentary blocked
   commentary_kept = by_cases (has_brace l) (λ b. rw b) (λ b. rw b)
 
-  pub line_commentary : {w w' : List ℕ} {t : State} → s.commentary ≡ true → Emits a n w w' t (in_commentary r s p l) → t.block ≤ p + 1 → Stepped a n (p + length l) w w' t (line_out c r s p l)
+  pub line_commentary : {w w' : Entries} {t : State} → s.commentary ≡ true → Emits w w' t (in_commentary r s p l) → t.block ≤ p + 1 → Stepped (p + length l) w w' t (line_out c r s p l)
   line_commentary {w} {w'} {t} e g h = rw (out_commentary e) (commentary_step g commentary_kept (omega arith))
 
   -- A line that counts as blank.
-  pub line_quiet : {w w' : List ℕ} {t : State} {k : Line} → k ≡ cond s.commentary Blank (line_kind l) → k ≡ Blank
-      → Emits a n w w' t (cond s.commentary (in_commentary r s p l) (unchanged s)) → t.block ≤ p + 1 → Stepped a n (p + length l) w w' t (line_out c r s p l)
+  pub line_quiet : {w w' : Entries} {t : State} {k : Line} → k ≡ cond s.commentary Blank (line_kind l) → k ≡ Blank
+      → Emits w w' t (cond s.commentary (in_commentary r s p l) (unchanged s)) → t.block ≤ p + 1 → Stepped (p + length l) w w' t (line_out c r s p l)
   line_quiet {w} {w'} {t} {k} e h g b =
       by_cases s.commentary
       (λ z. line_commentary z (rw (quiet_commentary r s p l z) at g) b)

@@ -11,11 +11,8 @@ use lib.Seq.{drop-drop}
 use borrow.Author.Tests.{eqb-true}
 use Rattle.tables.specs.Text.{is_white, lead, trim_start, before}
 use Rattle.tables.proofs.Laws.{by_cases}
-use Rattle.reader.specs.declared.tag.TagLine.{TagLine}
-use Rattle.reader.specs.declared.tag.TagLine.TheVariants.{NoTag, Plain as PlainTag, WithComment as CommentTag}
-use Rattle.reader.specs.declared.tag.Split.{Split}
-use Rattle.reader.specs.declared.tag.Split.TheVariants.{Data as DataTag, NoData}
-use Rattle.reader.specs.Tag.{tag_line, split_of}
+use Rattle.std.specs.Prelude.{Some, None}
+use Rattle.reader.specs.Tag.{TagLine, Split, tag_line, split_of}
 use Rattle.reader.specs.Lines.{is_blank, has_brace, split_as, split_line, bracket_as, bracket_line, kind_by, line_kind}
 use Rattle.reader.specs.LineWalk.{line_at}
 use Rattle.reader.specs.Pieces.{raw_lines}
@@ -27,14 +24,14 @@ use Rattle.reader.proofs.PieceLaws.{raw_step}
 -- ---- commentary
 
 split_no_commentary : (s : Split) (l : List ℕ) → opens_commentary (split_as s) l ≡ false
-split_no_commentary (DataTag t d) l = refl
-split_no_commentary NoData l = refl
+split_no_commentary (Some (t, d)) l = refl
+split_no_commentary None l = refl
 
 tag_no_commentary : (t : TagLine) (l : List ℕ) → opens_commentary (bracket_as t l) l ≡ false
 unfolding split_line
-tag_no_commentary NoTag l = split_no_commentary (split_of l) l
-tag_no_commentary (PlainTag t) l = refl
-tag_no_commentary (CommentTag t c) l = refl
+tag_no_commentary None l = split_no_commentary (split_of l) l
+tag_no_commentary (Some (t, None)) l = refl
+tag_no_commentary (Some (t, Some c)) l = refl
 
 by_commentary : (b : ℕ) (l : List ℕ) → opens_commentary (kind_by b l) l ≡ cond (eqb b 123) (not (has_brace l)) false
 unfolding bracket_line

@@ -1,21 +1,22 @@
 -- Laws of tags.
 use Prim.Native.Nat.{ℕ, zero, suc, ◌+◌, ◌-◌, ◌≤◌, ◌<◌}
 use mathlib.Core.Path.{◌≡◌, refl, sym, ap, ◌∙◌}
-use mathlib.Core.Bool.{Bool, true, false, ◌&&◌}
+use mathlib.Core.Bool.{Bool, true, false, cond, ◌&&◌}
 use mathlib.Core.List.{List, [], ◌∷◌, ◌++◌}
 use native.Mathlib.Numerals.{add-one}
 use native.Mathlib.Omega.{arith}
 use lib.Dec.{ltb, eqb, leb-suc-suc}
 use lib.ListN.{length, drop, take, get_or, length-drop, length-take, drop_of_length-le}
 use lib.Seq.{take-suc, drop-append-le, length-take-le, get_or-drop}
-use borrow.Author.Tests.{lt-ltb, ltb-false}
+use borrow.Author.Tests.{lt-ltb, le-ltb, ltb-true, ltb-false}
 use Rattle.tables.specs.Text.{is_white, front, beyond, lead, trim_start, trim_end, trimmed, before, differs}
 use Rattle.tables.specs.Letters.{among}
 use Rattle.tables.proofs.Laws.{step, by_cases, clash}
-use Rattle.tables.proofs.TextLaws.{drop_front, front_few, length_zero}
+use Rattle.tables.proofs.TextLaws.{drop_front, front_few}
 use Rattle.reader.specs.declared.tag.Span.{Span}
-use Rattle.reader.specs.declared.tag.Close.TheVariants.{At}
-use Rattle.reader.specs.Tag.{part, last_after, last_byte, trim_part, trim_span, ends_quoted, close_at, is_quoted}
+use Rattle.std.specs.Prelude.{Some, None}
+use Rattle.std.specs.Bool.{then_some}
+use Rattle.reader.specs.Tag.{part, last_after, last_byte, trim_part, trim_span, ends_quoted, close_at, is_quoted, find_at}
 
 -- ---- bytes
 
@@ -23,12 +24,13 @@ last_after_lem : (d b : ℕ) (s : List ℕ) → last_after d (b ∷ s) ≡ get_o
 last_after_lem d b [] = refl
 last_after_lem d b (c ∷ cs) = last_after_lem b c cs
 
-pub last_at : (s : List ℕ) (n : ℕ) → n ≡ length s → (n ≡ 0 → ⊥) → get_or s (n - 1) 0 ≡ last_byte s
+last_at : (s : List ℕ) (n : ℕ) → n ≡ length s → (n ≡ 0 → ⊥) → get_or s (n - 1) 0 ≡ last_byte s
 last_at [] n e h = absurd (h e)
 last_at (b ∷ bs) n e h = let z : n - 1 ≡ length bs = omega arith in rw z (sym (last_after_lem 0 b bs))
 
-pub last_none : (s : List ℕ) → length s ≡ 0 → 0 ≡ last_byte s
-last_none s h = rw (length_zero s h)
+pub last_get : (s : List ℕ) → get_or s (length s - 1) 0 ≡ last_byte s
+last_get [] = refl
+last_get (b ∷ bs) = last_at (b ∷ bs) (length (b ∷ bs)) refl (λ e. omega arith)
 
 pub among_before : (x : ℕ) (s : List ℕ) → ltb (length (before x s)) (length s) ≡ among x s
 among_before x [] = refl
@@ -44,6 +46,20 @@ pub byte_inside : (s : List ℕ) (i b : ℕ) → get_or s i 0 ≡ suc b → i < 
 byte_inside [] i b e = absurd (omega arith)
 byte_inside (x ∷ xs) zero b e = omega arith
 byte_inside (x ∷ xs) (suc i) b e = let h = byte_inside xs i b e in omega arith
+
+-- The place of the first x, as a search from a gives it.
+find_is : (x k : ℕ) (s : List ℕ) → find_at x k s ≡ cond (ltb (length (before x s)) (length s)) (Some (k + length (before x s))) None
+find_is x k [] = refl
+find_is x k (b ∷ bs) =
+    by_cases (eqb b x)
+    (λ e. rw (e, lt-ltb 0 (suc (length bs)) (omega arith)) (ap Some (omega arith)))
+    (λ e. let z : k + 1 + length (before x bs) ≡ k + suc (length (before x bs)) = omega arith in rw (e, leb-suc-suc, ← z) (find_is x (k + 1) bs))
+
+pub find_from_is : (x a n : ℕ) (s : List ℕ) → n ≡ length (before x (drop a s)) → then_some (ltb (a + n) (length s)) (a + n) ≡ find_at x a (drop a s)
+find_from_is x a n s e =
+    by_cases (ltb n (length (drop a s)))
+    (λ t. rw (lt-ltb (a + n) (length s) (omega (arith, length-drop a s, ltb-true n _ t)), find_is x a (drop a s), ← e, t))
+    (λ t. rw (le-ltb (a + n) (length s) (omega (arith, length-drop a s, ltb-false n _ t)), find_is x a (drop a s), ← e, t))
 
 -- ---- spans
 
@@ -75,7 +91,7 @@ part_more a i s h l =
 pub part_none : (a : ℕ) (s : List ℕ) → part a a s ≡ []
 part_none a s = let h : length (take a s) ≤ a = rw length-take (omega arith) in drop_of_length-le (take a s) h
 
-pub close_found : (a i : ℕ) (s : List ℕ) → i < length s → (eqb (get_or s i 0) 93 && ends_quoted (part a i s)) ≡ true → close_at i (part a i s) (drop i s) ≡ At i
+pub close_found : (a i : ℕ) (s : List ℕ) → i < length s → (eqb (get_or s i 0) 93 && ends_quoted (part a i s)) ≡ true → close_at i (part a i s) (drop i s) ≡ Some i
 close_found a i s l e = rw (step s i l, e)
 
 pub close_turn : (a i : ℕ) (s : List ℕ) → a ≤ i → i < length s → (eqb (get_or s i 0) 93 && ends_quoted (part a i s)) ≡ false →

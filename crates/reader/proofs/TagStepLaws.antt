@@ -25,14 +25,13 @@ use Rattle.reader.specs.Lines.{line_kind, has_brace, last_brace}
 use Rattle.reader.specs.LineSteps.{tag_in, ReadingPlaced}
 use Rattle.reader.specs.Names.{tag_number}
 use Rattle.reader.specs.Pieces.{Out, and_then, entry}
-use Rattle.reader.specs.PieceSteps.{Emits}
+use Rattle.reader.specs.declared.store.Entries.{Entries}
+use Rattle.reader.specs.PieceSteps.{Adds, Emits}
 use Rattle.reader.specs.Sections.{walked_all}
-use Rattle.reader.specs.Store.{put, entry_words}
 use Rattle.reader.specs.Tag.{cut}
 use Rattle.reader.specs.TagSteps.{TagInside}
 use Rattle.reader.proofs.ApplyLaws.{Seated, open_seated}
-use Rattle.reader.proofs.BoardLaws.{closed_counts, tagged_counts}
-use Rattle.reader.proofs.PieceLaws.{emits_then}
+use Rattle.reader.proofs.PieceLaws.{adds_then, emits_then}
 
 -- ---- what holds of a state
 
@@ -81,74 +80,72 @@ opened_sound c k value p q split s t h pq sq e b =
 
 -- A tag's step from its parts: its two entries, its board and its section.
 pub tag_stepped :
-    (c : Conventions) (l : List ℕ) (t : Tag) (split : Span) {s : State} {p q a n k : ℕ} {name value e e' e'' : List ℕ} {board : Board} {section : Open} →
+    (c : Conventions) (l : List ℕ) (t : Tag) (split : Span) {s : State} {p q k : ℕ} {name value : List ℕ} {e e' e'' : Entries} {board : Board} {section : Open} →
     Sound p s →
     p ≤ q →
     split.start + split.len ≤ q →
-    e' ≡ put 4 e n (entry_words a (entry 1 (p + t.name.start) t.name.len 0)) →
-    e'' ≡ put 4 e' (n + 1) (entry_words a (entry 2 (p + t.value.start) t.value.len 0)) →
+    Adds e e' (entry 1 (p + t.name.start) t.name.len 0 ∷ []) →
+    Adds e' e'' (entry 2 (p + t.value.start) t.value.len 0 ∷ []) →
     name ≡ cut t.name l →
     k ≡ tag_number name →
     value ≡ cut t.value l →
     board ≡ applied c k value (s.n + 2) s.board →
     section ≡ open_by c k value q split →
-    Stepped a n q e e'' (record { board = board; section = section; tags = s.tags + 1; n = s.n + 2; commentary = false; block = s.block }) (tagged c s p l q t split)
+    Stepped q e e'' (record { board = board; section = section; tags = s.tags + 1; n = s.n + 2; commentary = false; block = s.block }) (tagged c s p l q t split)
 unfolding tagged
-tag_stepped c l t split {s} {p} {q} {a} {n} {k} {name} {value} {e} {e'} {e''} {board} {section} h pq sq e1 e2 en ek ev eb es =
+tag_stepped c l t split {s} {p} {q} {k} {name} {value} {e} {e'} {e''} {board} {section} h pq sq e1 e2 en ek ev eb es =
     record {
-      emits = record { answer = rw (eb, es, ek, en, ev); words = rw (e2, e1) };
+      emits = record { answer = rw (eb, es, ek, en, ev); adds = adds_then e1 e2 };
       sound = opened_sound c k value p q split s _ h pq sq es refl;
     }
 
 -- ---- a tag with its comment or its data
 
 stepped_then :
-    (base : ℕ) (s : State) {a q : ℕ} {r r' : State} {e e' e'' : List ℕ} {o : Out State} (f : State → List Entry) →
-    Stepped a (base + s.n) q e e' r o →
-    o.state.n ≡ s.n + length o.entries →
-    Emits a (base + r.n) e' e'' r' (adding r (f r)) →
-    Stepped a (base + s.n) q e e'' r' (and_then o (adding o.state (f o.state)))
-stepped_then base s {r = r} {o = o} f h n k =
-    let m : r.n ≡ s.n + length o.entries = rw h.emits.answer n in
+    {q : ℕ} {r r' : State} {e e' e'' : Entries} {o : Out State} (f : State → List Entry) →
+    Stepped q e e' r o →
+    Emits e' e'' r' (adding r (f r)) →
+    Stepped q e e'' r' (and_then o (adding o.state (f o.state)))
+stepped_then {r = r} {o = o} f h k =
     record {
-      emits = emits_then {m = base + r.n} h.emits (omega (arith, m)) (rw (← h.emits.answer) k);
+      emits = emits_then h.emits (rw (← h.emits.answer) k);
       sound = rw k.answer (counted_sound (length (f r)) h.sound);
     }
 
 pub read_plain :
-    (c : Conventions) (s : State) (p : ℕ) (l : List ℕ) {a n q : ℕ} {r : State} {e e' : List ℕ} {t : TagReading} {tag x : Tag} {split : Span} →
+    (c : Conventions) (s : State) (p : ℕ) (l : List ℕ) {q : ℕ} {r : State} {e e' : Entries} {t : TagReading} {tag x : Tag} {split : Span} →
     t ≡ Plain x →
     tag ≡ tag_in t →
     split ≡ split_in p t →
-    Stepped a n q e e' r (tagged c s p l q tag split) →
-    Stepped a n q e e' r (read_by c s p l q t)
-read_plain c s p l {a} {n} {q} {r} {e} {e'} {x = x} et eg es h =
-    let k : Stepped a n q e e' r (tagged c s p l q x no_span) = rw (← ap tag_in et, ← ap (split_in p) et, ← eg, ← es) h in
+    Stepped q e e' r (tagged c s p l q tag split) →
+    Stepped q e e' r (read_by c s p l q t)
+read_plain c s p l {q} {r} {e} {e'} {x = x} et eg es h =
+    let k : Stepped q e e' r (tagged c s p l q x no_span) = rw (← ap tag_in et, ← ap (split_in p) et, ← eg, ← es) h in
     rw et k
 
 pub read_comment :
-    (c : Conventions) (base : ℕ) (s : State) (p : ℕ) (l : List ℕ) {a q : ℕ} {r r' : State} {e e' e'' : List ℕ} {t : TagReading} {tag x : Tag} {split d : Span} →
+    (c : Conventions) (s : State) (p : ℕ) (l : List ℕ) {q : ℕ} {r r' : State} {e e' e'' : Entries} {t : TagReading} {tag x : Tag} {split d : Span} →
     t ≡ WithComment x d →
     tag ≡ tag_in t →
     split ≡ split_in p t →
-    Stepped a (base + s.n) q e e' r (tagged c s p l q tag split) →
-    Emits a (base + r.n) e' e'' r' (directed r p d) →
-    Stepped a (base + s.n) q e e'' r' (read_by c s p l q t)
-read_comment c base s p l {a} {q} {r} {e = e} {e' = e'} {x = x} {d = d} et eg es h f =
-    let k : Stepped a (base + s.n) q e e' r (tagged c s p l q x no_span) = rw (← ap tag_in et, ← ap (split_in p) et, ← eg, ← es) h in
-    rw et (stepped_then base s (λ (y : State). entry 3 (p + d.start) d.len y.tags ∷ []) k (tagged_counts c s p l q x no_span) f)
+    Stepped q e e' r (tagged c s p l q tag split) →
+    Emits e' e'' r' (directed r p d) →
+    Stepped q e e'' r' (read_by c s p l q t)
+read_comment c s p l {q} {r} {e = e} {e' = e'} {x = x} {d = d} et eg es h f =
+    let k : Stepped q e e' r (tagged c s p l q x no_span) = rw (← ap tag_in et, ← ap (split_in p) et, ← eg, ← es) h in
+    rw et (stepped_then (λ (y : State). entry 3 (p + d.start) d.len y.tags ∷ []) k f)
 
 pub read_data :
-    (c : Conventions) (base : ℕ) (s : State) (p : ℕ) (l : List ℕ) {a q : ℕ} {r r' : State} {e e' e'' : List ℕ} {t : TagReading} {tag x : Tag} {split d : Span} →
+    (c : Conventions) (s : State) (p : ℕ) (l : List ℕ) {q : ℕ} {r r' : State} {e e' e'' : Entries} {t : TagReading} {tag x : Tag} {split d : Span} →
     t ≡ WithData x d →
     tag ≡ tag_in t →
     split ≡ split_in p t →
-    Stepped a (base + s.n) q e e' r (tagged c s p l q tag split) →
-    Emits a (base + r.n) e' e'' r' (data_added r p d) →
-    Stepped a (base + s.n) q e e'' r' (read_by c s p l q t)
-read_data c base s p l {a} {q} {r} {e = e} {e' = e'} {x = x} {d = d} et eg es h f =
-    let k : Stepped a (base + s.n) q e e' r (tagged c s p l q x (at p d)) = rw (← ap tag_in et, ← ap (split_in p) et, ← eg, ← es) h in
-    rw et (stepped_then base s (λ (x : State). data_entries x.section.kind p d) k (tagged_counts c s p l q x (at p d)) f)
+    Stepped q e e' r (tagged c s p l q tag split) →
+    Emits e' e'' r' (data_added r p d) →
+    Stepped q e e'' r' (read_by c s p l q t)
+read_data c s p l {q} {r} {e = e} {e' = e'} {x = x} {d = d} et eg es h f =
+    let k : Stepped q e e' r (tagged c s p l q x (at p d)) = rw (← ap tag_in et, ← ap (split_in p) et, ← eg, ← es) h in
+    rw et (stepped_then (λ (x : State). data_entries x.section.kind p d) k f)
 
 -- ---- sections closed before a tag
 
@@ -177,15 +174,14 @@ closed_sound {p} c r s h = go (eqb s.section.kind 0) (walked_all c r s.section s
         }
 
 pub read_closed_lem :
-    (c : Conventions) (base : ℕ) (s : State) (p : ℕ) (w l : List ℕ) (t : TagReading) {a : ℕ} {r r' : State} {e e' e'' : List ℕ} →
-    Emits a (base + s.n) e e' r (closed c w s) →
-    Stepped a (base + r.n) (p + length l) e' e'' r' (read_by c r p l (p + length l) t) →
-    Stepped a (base + s.n) (p + length l) e e'' r' (tag_line_out c w s p l t)
+    (c : Conventions) (s : State) (p : ℕ) (w l : List ℕ) (t : TagReading) {r r' : State} {e e' e'' : Entries} →
+    Emits e e' r (closed c w s) →
+    Stepped (p + length l) e' e'' r' (read_by c r p l (p + length l) t) →
+    Stepped (p + length l) e e'' r' (tag_line_out c w s p l t)
 unfolding tag_line_out
-read_closed_lem c base s p w l t {r = r} h k =
-    let n : r.n ≡ s.n + length (closed c w s).entries = rw h.answer (closed_counts c w s) in
+read_closed_lem c s p w l t {r = r} h k =
     record {
-      emits = emits_then {m = base + r.n} h (omega (arith, n)) (rw (← h.answer) k.emits);
+      emits = emits_then h (rw (← h.answer) k.emits);
       sound = k.sound;
     }
 

@@ -14,15 +14,8 @@ use Rattle.tables.proofs.Laws.{by_cases, clash, both}
 use Rattle.tables.proofs.TextLaws.{take_kept}
 use Rattle.reader.specs.declared.tag.Span.{Span}
 use Rattle.reader.specs.declared.tag.Tag.{Tag}
-use Rattle.reader.specs.declared.tag.TagLine.{TagLine}
-use Rattle.reader.specs.declared.tag.TagLine.TheVariants.{NoTag, Plain, WithComment}
-use Rattle.reader.specs.declared.tag.Close.{Close}
-use Rattle.reader.specs.declared.tag.Close.TheVariants.{At, Nothing}
-use Rattle.reader.specs.declared.tag.Bracket.TheVariants.{Body, NoBracket}
-use Rattle.reader.specs.declared.tag.Value.TheVariants.{Text, NoValue}
-use Rattle.reader.specs.declared.tag.Comment.{Comment}
-use Rattle.reader.specs.declared.tag.Comment.TheVariants.{Clean, Found, Bad}
-use Rattle.reader.specs.Tag.{cut, part, last_after, trim_part, bracket_of, ends_quoted, close_at, name_of, is_quoted, value_of, is_comment, comment_of, with_comment, with_name, with_close, tag_line, pair_of, find_at, with_data, with_pair, data_bracket, data_after, split_of}
+use Rattle.std.specs.Prelude.{Option as Maybe, Some, None, option_and_then}
+use Rattle.reader.specs.Tag.{TagLine, Split, cut, part, last_after, trim_part, bracket_of, ends_quoted, close_at, name_of, is_quoted, value_of, is_comment, comment_of, tag_line, find_at, with_data, data_bracket, data_after, split_of}
 use Rattle.reader.specs.TagBytes.{◌>>=◌, Cut, push, quoted, close, past, behind, ahead, unquote, filled, comment_bytes, TagBytes, read_tag, tag_bytes, read_split, split_bytes}
 
 -- ---- what holds of any partial answer
@@ -48,6 +41,22 @@ cond_some false e = never e
 pub push_some : {P : Type 0} (b : ℕ) (o : Option Cut) {k : Cut} → push b o ≡ some k → ((j : Cut) → o ≡ some j → k ≡ record { front = b ∷ j.front; rest = j.rest } → P) → P
 push_some b none e go = never e
 push_some b (some j) e go = go j refl (sym (some_inj e))
+
+-- ---- a tag once one of its parts is known: the comment; the name, which stands at a and has n bytes; the closing bracket, at e
+
+abbrev pub with_comment : Maybe (Maybe Span) → Tag → TagLine
+with_comment o t = option_and_then (λ c. Some (t, c)) o
+
+abbrev pub with_name : Maybe ℕ → ℕ → ℕ → List ℕ → TagLine
+with_name o a e line =
+    option_and_then (λ n. option_and_then (λ v. with_comment (comment_of (e + 1) line) (record { name = record { start = a; len = n }; value = v })) (value_of (a + n) e line)) o
+
+abbrev pub with_close : Maybe ℕ → ℕ → List ℕ → TagLine
+with_close o a line = option_and_then (λ e. with_name (name_of (part a e line)) a e line) o
+
+-- Section data from e on, once the tag before it is known.
+abbrev pub with_tag : TagLine → ℕ → List ℕ → Split
+with_tag t e line = option_and_then (λ p. with_data p.0 (trim_part e (length line) line)) t
 
 -- ---- fronts and trimming
 
@@ -94,19 +103,19 @@ ends_more : (f : List ℕ) (b : ℕ) → ends_quoted (f ++ b ∷ []) ≡ quoted 
 unfolding ends_quoted
 ends_more f b = by_cases (is_white b) (λ e. rw (e, end_white f b e)) (λ e. rw (e, end_last f b e, last_snoc 0 f b))
 
-abbrev pub place_of : ℕ → Option Cut → Close
-place_of k none = Nothing
-place_of k (some c) = At (k + length c.front)
+abbrev pub place_of : ℕ → Option Cut → Maybe ℕ
+place_of k none = None
+place_of k (some c) = Some (k + length c.front)
 
 place_push : (k b : ℕ) (o : Option Cut) → place_of (k + 1) o ≡ place_of k (push b o)
 place_push k b none = refl
-place_push k b (some c) = ap At (omega arith)
+place_push k b (some c) = ap Some (omega arith)
 
 close_is : (k : ℕ) (f s : List ℕ) (q : Bool) → ends_quoted f ≡ q → close_at k f s ≡ place_of k (close q s)
 close_is k f [] q e = refl
 close_is k f (b ∷ bs) q e =
     by_cases (eqb b 93 && q)
-    (λ t. rw (e, t) (ap At (omega arith)))
+    (λ t. rw (e, t) (ap Some (omega arith)))
     (λ t. rw (e, t) (close_is (k + 1) (f ++ b ∷ []) bs (quoted q b) (rw (ends_more f b, e)) ∙ place_push k b (close (quoted q b) bs)))
 
 pub close_at_lem : (q : Bool) (s : List ℕ) {k : Cut} → close q s ≡ some k → s ≡ k.front ++ 93 ∷ k.rest
@@ -169,20 +178,20 @@ unquote_is t {u} e = value_by t (λ v h q a. rw (h, some_inj (sym a ∙ e))) (λ
 
 -- ---- the same answers with places as sums of lengths: a is where the body starts
 
-abbrev pub comment_as : List ℕ → ℕ → Comment
-comment_as t s = cond (eqb (length t) 0) Clean (cond (is_comment t) (Found (record { start = s; len = length t })) Bad)
+abbrev pub comment_as : List ℕ → ℕ → Maybe (Maybe Span)
+comment_as t s = cond (eqb (length t) 0) (Some None) (cond (is_comment t) (Some (Some (record { start = s; len = length t }))) None)
 
 abbrev pub place_value : Option (List ℕ) → ℕ → Span → List ℕ → ℕ → TagLine
-place_value none s n r c = NoTag
+place_value none s n r c = None
 place_value (some u) s n r c = with_comment (comment_as (trimmed r) (c + length (lead r))) (record { name = n; value = record { start = s; len = length u } })
 
 abbrev pub place_name : List ℕ → ℕ → List ℕ → List ℕ → TagLine
-place_name [] a w r = NoTag
+place_name [] a w r = None
 place_name (b ∷ bs) a w r =
     place_value (unquote (trimmed (b ∷ bs))) (a + length w + length (lead (b ∷ bs)) + 1) (record { start = a; len = length w }) r (a + length (w ++ b ∷ bs) + 1)
 
 abbrev pub place_tag : Option Cut → ℕ → TagLine
-place_tag none a = NoTag
+place_tag none a = None
 place_tag (some k) a = place_name (past_word k.front) a (word k.front) k.rest
 
 -- t stands behind p, w and l.
@@ -196,13 +205,13 @@ part_gap : (p w g q : List ℕ) → part (length p + length w) (length p + lengt
 part_gap p w g q = rw (take-append-add p ((w ++ g) ++ q) (length (w ++ g)), take-append_seam (w ++ g) q, drop-append-add p (w ++ g) (length w), drop-append_seam w g)
 
 value_is : (p w g q : List ℕ) {P : Type 0} →
-    ((u : List ℕ) → unquote (trimmed g) ≡ some u → value_of (length p + length w) (length p + length (w ++ g)) (p ++ ((w ++ g) ++ q)) ≡ Text (record { start = length p + length w + length (lead g) + 1; len = length u }) → P) →
-    (unquote (trimmed g) ≡ none → value_of (length p + length w) (length p + length (w ++ g)) (p ++ ((w ++ g) ++ q)) ≡ NoValue → P) → P
+    ((u : List ℕ) → unquote (trimmed g) ≡ some u → value_of (length p + length w) (length p + length (w ++ g)) (p ++ ((w ++ g) ++ q)) ≡ Some (record { start = length p + length w + length (lead g) + 1; len = length u }) → P) →
+    (unquote (trimmed g) ≡ none → value_of (length p + length w) (length p + length (w ++ g)) (p ++ ((w ++ g) ++ q)) ≡ None → P) → P
 unfolding value_of trim_part
 value_is p w g q found missing =
     let c = stands p w (lead g) (trimmed g) (trail (trim_start g)) q g (trim_whole g) in
     value_by (trimmed g)
-    (λ u h t e. found u e (rw (part_gap p w g q, c, t) (ap (λ (n : ℕ). Text (record { start = length p + length w + length (lead g) + 1; len = n })) (omega (arith, simp length-append at (ap length h))))))
+    (λ u h t e. found u e (rw (part_gap p w g q, c, t) (ap (λ (n : ℕ). Some (record { start = length p + length w + length (lead g) + 1; len = n })) (omega (arith, simp length-append at (ap length h))))))
     (λ t e. missing e (rw (part_gap p w g q, c, t)))
 
 part_all : (p q : List ℕ) → part (length p) (length (p ++ q)) (p ++ q) ≡ q
@@ -261,7 +270,7 @@ tag_at p s = rw (close_is (length p) [] s false refl) (by (close false s) refl)
         rw (w, h) (named p k.front k.rest)
 
 -- A line that starts with a bracket, white space apart, is the white space, the bracket and the body.
-pub line_by_lem : (line : List ℕ) {P : Type 0} → ((s : List ℕ) → trim_start line ≡ 91 ∷ s → lead line ++ 91 ∷ s ≡ line → P) → (behind 91 (trimmed line) ≡ none → bracket_of line ≡ NoBracket → P) → P
+pub line_by_lem : (line : List ℕ) {P : Type 0} → ((s : List ℕ) → trim_start line ≡ 91 ∷ s → lead line ++ 91 ∷ s ≡ line → P) → (behind 91 (trimmed line) ≡ none → bracket_of line ≡ None → P) → P
 unfolding bracket_of trimmed is_white
 line_by_lem line {P} found missing = by (trim_start line) refl
   where
@@ -276,7 +285,7 @@ line_by_lem line {P} found missing = by (trim_start line) refl
         (λ h. let d : trim_start line ≡ 91 ∷ bs = rw (← eqb-true b 91 h) e in found bs d (rw (← d) (front_whole is_white line)))
         (λ h. missing (rw e (kept b (trim_end bs) h)) (rw (e, h)))
 
-bracket_is : (line s : List ℕ) → trim_start line ≡ 91 ∷ s → bracket_of line ≡ Body (length (lead line) + 1)
+bracket_is : (line s : List ℕ) → trim_start line ≡ 91 ∷ s → bracket_of line ≡ Some (length (lead line) + 1)
 unfolding bracket_of
 bracket_is line s e = rw e
 
@@ -369,7 +378,7 @@ closed_trimmed : (o : Option Cut) → read_closed o ≡ read_closed (rest_trimme
 closed_trimmed none = refl
 closed_trimmed (some k) = rw (trimmed_end k.rest)
 
-pub no_tag_lem : (line : List ℕ) → bracket_of line ≡ NoBracket → tag_line line ≡ NoTag
+pub no_tag_lem : (line : List ℕ) → bracket_of line ≡ None → tag_line line ≡ None
 unfolding tag_line
 no_tag_lem line n = rw n
 
@@ -400,8 +409,8 @@ past_at x (b ∷ bs) e =
     (λ t. push_some b (past x bs) (rw t at e) (λ j p r. rw (r, ← past_at x bs p)))
 
 -- A search for x that starts at place k.
-find_by : {P : Type 0} (x k : ℕ) (s : List ℕ) → ((c : Cut) → past x s ≡ some c → (q : ℕ) → find_at x k s ≡ At q → q + 1 ≡ k + length c.front → P) →
-    (past x s ≡ none → find_at x k s ≡ Nothing → P) → P
+find_by : {P : Type 0} (x k : ℕ) (s : List ℕ) → ((c : Cut) → past x s ≡ some c → (q : ℕ) → find_at x k s ≡ Some q → q + 1 ≡ k + length c.front → P) →
+    (past x s ≡ none → find_at x k s ≡ None → P) → P
 find_by x k [] found missing = missing refl refl
 find_by x k (b ∷ bs) found missing =
     by_cases (eqb b x)
@@ -416,12 +425,12 @@ bytes_data : (t : List ℕ) (tag : Tag) (a : ℕ) (L : List ℕ) → take (lengt
 bytes_data [] tag a L h = refl
 bytes_data (x ∷ xs) tag a L h = rw (ne_eqb (suc (length xs)) 0 (λ k. omega arith), h)
 
-bytes_pair : (t : TagLine) (f r : List ℕ) → split_bytes (with_pair (pair_of t) (length f) (f ++ r)) (f ++ r)
+bytes_pair : (t : TagLine) (f r : List ℕ) → split_bytes (with_tag t (length f) (f ++ r)) (f ++ r)
     ≡ (tag_bytes t (f ++ r) >>= λ b. filled (trimmed r) >>= λ d. some (record { name = b.name; value = b.value; section = d }))
 unfolding trim_part
-bytes_pair NoTag f r = refl
-bytes_pair (Plain t) f r = rw (part_all f r) (bytes_data (trimmed r) t (length f + length (lead r)) (f ++ r) (stands_near f (lead r) (trimmed r) (trail (trim_start r)) r (trim_whole r)))
-bytes_pair (WithComment t c) f r = rw (part_all f r) (bytes_data (trimmed r) t (length f + length (lead r)) (f ++ r) (stands_near f (lead r) (trimmed r) (trail (trim_start r)) r (trim_whole r)))
+bytes_pair None f r = refl
+bytes_pair (Some (t, None)) f r = rw (part_all f r) (bytes_data (trimmed r) t (length f + length (lead r)) (f ++ r) (stands_near f (lead r) (trimmed r) (trail (trim_start r)) r (trim_whole r)))
+bytes_pair (Some (t, Some c)) f r = rw (part_all f r) (bytes_data (trimmed r) t (length f + length (lead r)) (f ++ r) (stands_near f (lead r) (trimmed r) (trail (trim_start r)) r (trim_whole r)))
 
 -- The front f of the line, and what follows it.
 bytes_after : (line f r : List ℕ) (e : ℕ) → line ≡ f ++ r → e ≡ length f →

@@ -12,14 +12,11 @@ use Rattle.tables.specs.Text.{is_white, is_word, front, lead, trim_start, trim_e
 use Rattle.tables.specs.Letters.{every, among}
 use Rattle.tables.proofs.Laws.{by_cases, both, neither}
 use Rattle.reader.specs.declared.tag.Tag.{Tag as TagPlaces}
-use Rattle.reader.specs.declared.tag.TagLine.{TagLine}
-use Rattle.reader.specs.declared.tag.TagLine.TheVariants.{NoTag, Plain as PlainTag, WithComment as CommentTag}
-use Rattle.reader.specs.declared.tag.Split.{Split}
-use Rattle.reader.specs.declared.tag.Split.TheVariants.{Data as DataTag, NoData}
+use Rattle.std.specs.Prelude.{Some, None}
 use Rattle.reader.specs.declared.line.TagReading.{TagReading}
 use Rattle.reader.specs.declared.line.TagReading.TheVariants.{Plain, WithComment, WithData}
 use Rattle.reader.specs.declared.line.Line.TheVariants.{Blank, Brace, Directive, Tag, Data}
-use Rattle.reader.specs.Tag.{cut, trim_span, tag_line, split_of, tag_text}
+use Rattle.reader.specs.Tag.{TagLine, Split, cut, trim_span, tag_line, split_of, tag_text}
 use Rattle.reader.specs.TagBytes.{Cut, push, quoted, close, past, behind, ahead, unquote, filled, comment_bytes, TagBytes, read_tag, tag_bytes, SplitBytes, read_split, split_bytes, unclosed, good_name, good_value}
 use Rattle.reader.specs.TagSteps.{is_digit}
 use Rattle.reader.specs.Lines.{is_blank, split_as, split_line, bracket_as, bracket_line, line_kind}
@@ -91,14 +88,14 @@ closes_at n v hn hv = rw (close_append false n (32 ∷ 34 ∷ (v ++ 34 ∷ 93 �
 abbrev pub places_of : List ℕ → List ℕ → TagPlaces
 places_of n v = record { name = record { start = 1; len = length n }; value = record { start = length n + 3; len = length v } }
 
-tag_text_lem : (n v : List ℕ) → every is_word n ≡ true → unclosed false n ≡ true → unclosed true v ≡ true → tag_line (tag_text n v) ≡ PlainTag (places_of n v)
+tag_text_lem : (n v : List ℕ) → every is_word n ≡ true → unclosed false n ≡ true → unclosed true v ≡ true → tag_line (tag_text n v) ≡ Some (places_of n v, None)
 unfolding tag_text is_white trimmed
 tag_text_lem n v hw hn hv =
     let s = n ++ 32 ∷ 34 ∷ (v ++ 34 ∷ 93 ∷ []) in
     let w = name_at n (34 ∷ (v ++ 34 ∷ [])) hw in
     tag_placed (91 ∷ s) s refl refl ∙
     rw (closes_at n v hn hv, w.0, w.1, end_last (34 ∷ v) 34 refl, ahead_at v)
-    (ap (λ (a : ℕ). PlainTag (record { name = record { start = 1; len = length n }; value = record { start = a; len = length v } })) (omega arith))
+    (ap (λ (a : ℕ). Some (record { name = record { start = 1; len = length n }; value = record { start = a; len = length v } }, None)) (omega arith))
 
 -- A line that starts with a bracket.
 kind_bracket : (line s : List ℕ) → trim_start line ≡ 91 ∷ s → line_kind line ≡ bracket_line line
@@ -205,13 +202,13 @@ unfolding bracket_line split_line
 TagsGood line r h e = whole (tag_line line) (kind_tag line r e) (TagStands line)
   where
     split : (d : Split) → split_as d ≡ Tag r → split_bytes d line ≡ read_split line → Good (cut (tag_in r).name line) (cut (tag_in r).value line)
-    split NoData k e2 = let z : ◌≡◌ {A = ℕ} 0 1 = cc in absurd (omega arith)
-    split (DataTag t d) k e2 = let z : WithData t d ≡ r = cc in rw (← z) (split_good line h (sym e2))
+    split None k e2 = let z : ◌≡◌ {A = ℕ} 0 1 = cc in absurd (omega arith)
+    split (Some (t, d)) k e2 = let z : WithData t d ≡ r = cc in rw (← z) (split_good line h (sym e2))
 
     whole : (t : TagLine) → bracket_as t line ≡ Tag r → tag_bytes t line ≡ read_tag line → Good (cut (tag_in r).name line) (cut (tag_in r).value line)
-    whole NoTag k e2 = split (split_of line) k (SplitStands line)
-    whole (PlainTag t) k e2 = let z : Plain t ≡ r = cc in rw (← z) (read_good line h (sym e2))
-    whole (CommentTag t c) k e2 = let z : WithComment t c ≡ r = cc in rw (← z) (read_good line h (sym e2))
+    whole None k e2 = split (split_of line) k (SplitStands line)
+    whole (Some (t, None)) k e2 = let z : Plain t ≡ r = cc in rw (← z) (read_good line h (sym e2))
+    whole (Some (t, Some c)) k e2 = let z : WithComment t c ≡ r = cc in rw (← z) (read_good line h (sym e2))
 
 -- ---- digits, and the text of a note
 

@@ -10,6 +10,7 @@ use Rattle.tables.specs.Text.{is_white, is_word, beyond, lead, trim_start, word,
 use Rattle.tables.proofs.Laws.{by_cases, stop}
 use Rattle.tables.proofs.TextLaws.{take_front, drop_front}
 use Rattle.reader.specs.Pieces.{Piece, Out, out_all, tokens_at}
+use Rattle.reader.specs.declared.store.Entries.{Entries}
 use Rattle.reader.specs.PieceSteps.{piece, Emits}
 use Rattle.reader.proofs.PieceLaws.{ToEmit, to_emit, emitting, emitted, tokens_skip, tokens_word}
 
@@ -55,33 +56,32 @@ tokens_left p u k m t h ek em =
 
 -- What is left at the place i of a piece s at the place `at`: its text is trimmed, and f over its tokens leaves what f over all
 -- tokens leaves from the start.
-pub record AtToken {A : Type 0} (f : A → Piece → Out A) (a n₀ : ℕ) (l₀ : List ℕ) (o : Out A) (at : ℕ) (s l : List ℕ) (w : A) (n i : ℕ) : Type 0 where
+pub record AtToken {A : Type 0} (f : A → Piece → Out A) (l₀ : Entries) (o : Out A) (at : ℕ) (s : List ℕ) (l : Entries) (w : A) (i : ℕ) : Type 0 where
   pub ready : trim_start (drop i s) ≡ drop i s
-  pub left : ToEmit f a n₀ l₀ o l w n (tokens_at (at + i) (drop i s))
+  pub left : ToEmit f l₀ o l w (tokens_at (at + i) (drop i s))
 
-pub reading_start : {A : Type 0} (f : A → Piece → Out A) (a n : ℕ) (l : List ℕ) (at : ℕ) (s : List ℕ) (b : A) (i : ℕ) → i ≡ length (lead s)
-    → AtToken f a n l (out_all f b (tokens_at at s)) at s l b n i
-reading_start f a n l at s b i e =
+pub reading_start : {A : Type 0} (f : A → Piece → Out A) (l : Entries) (at : ℕ) (s : List ℕ) (b : A) (i : ℕ) → i ≡ length (lead s)
+    → AtToken f l (out_all f b (tokens_at at s)) at s l b i
+reading_start f l at s b i e =
     let d : drop i s ≡ trim_start s = rw e (drop_front is_white s) in
     record {
       ready = rw d (trim_twice s);
-      left = rw (d, e, ← tokens_skip at s) (to_emit f a n l b (tokens_at at s));
+      left = rw (d, e, ← tokens_skip at s) (to_emit f l b (tokens_at at s));
     }
 
 -- The next token has a byte.
-pub reading_some : {A : Type 0} {f : A → Piece → Out A} {a n₀ : ℕ} {l₀ : List ℕ} {o : Out A} {at : ℕ} {s l : List ℕ} {w : A} {n i : ℕ} (k : ℕ) (u : List ℕ)
-    → AtToken f a n₀ l₀ o at s l w n i → i < length s → u ≡ drop i s → k ≡ length (word u) → 0 < k
-reading_some {A} {f} {a} {n₀} {l₀} {o} {at} {s} {l} {w} {n} {i} k u t h eu ek =
+pub reading_some : {A : Type 0} {f : A → Piece → Out A} {l₀ : Entries} {o : Out A} {at : ℕ} {s : List ℕ} {l : Entries} {w : A} {i : ℕ} (k : ℕ) (u : List ℕ)
+    → AtToken f l₀ o at s l w i → i < length s → u ≡ drop i s → k ≡ length (word u) → 0 < k
+reading_some {A} {f} {l₀} {o} {at} {s} {l} {w} {i} k u t h eu ek =
     let z : length (drop i s) ≡ length s - i = length-drop i s in
     rw (ek, eu) (word_some (drop i s) t.ready (omega arith))
 
 -- One token, of k bytes, and the white space behind it, of m.
-pub reading_next : {A : Type 0} {f : A → Piece → Out A} {a n₀ : ℕ} {l₀ : List ℕ} {o : Out A} {at : ℕ} {s l : List ℕ} {w : A} {n i : ℕ} {l' : List ℕ} {w' : A}
-    (n' k m : ℕ) (u v x : List ℕ) → AtToken f a n₀ l₀ o at s l w n i → i < length s
+pub reading_next : {A : Type 0} {f : A → Piece → Out A} {l₀ : Entries} {o : Out A} {at : ℕ} {s : List ℕ} {l : Entries} {w : A} {i : ℕ} {l' : Entries} {w' : A}
+    (k m : ℕ) (u v x : List ℕ) → AtToken f l₀ o at s l w i → i < length s
     → u ≡ drop i s → k ≡ length (word u) → x ≡ take k u → v ≡ drop k u → m ≡ length (lead v)
-    → Emits a n l l' w' (f w (piece (at + i) x)) → n' ≡ n + length (f w (piece (at + i) x)).entries
-    → AtToken f a n₀ l₀ o at s l' w' n' (i + k + m)
-reading_next {A} {f} {a} {n₀} {l₀} {o} {at} {s} {l} {w} {n} {i} {l'} {w'} n' k m u v x t h eu ek ex ev em e en =
+    → Emits l l' w' (f w (piece (at + i) x)) → AtToken f l₀ o at s l' w' (i + k + m)
+reading_next {A} {f} {l₀} {o} {at} {s} {l} {w} {i} {l'} {w'} k m u v x t h eu ek ex ev em e =
     let z : length (drop i s) ≡ length s - i = length-drop i s in
     let ek' : k ≡ length (word (drop i s)) = rw (← eu) ek in
     let em' : m ≡ length (lead (drop k (drop i s))) = rw (← eu, ← ev) em in
@@ -96,9 +96,9 @@ reading_next {A} {f} {a} {n₀} {l₀} {o} {at} {s} {l} {w} {n} {i} {l'} {w'} n'
     in
     record {
       ready = rw (← d, past_lead (drop i s) k m em') (trim_twice (drop k (drop i s)));
-      left = emitting (rw ts at t.left) e en;
+      left = emitting (rw ts at t.left) e;
     }
 
-pub reading_done : {A : Type 0} {f : A → Piece → Out A} {a n₀ : ℕ} {l₀ : List ℕ} {o : Out A} {at : ℕ} {s l : List ℕ} {w : A} {n i : ℕ}
-    → AtToken f a n₀ l₀ o at s l w n i → length s ≤ i → Emits a n₀ l₀ l w o
-reading_done {A} {f} {a} {n₀} {l₀} {o} {at} {s} {l} {w} {n} {i} t h = emitted (rw (stop s i h) at t.left)
+pub reading_done : {A : Type 0} {f : A → Piece → Out A} {l₀ : Entries} {o : Out A} {at : ℕ} {s : List ℕ} {l : Entries} {w : A} {i : ℕ}
+    → AtToken f l₀ o at s l w i → length s ≤ i → Emits l₀ l w o
+reading_done {A} {f} {l₀} {o} {at} {s} {l} {w} {i} t h = emitted (rw (stop s i h) at t.left)

@@ -1,8 +1,7 @@
 -- Laws of walking a section's data.
-use Prim.Native.Nat.{ℕ, suc, ◌+◌, ◌-◌, ◌*◌, ◌≤◌, ◌<◌}
+use Prim.Native.Nat.{ℕ, ◌+◌, ◌-◌, ◌*◌, ◌≤◌}
 use mathlib.Core.Path.{◌≡◌, refl, sym, ap, ◌∙◌}
-use mathlib.Core.Bool.{Bool, true, false, cond}
-use mathlib.Core.List.{List, [], ◌∷◌, ◌++◌, map, append_assoc, append-nil}
+use mathlib.Core.List.{List, [], ◌∷◌, ◌++◌, append_assoc, append-nil}
 use native.Mathlib.Omega.{arith}
 use lib.Dec.{eqb}
 use lib.ListN.{length, take, drop, length-take}
@@ -10,25 +9,24 @@ use borrow.Author.Tests.{eq-eqb, ne_eqb}
 use Rattle.tables.specs.declared.letters.Conventions.{Conventions}
 use Rattle.tables.specs.Tables.{row_of}
 use Rattle.tables.proofs.Laws.{by_cases}
-use Rattle.reader.specs.declared.store.Entry.{Entry}
+use Rattle.reader.specs.declared.store.Entries.{Entries}
 use Rattle.reader.specs.declared.auction.Bidding.{Bidding}
 use Rattle.reader.specs.declared.play.Tricks.{Tricks}
 use Rattle.reader.specs.declared.section.Next.{Next}
 use Rattle.reader.specs.declared.section.Open.{Open}
 use Rattle.reader.specs.declared.section.Rows.{Rows}
 use Rattle.reader.specs.declared.section.Walk.{Walk}
-use Rattle.reader.specs.Store.{put_all, entry_words}
-use Rattle.reader.specs.Pieces.{Piece, Out, and_then, out_all, raw_lines}
+use Rattle.reader.specs.Pieces.{Piece, Out, and_then, out_all}
 use Rattle.reader.specs.PieceSteps.{Emits}
 use Rattle.reader.specs.Auction.{called_piece}
 use Rattle.reader.specs.Play.{played_piece}
 use Rattle.reader.specs.TokenSteps.{Seated}
-use Rattle.reader.specs.Sections.{data_in, split_piece, lines_data, section_data, row_stored, rowed_piece, walked, no_walk, walked_all}
-use Rattle.reader.specs.SectionSteps.{next_data, NextPiece, walk_count, Walks}
+use Rattle.reader.specs.Sections.{split_piece, lines_data, section_data, row_stored, rowed_piece, walked, no_walk, walked_all}
+use Rattle.reader.specs.SectionSteps.{data_from, PieceFrom, walk_count, Walks}
 use Rattle.reader.proofs.EntryLaws.{out_count}
 use Rattle.reader.proofs.AuctionLaws.{calls_counted}
 use Rattle.reader.proofs.PlayLaws.{none_seated, tricks_counted}
-use Rattle.reader.proofs.PieceLaws.{put_run, emits_none, ToEmit, emitted}
+use Rattle.reader.proofs.PieceLaws.{adds_none, adds_then, emits_none, ToEmit, to_emit, emitted}
 
 -- ---- the number of entries
 
@@ -57,16 +55,13 @@ section_count c r o trump = omega (arith, no_count, walk_count_lem c o trump no_
 
 -- ---- one piece
 
-pub walk_none : (a n k : ℕ) (l : List ℕ) (w : Walk) → Seated w.tricks → Walks a n (walk_count w + 3 * k) l l w (record { state = w; entries = [] })
-walk_none a n k l w s = record { emits = emits_none a n l w; seated = s; few = omega arith }
+pub walk_none : (k : ℕ) (l : Entries) (w : Walk) → Seated w.tricks → Walks (walk_count w + 3 * k) l l w (record { state = w; entries = [] })
+walk_none k l w s = record { emits = emits_none l w; seated = s; few = omega arith }
 
-walk_one : {a n m : ℕ} {l l' : List ℕ} (f : Walk → Piece → Out Walk) (w : Walk) (q : Piece) {r : Walk} → Walks a n m l l' r (f w q) → Walks a n m l l' r (out_all f w (q ∷ []))
-walk_one {a} {n} {m} {l} {l'} f w q h =
+walk_one : {m : ℕ} {l l' : Entries} (f : Walk → Piece → Out Walk) (w : Walk) (q : Piece) {r : Walk} → Walks m l l' r (f w q) → Walks m l l' r (out_all f w (q ∷ []))
+walk_one {m} {l} {l'} f w q h =
     record {
-      emits = record {
-        answer = h.emits.answer;
-        words = h.emits.words ∙ ap (λ (x : List Entry). put_all 4 l n (map (entry_words a) x)) (sym (append-nil (f w q).entries));
-      };
+      emits = record { answer = h.emits.answer; adds = rw (append-nil (f w q).entries) h.emits.adds };
       seated = h.seated;
       few = h.few;
     }
@@ -76,41 +71,39 @@ unfolding no_walk
 no_seated = none_seated
 
 -- What a section's walk starts with.
-start_seated : {w : Walk} → w ≡ no_walk → Seated w.tricks
+pub start_seated : {w : Walk} → w ≡ no_walk → Seated w.tricks
 start_seated e = rw e no_seated
 
-start_none : {w : Walk} → w ≡ no_walk → walk_count w ≡ 0
+pub start_none : {w : Walk} → w ≡ no_walk → walk_count w ≡ 0
 start_none e = rw e no_count
 
 -- One piece of at most k bytes.
-pub span_one : (f : Walk → Piece → Out Walk) (a n k : ℕ) (l l' : List ℕ) (w : Walk) (q : Piece) (r : Walk) → length q.bytes ≤ k
-    → Walks a n (walk_count w + 3 * length q.bytes) l l' r (f w q) → Walks a n (walk_count w + 3 * k) l l' r (out_all f w (q ∷ []))
-span_one f a n k l l' w q r h v =
+pub span_one : (f : Walk → Piece → Out Walk) (k : ℕ) (l l' : Entries) (w : Walk) (q : Piece) (r : Walk) → length q.bytes ≤ k
+    → Walks (walk_count w + 3 * length q.bytes) l l' r (f w q) → Walks (walk_count w + 3 * k) l l' r (out_all f w (q ∷ []))
+span_one f k l l' w q r h v =
     let u = walk_one f w q v in
     record { emits = u.emits; seated = u.seated; few = omega (arith, u.few) }
 
-pub piece_called : (c : Conventions) (o : Open) (trump : ℕ) (w : Walk) (q : Piece) (a base k : ℕ) (l l' : List ℕ) (b : Bidding) → o.kind ≡ 1
-    → Emits a (base + w.tricks.count + w.bidding.count) l l' b (called_piece c w.bidding q) → b.count ≤ w.bidding.count + 3 * k → Seated w.tricks
-    → Walks a (base + walk_count w) (walk_count w + 3 * k) l l' (record { bidding = b; tricks = w.tricks; rows = w.rows }) (walked c o trump w q)
+pub piece_called : (c : Conventions) (o : Open) (trump : ℕ) (w : Walk) (q : Piece) (k : ℕ) (l l' : Entries) (b : Bidding) → o.kind ≡ 1
+    → Emits l l' b (called_piece c w.bidding q) → b.count ≤ w.bidding.count + 3 * k → Seated w.tricks
+    → Walks (walk_count w + 3 * k) l l' (record { bidding = b; tricks = w.tricks; rows = w.rows }) (walked c o trump w q)
 unfolding walked
-piece_called c o trump w q a base k l l' b h e m s =
-    let d : base + (w.bidding.count + w.tricks.count) ≡ base + w.tricks.count + w.bidding.count = omega arith in
-    rw (eq-eqb o.kind 1 h) (record { emits = record { answer = rw e.answer; words = rw d e.words }; seated = s; few = omega arith })
+piece_called c o trump w q k l l' b h e m s =
+    rw (eq-eqb o.kind 1 h) (record { emits = record { answer = rw e.answer; adds = e.adds }; seated = s; few = omega arith })
 
-pub piece_played : (c : Conventions) (o : Open) (trump : ℕ) (w : Walk) (q : Piece) (a base k : ℕ) (l l' : List ℕ) (t : Tricks) → (o.kind ≡ 1 → ⊥) → o.kind ≡ 2
-    → Emits a (base + w.bidding.count + w.tricks.count) l l' t (played_piece c o.seat trump w.tricks q) → t.count ≤ w.tricks.count + k → Seated t
-    → Walks a (base + walk_count w) (walk_count w + 3 * k) l l' (record { bidding = w.bidding; tricks = t; rows = w.rows }) (walked c o trump w q)
+pub piece_played : (c : Conventions) (o : Open) (trump : ℕ) (w : Walk) (q : Piece) (k : ℕ) (l l' : Entries) (t : Tricks) → (o.kind ≡ 1 → ⊥) → o.kind ≡ 2
+    → Emits l l' t (played_piece c o.seat trump w.tricks q) → t.count ≤ w.tricks.count + k → Seated t
+    → Walks (walk_count w + 3 * k) l l' (record { bidding = w.bidding; tricks = t; rows = w.rows }) (walked c o trump w q)
 unfolding walked
-piece_played c o trump w q a base k l l' t g h e m s =
-    let d : base + (w.bidding.count + w.tricks.count) ≡ base + w.bidding.count + w.tricks.count = omega arith in
-    rw (ne_eqb o.kind 1 g, eq-eqb o.kind 2 h) (record { emits = record { answer = rw e.answer; words = rw d e.words }; seated = s; few = omega arith })
+piece_played c o trump w q k l l' t g h e m s =
+    rw (ne_eqb o.kind 1 g, eq-eqb o.kind 2 h) (record { emits = record { answer = rw e.answer; adds = e.adds }; seated = s; few = omega arith })
 
-pub piece_row : (c : Conventions) (o : Open) (trump : ℕ) (w : Walk) (q : Piece) (a n k : ℕ) (l : List ℕ) (v : Rows) → (o.kind ≡ 1 → ⊥) → (o.kind ≡ 2 → ⊥)
+pub piece_row : (c : Conventions) (o : Open) (trump : ℕ) (w : Walk) (q : Piece) (k : ℕ) (l : Entries) (v : Rows) → (o.kind ≡ 1 → ⊥) → (o.kind ≡ 2 → ⊥)
     → v ≡ row_stored (row_of c 0 q.bytes) w.rows → Seated w.tricks
-    → Walks a n (walk_count w + 3 * k) l l (record { bidding = w.bidding; tricks = w.tricks; rows = v }) (walked c o trump w q)
+    → Walks (walk_count w + 3 * k) l l (record { bidding = w.bidding; tricks = w.tricks; rows = v }) (walked c o trump w q)
 unfolding walked rowed_piece
-piece_row c o trump w q a n k l v g h e s =
-    rw (ne_eqb o.kind 1 g, ne_eqb o.kind 2 h) (record { emits = record { answer = rw e; words = refl }; seated = s; few = omega arith })
+piece_row c o trump w q k l v g h e s =
+    rw (ne_eqb o.kind 1 g, ne_eqb o.kind 2 h) (record { emits = record { answer = rw e; adds = adds_none l }; seated = s; few = omega arith })
 
 pub cut_short : (s line : List ℕ) (p n : ℕ) → s ≡ take n (drop p line) → length s ≤ n
 cut_short s line p n e = rw (e, length-take) (omega arith)
@@ -123,78 +116,60 @@ out_append f s (x ∷ xs) ys =
     rw (out_append f (f s x).state xs ys, append_assoc (f s x).entries (out_all f (f s x).state xs).entries (out_all f (out_all f (f s x).state xs).state ys).entries)
 
 -- Some steps of a run.
-emitting_run : {A B : Type 0} (f : A → B → Out A) (a n₀ : ℕ) (l₀ : List ℕ) (o : Out A) (l : List ℕ) (s : A) (n : ℕ) (xs rest : List B) (l' : List ℕ) (s' : A) (m : ℕ)
-    → ToEmit f a n₀ l₀ o l s n (xs ++ rest) → Emits a n l l' s' (out_all f s xs) → m ≡ n + length (out_all f s xs).entries → ToEmit f a n₀ l₀ o l' s' m rest
-emitting_run f a n₀ l₀ o l s n xs rest l' s' m t e em =
+emitting_run : {A B : Type 0} (f : A → B → Out A) (l₀ : Entries) (o : Out A) (l : Entries) (s : A) (xs rest : List B) (l' : Entries) (s' : A)
+    → ToEmit f l₀ o l s (xs ++ rest) → Emits l l' s' (out_all f s xs) → ToEmit f l₀ o l' s' rest
+emitting_run f l₀ o l s xs rest l' s' t e =
     let d = out_append f s xs rest in
     record {
       answer = rw e.answer (sym (ap (λ (x : Out _). x.state) d) ∙ t.answer);
-      words = rw (e.words, em, e.answer) (sym (put_run a n l (out_all f s xs).entries (out_all f (out_all f s xs).state rest).entries) ∙ (ap (λ (x : Out _). put_all 4 l n (map (entry_words a) x.entries)) (sym d) ∙ t.words));
+      adds = λ l'' h. t.adds l'' (rw d (adds_then e.adds (rw e.answer at h)));
+      start = e.adds.start ∙ t.start;
     }
 
--- The walk over the data of the section o: next is what is left of it.
-pub record Walking (c : Conventions) (r : List ℕ) (o : Open) (trump a base : ℕ) (l₀ : List ℕ) (w : Walk) (next : Next) (l : List ℕ) : Type 0 where
-  pub left : ToEmit (walked c o trump) a base l₀ (walked_all c r o trump) l w (base + walk_count w) (next_data r next)
+-- The walk over the data of the section o, of which the data lines from the place `at` on are left.
+pub record Walking (c : Conventions) (r : List ℕ) (o : Open) (trump : ℕ) (l₀ : Entries) (w : Walk) (at : ℕ) (l : Entries) : Type 0 where
+  pub left : ToEmit (walked c o trump) l₀ (walked_all c r o trump) l w (data_from r at)
+  pub counted : l.count ≡ l₀.count + walk_count w
   pub seated : Seated w.tricks
-  pub few : walk_count w + 3 * next.piece.len ≤ 3 * (o.split.len + (next.at - o.at))
-  pub from_at : o.at ≤ next.at
-  pub inside : next.at ≤ length r
-  pub piece_inside : next.piece.start + next.piece.len ≤ length r
+  pub few : walk_count w ≤ 3 * (o.split.len + (at - o.at))
+  pub from_at : o.at ≤ at
+  pub inside : at ≤ length r
 
-module _ (c : Conventions) (r : List ℕ) (o : Open) (trump a base : ℕ) (l₀ : List ℕ) where
-  all_left : (n : ℕ) → n ≡ base → ToEmit (walked c o trump) a base l₀ (walked_all c r o trump) l₀ no_walk n (split_piece r o.split ++ lines_data r o)
+module _ (c : Conventions) (r : List ℕ) (o : Open) (trump : ℕ) (l₀ : Entries) where
+  all_left : ToEmit (walked c o trump) l₀ (walked_all c r o trump) l₀ no_walk (split_piece r o.split ++ lines_data r o)
   unfolding walked_all section_data
-  all_left n e = record { answer = refl; words = rw e }
+  all_left = to_emit (walked c o trump) l₀ no_walk (split_piece r o.split ++ lines_data r o)
 
-  pub walking : (w : Walk) → w ≡ no_walk → o.at ≤ length r → o.split.start + o.split.len ≤ length r
-      → Walking c r o trump a base l₀ w (record { more = true; piece = o.split; at = o.at }) l₀
-  walking w e h i =
+  -- What was split off the tag line is walked.
+  pub walking : (w₀ w : Walk) (l : Entries) → w₀ ≡ no_walk → o.at ≤ length r
+      → Walks (walk_count w₀ + 3 * o.split.len) l₀ l w (out_all (walked c o trump) w₀ (split_piece r o.split)) → Walking c r o trump l₀ w o.at l
+  walking w₀ w l e h k =
+      let t : ToEmit (walked c o trump) l₀ (walked_all c r o trump) l₀ w₀ (split_piece r o.split ++ data_from r o.at) = rw e all_left in
       record {
-        left = rw e (all_left (base + walk_count no_walk) (omega (arith, no_count)));
-        seated = start_seated e;
-        few = omega (arith, start_none e);
+        left = emitting_run (walked c o trump) l₀ (walked_all c r o trump) l₀ w₀ (split_piece r o.split) (data_from r o.at) l w t k.emits;
+        counted = rw k.emits.answer (omega (arith, start_none e, k.emits.adds.count, walk_count_lem c o trump w₀ (split_piece r o.split)));
+        seated = k.seated;
+        few = omega (arith, start_none e, k.few);
         from_at = omega arith;
         inside = h;
-        piece_inside = i;
       }
 
-  pub walk_on : (w : Walk) (next : Next) (l : List ℕ) (w' : Walk) (next' : Next) (l' : List ℕ)
-      → Walking c r o trump a base l₀ w next l → next.more ≡ true
-      → Walks a (base + walk_count w) (walk_count w + 3 * next.piece.len) l l' w' (out_all (walked c o trump) w (split_piece r next.piece))
-      → NextPiece r next.at next' → Walking c r o trump a base l₀ w' next' l'
-  walk_on w next l w' next' l' v m k q =
+  pub walk_on : (w : Walk) (at : ℕ) (l : Entries) (w' : Walk) (next : Next) (l' : Entries)
+      → Walking c r o trump l₀ w at l
+      → Walks (walk_count w + 3 * next.piece.len) l l' w' (out_all (walked c o trump) w (split_piece r next.piece))
+      → PieceFrom r at next → Walking c r o trump l₀ w' next.at l'
+  walk_on w at l w' next l' v k q =
       let ps : List Piece = split_piece r next.piece in
-      let rest : List Piece = data_in false next.at (raw_lines (drop next.at r)) in
-      let d : base + walk_count w' ≡ base + walk_count w + length (out_all (walked c o trump) w ps).entries = rw k.emits.answer (omega (arith, walk_count_lem c o trump w ps)) in
-      let e : next_data r next ≡ ps ++ rest = ap (λ (b : Bool). cond b (ps ++ rest) []) m in
-      let t : ToEmit (walked c o trump) a base l₀ (walked_all c r o trump) l w (base + walk_count w) (ps ++ rest) = rw e at v.left in
-      let u : ToEmit (walked c o trump) a base l₀ (walked_all c r o trump) l' w' (base + walk_count w') rest = emitting_run (walked c o trump) a base l₀ (walked_all c r o trump) l w (base + walk_count w) ps rest l' w' (base + walk_count w') t k.emits d in
+      let t : ToEmit (walked c o trump) l₀ (walked_all c r o trump) l w (ps ++ data_from r next.at) = rw q.data_lines at v.left in
       record {
-        left = rw q.data_lines at u;
+        left = emitting_run (walked c o trump) l₀ (walked_all c r o trump) l w ps (data_from r next.at) l' w' t k.emits;
+        counted = rw k.emits.answer (omega (arith, v.counted, k.emits.adds.count, walk_count_lem c o trump w ps));
         seated = k.seated;
         few = omega (arith, k.few, v.few, v.from_at, q.past);
         from_at = omega (arith, v.from_at, q.past);
         inside = q.inside;
-        piece_inside = q.piece_inside;
       }
 
-  pub walk_ended : (w : Walk) (next : Next) (l : List ℕ) → Walking c r o trump a base l₀ w next l → next.more ≡ false
-      → Walks a base (3 * (o.split.len + (length r - o.at))) l₀ l w (walked_all c r o trump)
-  walk_ended w next l v m =
-      let e : next_data r next ≡ [] = ap (λ (b : Bool). cond b (split_piece r next.piece ++ data_in false next.at (raw_lines (drop next.at r))) []) m in
-      record { emits = emitted (rw e at v.left); seated = v.seated; few = omega (arith, v.few, v.inside) }
-
--- What is left of a section: the bytes from the place of the lines not looked at on, and one for the piece at hand.
-abbrev pub left_of : List ℕ → Next → ℕ
-left_of r n = cond n.more (suc (length r - n.at)) 0
-
-pub less_left : (r : List ℕ) (n n' : Next) → n.more ≡ true → n.at ≤ length r → NextPiece r n.at n' → left_of r n' < left_of r n
-less_left r n n' m h q =
-    let e : left_of r n ≡ suc (length r - n.at) = ap (λ (b : Bool). cond b (suc (length r - n.at)) 0) m in
-    by_cases n'.more
-    (λ t.
-    let f : left_of r n' ≡ suc (length r - n'.at) = ap (λ (b : Bool). cond b (suc (length r - n'.at)) 0) t in
-    omega (arith, e, f, q.later t, q.inside, h))
-    (λ t.
-    let f : left_of r n' ≡ 0 = ap (λ (b : Bool). cond b (suc (length r - n'.at)) 0) t in
-    omega (arith, e, f))
+  pub walk_ended : (w : Walk) (at : ℕ) (l : Entries) → Walking c r o trump l₀ w at l → data_from r at ≡ []
+      → Walks (3 * (o.split.len + (length r - o.at))) l₀ l w (walked_all c r o trump)
+  walk_ended w at l v e = record { emits = emitted (rw e at v.left); seated = v.seated; few = omega (arith, v.few, v.inside) }

@@ -11,7 +11,7 @@ use borrow.Author.Tests.{ltb-true}
 use Rattle.tables.specs.declared.letters.Conventions.{Conventions}
 use Rattle.tables.specs.Text.{lead, first_character}
 use Rattle.tables.specs.Letters.{seat_of}
-use Rattle.tables.specs.Tables.{TableReading, holds, refuses, gathered}
+use Rattle.tables.specs.Tables.{TableReading, gathered}
 use Rattle.tables.proofs.Laws.{by_cases, clash}
 use Rattle.reader.specs.declared.store.Entry.{Entry}
 use Rattle.reader.specs.declared.tag.Span.{Span}
@@ -44,6 +44,7 @@ use Rattle.reader.proofs.Counts.{chosen, EntriesFew}
 use Rattle.reader.proofs.PlainCalls.{call_low}
 use Rattle.reader.proofs.PlainAnchors.{TagsBefore}
 use Rattle.reader.proofs.PlainSteps.{HoldsOfRecord}
+use Rattle.std.specs.Prelude.{Ok, Err}
 
 -- ---- entries
 
@@ -65,7 +66,7 @@ directive_said x y z = record { mark_said = λ t. clash (sym t); leader_said = �
 block_said : (x y z : ℕ) → Said (entry 4 x y z)
 block_said x y z = record { mark_said = λ t. clash (sym t); leader_said = λ u. omega arith; winner_said = λ u. omega arith }
 
--- A step that keeps what holds of its state.
+-- A step that keeps what Ok of its state.
 record Step {A : Type 0} (I : A → Type 0) (o : Out A) : Type 0 where
   left : I o.state
   given : All Said o.entries
@@ -282,8 +283,8 @@ record Ready (s : State) : Type 0 where
   board_in : SectionsLow s.board
 
 rows_low : (b : Board) (x : TableReading) → SectionsLow b → SectionsLow (rows_closed b x)
-rows_low b (holds cells) h = record { auction_seat = h.auction_seat; auction_end = h.auction_end; play_seat = h.play_seat; play_end = h.play_end; trump_in = h.trump_in; trump_of_contract = h.trump_of_contract }
-rows_low b (refuses f) h = h
+rows_low b (Ok cells) h = record { auction_seat = h.auction_seat; auction_end = h.auction_end; play_seat = h.play_seat; play_end = h.play_end; trump_in = h.trump_in; trump_of_contract = h.trump_of_contract }
+rows_low b (Err f) h = h
 
 module _ (b : Board) (o : Open) (n : ℕ) (w : Walk) (low : o.seat ≤ 4) (i : InWalk w) (h : SectionsLow b) where
   auction_low : SectionsLow (auction_closed b o n w)
@@ -303,7 +304,7 @@ module _ (b : Board) (o : Open) (n : ℕ) (w : Walk) (low : o.seat ≤ 4) (i : I
       (λ e. h)
 
   table_low : SectionsLow (table_closed b w)
-  table_low = chosen (λ x. SectionsLow x) w.rows.fault b (rows_closed b (gathered w.rows.cells.tricks)) (λ e. h) (λ e. rows_low b (gathered w.rows.cells.tricks) h)
+  table_low = chosen (λ x. SectionsLow x) w.rows.fault b (rows_closed b (gathered w.rows.cells)) (λ e. h) (λ e. rows_low b (gathered w.rows.cells) h)
 
 closed_step : (c : Conventions) (r : List ℕ) (s : State) → Ready s → Step Ready (closed c r s)
 unfolding closed

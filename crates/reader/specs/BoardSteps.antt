@@ -1,5 +1,5 @@
 -- Parts of a line's step, and what the functions that read a line promise of the state after it.
-use Rattle.std.specs.Prelude.{ℕ, ◌+◌, ◌≤◌, ◌≡◌, List, [], map, cond, length}
+use Rattle.std.specs.Prelude.{ℕ, ◌+◌, ◌≤◌, ◌≡◌, List, [], cond, length}
 use Rattle.reader.specs.declared.tag.Span.{Span}
 use Rattle.reader.specs.declared.line.TagReading.{TagReading}
 use Rattle.reader.specs.declared.line.TagReading.TheVariants.{Plain, WithComment, WithData}
@@ -7,8 +7,8 @@ use Rattle.reader.specs.declared.board.Values.{Values}
 use Rattle.reader.specs.declared.board.State.{State}
 use Rattle.reader.specs.declared.section.Walk.{Walk}
 use Rattle.reader.specs.Pieces.{Out}
-use Rattle.reader.specs.PieceSteps.{Emits}
-use Rattle.reader.specs.Store.{put_all, entry_words}
+use Rattle.reader.specs.declared.store.Entries.{Entries}
+use Rattle.reader.specs.PieceSteps.{Adds, Emits}
 use Rattle.reader.specs.SectionSteps.{walk_count}
 use Rattle.reader.specs.Boards.{is_kept_value, value_put, no_span, last_entries, data_entries, at}
 
@@ -41,12 +41,12 @@ pub record Sound (p : ℕ) (s : State) : Type 0 where
   pub block_before : s.block ≤ p + 1
 
 -- The contract of a step: its answer and its entries, and what holds after it at q.
-pub record Stepped (a n q : ℕ) (entries entries' : List ℕ) (r : State) (o : Out State) : Type 0 where
-  pub emits : Emits a n entries entries' r o
+pub record Stepped (q : ℕ) (l l' : Entries) (r : State) (o : Out State) : Type 0 where
+  pub emits : Emits l l' r o
   pub sound : Sound q r
 
--- The contract of storing the last trick behind the entries of a section that stand from n on; r is how many there then are.
-pub record LastStored (a n kind : ℕ) (w : Walk) (entries entries' : List ℕ) (r : ℕ) : Type 0 where
-  pub stored : entries' ≡ put_all 4 entries (n + walk_count w) (map (entry_words a) (last_entries kind w))
+-- The contract of storing the last trick behind the entries of a section; r is how many there then are.
+pub record LastStored (kind : ℕ) (w : Walk) (l l' : Entries) (r : ℕ) : Type 0 where
+  pub adds : Adds l l' (last_entries kind w)
   pub counted : r ≡ walk_count w + length (last_entries kind w)
   pub few : r ≤ walk_count w + 1

@@ -1,13 +1,11 @@
 -- A board: what each line of its record does to it, and the entries that the line adds. Places are counted from the record's
 -- start, entries from its first.
-use Rattle.std.specs.Prelude.{ℕ, ◌+◌, ◌-◌, List, [], ◌∷◌, ◌++◌, Bool, true, false, cond, ◌&&◌, ◌||◌, not, ltb, eqb, length, replicate}
+use Rattle.std.specs.Prelude.{ℕ, ◌+◌, ◌-◌, List, [], ◌∷◌, ◌++◌, Bool, true, false, cond, ◌&&◌, ◌||◌, not, ltb, eqb, length, replicate, Some, None, Option, Ok, Err}
 use Rattle.tables.specs.declared.letters.Conventions.{Conventions}
-use Rattle.tables.specs.declared.numbers.Number.{Number}
-use Rattle.tables.specs.declared.numbers.Number.TheVariants.{Value, Bad}
 use Rattle.tables.specs.Text.{is_white, lead, trimmed, first_character}
-use Rattle.tables.specs.Numbers.{number_of, signed_of}
+use Rattle.tables.specs.Numbers.{Number, number_of, signed_of}
 use Rattle.tables.specs.Letters.{seat_of, every}
-use Rattle.tables.specs.Tables.{TableReading, holds, refuses, table_of_digits, gathered}
+use Rattle.tables.specs.Tables.{TableReading, table_of_digits, gathered}
 use Rattle.reader.specs.declared.store.Entry.{Entry}
 use Rattle.reader.specs.declared.tag.Span.{Span}
 use Rattle.reader.specs.declared.tag.Tag.{Tag}
@@ -16,8 +14,6 @@ use Rattle.reader.specs.declared.line.Line.TheVariants.{Blank, Brace, Directive,
 use Rattle.reader.specs.declared.line.TagReading.{TagReading}
 use Rattle.reader.specs.declared.line.TagReading.TheVariants.{Plain, WithComment, WithData}
 use Rattle.reader.specs.declared.deal.Hands.{Hands}
-use Rattle.reader.specs.declared.deal.DealRead.{DealRead}
-use Rattle.reader.specs.declared.deal.DealRead.TheVariants.{Dealt, NoDeal}
 use Rattle.reader.specs.declared.board.Identity.{Identity}
 use Rattle.reader.specs.declared.board.DealCard.{DealCard}
 use Rattle.reader.specs.declared.board.TableCard.{TableCard}
@@ -30,7 +26,7 @@ use Rattle.reader.specs.declared.section.Walk.{Walk}
 use Rattle.reader.specs.Lines.{line_kind, has_brace, last_brace}
 use Rattle.reader.specs.Words.{same, contract_trump, vulnerability_of}
 use Rattle.reader.specs.Names.{tag_number, board_name, dealer_name, vulnerable_name, deal_name, event_name, site_name, date_name, declarer_name, contract_name, result_name, north_name, east_name, south_name, west_name, auction_name, play_name, double_dummy_tricks_name, optimum_result_table_name, optimum_score_name, par_contract_name}
-use Rattle.reader.specs.Deals.{deal_of, hand_words}
+use Rattle.reader.specs.Deals.{DealRead, deal_of, hand_words}
 use Rattle.reader.specs.Pieces.{Out, and_then, entry, raw_lines}
 use Rattle.reader.specs.Tag.{cut}
 use Rattle.reader.specs.Play.{last_trick}
@@ -38,23 +34,23 @@ use Rattle.reader.specs.Sections.{walked_all}
 
 -- ---- what a tag's value does to a board
 
--- Number, dealer, vulnerability (4 where none was read), declarer, result plus 128. A bad one takes the earlier value away.
+-- Option ℕ, dealer, vulnerability (4 where none was read), declarer, result plus 128. A bad one takes the earlier value away.
 abbrev pub with_number : Identity → Number → Identity
-with_number i Bad = record { number_met = 0; number = 0; dealer = i.dealer; vulnerability = i.vulnerability; declarer = i.declarer; result_met = i.result_met; result = i.result }
-with_number i (Value v) = record { number_met = 1; number = v; dealer = i.dealer; vulnerability = i.vulnerability; declarer = i.declarer; result_met = i.result_met; result = i.result }
+with_number i None = record { number_met = 0; number = 0; dealer = i.dealer; vulnerability = i.vulnerability; declarer = i.declarer; result_met = i.result_met; result = i.result }
+with_number i (Some v) = record { number_met = 1; number = v; dealer = i.dealer; vulnerability = i.vulnerability; declarer = i.declarer; result_met = i.result_met; result = i.result }
 
 abbrev pub with_dealer : Identity → ℕ → Identity
-with_dealer i s = record { number_met = i.number_met; number = i.number; dealer = s; vulnerability = i.vulnerability; declarer = i.declarer; result_met = i.result_met; result = i.result }
+with_dealer i s = record i { dealer = s }
 
 abbrev pub with_vulnerability : Identity → ℕ → Identity
-with_vulnerability i v = record { number_met = i.number_met; number = i.number; dealer = i.dealer; vulnerability = v; declarer = i.declarer; result_met = i.result_met; result = i.result }
+with_vulnerability i v = record i { vulnerability = v }
 
 abbrev pub with_declarer : Identity → ℕ → Identity
-with_declarer i s = record { number_met = i.number_met; number = i.number; dealer = i.dealer; vulnerability = i.vulnerability; declarer = s; result_met = i.result_met; result = i.result }
+with_declarer i s = record i { declarer = s }
 
 abbrev pub with_result : Identity → Number → Identity
-with_result i Bad = record { number_met = i.number_met; number = i.number; dealer = i.dealer; vulnerability = i.vulnerability; declarer = i.declarer; result_met = 0; result = 0 }
-with_result i (Value v) = record { number_met = i.number_met; number = i.number; dealer = i.dealer; vulnerability = i.vulnerability; declarer = i.declarer; result_met = 1; result = v }
+with_result i None = record { number_met = i.number_met; number = i.number; dealer = i.dealer; vulnerability = i.vulnerability; declarer = i.declarer; result_met = 0; result = 0 }
+with_result i (Some v) = record { number_met = i.number_met; number = i.number; dealer = i.dealer; vulnerability = i.vulnerability; declarer = i.declarer; result_met = 1; result = v }
 
 -- By the tag's number.
 unfoldable pub identity_by : Conventions → ℕ → List ℕ → Identity → Identity
@@ -70,16 +66,16 @@ abbrev pub parsed_deal : Hands → DealCard → DealCard
 parsed_deal h d = record { kind = cond (eqb d.kind 2) 2 1; words = hand_words h }
 
 abbrev pub deal_read : DealRead → List ℕ → DealCard → DealCard
-deal_read (Dealt h) value d = parsed_deal h d
-deal_read NoDeal value d = record { kind = cond (eqb (length (trimmed value)) 0) d.kind 2; words = d.words }
+deal_read (Some h) value d = parsed_deal h d
+deal_read None value d = record { kind = cond (eqb (length (trimmed value)) 0) d.kind 2; words = d.words }
 
 unfoldable pub deal_by : Conventions → ℕ → List ℕ → DealCard → DealCard
 deal_by c k value d = cond (eqb k deal_name) (deal_read (deal_of c value) value d) d
 
 -- DoubleDummyTricks: never over a table of an OptimumResultTable; bad digits take an earlier one away.
 abbrev pub digits_table : TableReading → TableCard
-digits_table (holds cells) = record { kind = 1; cells = cells }
-digits_table (refuses f) = record { kind = 0; cells = replicate 20 0 }
+digits_table (Ok cells) = record { kind = 1; cells = cells }
+digits_table (Err f) = record { kind = 0; cells = replicate 20 0 }
 
 unfoldable pub table_by : ℕ → List ℕ → TableCard → TableCard
 table_by k value t = cond (eqb k double_dummy_tricks_name && not (eqb t.kind 2)) (digits_table (table_of_digits value)) t
@@ -95,8 +91,8 @@ contract_by c k value trump = cond (eqb k contract_name && is_kept_contract valu
 -- Whether the value's entry is kept on the card, of a tag that words 39 to 50 name (`value_put` puts no other). Board, Event, Site, Date and names: where it is not empty; Contract: nor `?`;
 -- Deal: where it did not parse and is not blank; OptimumScore and ParContract: always.
 abbrev pub is_unparsed : DealRead → List ℕ → Bool
-is_unparsed (Dealt h) value = false
-is_unparsed NoDeal value = not (eqb (length (trimmed value)) 0)
+is_unparsed (Some h) value = false
+is_unparsed None value = not (eqb (length (trimmed value)) 0)
 
 -- A tag other than Deal, and any tag.
 unfoldable pub is_kept_value : ℕ → List ℕ → Bool
@@ -129,14 +125,11 @@ values_by c k value place v = cond (is_kept c k value) (value_put k place v) v
 -- A board after a tag of number k; place is the value's entry plus 1.
 unfoldable pub applied : Conventions → ℕ → List ℕ → ℕ → Board → Board
 applied c k value place b =
-    record {
+    record b {
       id = identity_by c k value b.id;
       deal = deal_by c k value b.deal;
       table = table_by k value b.table;
       values = values_by c k value place b.values;
-      auction = b.auction;
-      play = b.play;
-      trump = b.trump;
       contract = contract_by c k value b.contract;
     }
 
@@ -160,8 +153,7 @@ open_by c k value at split =
     (cond (eqb k optimum_result_table_name) (record { kind = 3; seat = 4; at = at; split = split }) no_open))
 
 abbrev pub with_sections : Board → TableCard → Section → Section → ℕ → Board
-with_sections b table auction play trump =
-    record { id = b.id; deal = b.deal; table = table; values = b.values; auction = auction; play = play; trump = trump; contract = b.contract }
+with_sections b table auction play trump = record b { table = table; auction = auction; play = play; trump = trump }
 
 -- The board after its open section: a section with tokens replaces an earlier one; a whole table of rows wins.
 abbrev pub auction_closed : Board → Open → ℕ → Walk → Board
@@ -177,11 +169,11 @@ play_closed b o n w =
     b
 
 abbrev pub rows_closed : Board → TableReading → Board
-rows_closed b (holds cells) = with_sections b (record { kind = 2; cells = cells }) b.auction b.play b.trump
-rows_closed b (refuses f) = b
+rows_closed b (Ok cells) = with_sections b (record { kind = 2; cells = cells }) b.auction b.play b.trump
+rows_closed b (Err f) = b
 
 abbrev pub table_closed : Board → Walk → Board
-table_closed b w = cond w.rows.fault b (rows_closed b (gathered w.rows.cells.tricks))
+table_closed b w = cond w.rows.fault b (rows_closed b (gathered w.rows.cells))
 
 abbrev pub board_closed : Board → Open → ℕ → Walk → Board
 board_closed b o n w = cond (eqb o.kind 1) (auction_closed b o n w) (cond (eqb o.kind 2) (play_closed b o n w) (table_closed b w))
@@ -194,7 +186,7 @@ abbrev pub closed_entries : Open → Out Walk → List Entry
 closed_entries o w = w.entries ++ last_entries o.kind w.state
 
 abbrev pub closed_state : State → Board → ℕ → State
-closed_state s b k = record { board = b; section = no_open; tags = s.tags; n = s.n + k; commentary = s.commentary; block = s.block }
+closed_state s b k = record s { board = b; section = no_open; n = s.n + k }
 
 abbrev pub closed_by : State → Out Walk → Out State
 closed_by s w =
@@ -209,7 +201,7 @@ closed c r s = cond (eqb s.section.kind 0) (record { state = s; entries = [] }) 
 -- ---- lines
 
 abbrev pub counted_state : State → ℕ → State
-counted_state s k = record { board = s.board; section = s.section; tags = s.tags; n = s.n + k; commentary = s.commentary; block = s.block }
+counted_state s k = record s { n = s.n + k }
 
 abbrev pub adding : State → List Entry → Out State
 adding s es = record { state = counted_state s (length es); entries = es }
@@ -259,7 +251,7 @@ abbrev pub is_all_white : List ℕ → ℕ → ℕ → Bool
 is_all_white r i j = every is_white (cut (record { start = i; len = j - i }) r)
 
 abbrev pub with_commentary : State → Bool → ℕ → State
-with_commentary s commentary block = record { board = s.board; section = s.section; tags = s.tags; n = s.n; commentary = commentary; block = block }
+with_commentary s commentary block = record s { commentary = commentary; block = block }
 
 unfoldable pub blocked : List ℕ → State → ℕ → ℕ → Out State
 blocked r s i j = adding (with_commentary s false 0) (cond (is_all_white r i j) [] (entry 4 i (j - i) s.tags ∷ []))

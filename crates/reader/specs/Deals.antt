@@ -1,13 +1,10 @@
 -- The value of a Deal tag: a seat's letter, a colon, four hands clockwise from that seat, read and written. A hand is a number with a
 -- bit for each of its cards, 13 × suit + rank: suits C D H S from 0, 2 is rank 0.
-use Rattle.std.specs.Prelude.{ℕ, zero, suc, ◌+◌, ◌-◌, ◌*◌, ◌/◌, ◌%◌, ◌^◌, ◌<◌, ◌≤◌, Bool, false, cond, ◌&&◌, List, [], ◌∷◌, ◌++◌, eqb, ltb, leb, get_or, length}
-use Rattle.std.proofs.Math.Option.{Option, none, some}
+use Rattle.std.specs.Prelude.{ℕ, zero, suc, ◌+◌, ◌-◌, ◌*◌, ◌/◌, ◌%◌, ◌^◌, ◌<◌, ◌≤◌, Bool, false, cond, ◌&&◌, List, [], ◌∷◌, ◌++◌, Option, Some, None, option_map, eqb, ltb, leb, get_or, length}
 use Rattle.tables.specs.declared.letters.Conventions.{Conventions}
 use Rattle.tables.specs.Text.{is_white, trimmed, fields}
 use Rattle.tables.specs.Letters.{seat_of, rank_of, seat_letter, rank_letter, distinct}
 use Rattle.reader.specs.declared.deal.Hands.{Hands}
-use Rattle.reader.specs.declared.deal.DealRead.{DealRead}
-use Rattle.reader.specs.declared.deal.DealRead.TheVariants.{Dealt, NoDeal}
 
 -- ---- cards in a number
 
@@ -41,21 +38,20 @@ whole_hands h = ((eqb (card_count h.north) 13 && eqb (card_count h.east) 13) && 
 
 -- A card before the others, where the others could be read.
 abbrev pub card_before : ℕ → Option (List ℕ) → Option (List ℕ)
-card_before k none = none
-card_before k (some ks) = some (k ∷ ks)
+card_before k o = option_map (λ ks. k ∷ ks) o
 
 -- The cards that a text names, its suits from s down to clubs (0): a dot (46) ends a suit, any other byte is a rank's letter.
 abbrev pub cards_from_suit : Conventions → List ℕ → ℕ → Option (List ℕ)
-cards_from_suit c [] s = cond (eqb s 0) (some []) none
+cards_from_suit c [] s = cond (eqb s 0) (Some []) None
 cards_from_suit c (b ∷ bs) s =
     cond (eqb b 46)
-    (cond (eqb s 0) none (cards_from_suit c bs (s - 1)))
-    (cond (eqb (rank_of c b) 13) none (card_before (13 * s + rank_of c b) (cards_from_suit c bs s)))
+    (cond (eqb s 0) None (cards_from_suit c bs (s - 1)))
+    (cond (eqb (rank_of c b) 13) None (card_before (13 * s + rank_of c b) (cards_from_suit c bs s)))
 
 -- At most n cards.
 abbrev pub at_most : ℕ → Option (List ℕ) → Option (List ℕ)
-at_most n none = none
-at_most n (some ks) = cond (leb (length ks) n) (some ks) none
+at_most n None = None
+at_most n (Some ks) = cond (leb (length ks) n) (Some ks) None
 
 -- Is it a dash (45) alone?
 abbrev pub is_dash : List ℕ → Bool
@@ -65,37 +61,41 @@ is_dash (b ∷ d ∷ bs) = false
 
 -- The cards of a hand: a dash is none, else four suits from spades (3) down, at most 13 cards in all.
 unfoldable pub cards_named : Conventions → List ℕ → Option (List ℕ)
-cards_named c t = cond (is_dash t) (some []) (at_most 13 (cards_from_suit c t 3))
+cards_named c t = cond (is_dash t) (Some []) (at_most 13 (cards_from_suit c t 3))
 
 -- ---- a deal's text
 
 -- A hand before the others.
 abbrev pub hand_before : Option (List ℕ) → Option (List (List ℕ)) → Option (List (List ℕ))
-hand_before none hs = none
-hand_before (some ks) none = none
-hand_before (some ks) (some hs) = some (ks ∷ hs)
+hand_before None hs = None
+hand_before (Some ks) None = None
+hand_before (Some ks) (Some hs) = Some (ks ∷ hs)
 
 -- The cards of each hand, where each can be read.
 abbrev pub all_named : Conventions → List (List ℕ) → Option (List (List ℕ))
-all_named c [] = some []
+all_named c [] = Some []
 all_named c (t ∷ ts) = hand_before (cards_named c t) (all_named c ts)
+
+-- What a deal's text is read as, None where it is no deal.
+abbrev pub DealRead : Type 0
+DealRead = Option Hands
 
 -- Four hands, the first as N's; no card may stand twice in the deal.
 abbrev pub dealt : List ℕ → List ℕ → List ℕ → List ℕ → DealRead
 dealt n e s w =
     cond (distinct (n ++ (e ++ (s ++ w))))
-    (Dealt (record { north = hand_bits n; east = hand_bits e; south = hand_bits s; west = hand_bits w }))
-    NoDeal
+    (Some (record { north = hand_bits n; east = hand_bits e; south = hand_bits s; west = hand_bits w }))
+    None
 
 -- Exactly four hands.
 abbrev pub four_hands : Option (List (List ℕ)) → DealRead
-four_hands none = NoDeal
-four_hands (some []) = NoDeal
-four_hands (some (n ∷ [])) = NoDeal
-four_hands (some (n ∷ e ∷ [])) = NoDeal
-four_hands (some (n ∷ e ∷ s ∷ [])) = NoDeal
-four_hands (some (n ∷ e ∷ s ∷ w ∷ [])) = dealt n e s w
-four_hands (some (n ∷ e ∷ s ∷ w ∷ x ∷ xs)) = NoDeal
+four_hands None = None
+four_hands (Some []) = None
+four_hands (Some (n ∷ [])) = None
+four_hands (Some (n ∷ e ∷ [])) = None
+four_hands (Some (n ∷ e ∷ s ∷ [])) = None
+four_hands (Some (n ∷ e ∷ s ∷ w ∷ [])) = dealt n e s w
+four_hands (Some (n ∷ e ∷ s ∷ w ∷ x ∷ xs)) = None
 
 abbrev pub starts_white : List ℕ → Bool
 starts_white [] = false
@@ -103,7 +103,7 @@ starts_white (b ∷ bs) = is_white b
 
 -- What stands after the colon: the hands are its fields, and no white space stands before the first.
 unfoldable pub hands_after : Conventions → List ℕ → DealRead
-hands_after c s = cond (starts_white s) NoDeal (four_hands (all_named c (fields s)))
+hands_after c s = cond (starts_white s) None (four_hands (all_named c (fields s)))
 
 -- Every hand goes one seat on, clockwise.
 abbrev pub onward : Hands → Hands
@@ -115,17 +115,16 @@ turned zero h = h
 turned (suc seat) h = onward (turned seat h)
 
 abbrev pub turned_deal : ℕ → DealRead → DealRead
-turned_deal seat NoDeal = NoDeal
-turned_deal seat (Dealt h) = Dealt (turned seat h)
+turned_deal seat r = option_map (turned seat) r
 
 -- A seat's letter, a colon (58) right after it, and the hands from that seat on.
 abbrev pub deal_in : Conventions → List ℕ → DealRead
-deal_in c [] = NoDeal
-deal_in c (a ∷ []) = NoDeal
+deal_in c [] = None
+deal_in c (a ∷ []) = None
 deal_in c (a ∷ b ∷ rest) =
     cond (eqb b 58)
-    (cond (ltb 3 (seat_of c a)) NoDeal (turned_deal (seat_of c a) (hands_after c rest)))
-    NoDeal
+    (cond (ltb 3 (seat_of c a)) None (turned_deal (seat_of c a) (hands_after c rest)))
+    None
 
 -- What a value is read as.
 unfoldable pub deal_of : Conventions → List ℕ → DealRead

@@ -1,13 +1,12 @@
 -- An edition: the cards and entries of its records, as they are handed back, and refusals 1 to 3.
-use Rattle.std.specs.Prelude.{ℕ, ◌+◌, ◌/◌, ◌≡◌, List, [], ◌∷◌, ◌++◌, map, Bool, true, false, cond, ltb, eqb, length}
+use Rattle.std.specs.Prelude.{ℕ, ◌+◌, ◌/◌, ◌≡◌, List, [], ◌∷◌, ◌++◌, map, cond, ltb, eqb, length, Result, Ok, Err, is_ok}
 use Rattle.tables.specs.declared.letters.Conventions.{Conventions}
 use Rattle.reader.specs.declared.board.Values.{Values}
 use Rattle.reader.specs.declared.board.Section.{Section}
 use Rattle.reader.specs.declared.board.Board.{Board}
+use Rattle.reader.specs.declared.edition.Counts.{Counts}
 use Rattle.reader.specs.declared.edition.ReadRefusal.{ReadRefusal}
 use Rattle.reader.specs.declared.edition.ReadRefusal.TheVariants.{Overlong, BoxFull, ListFull}
-use Rattle.reader.specs.declared.edition.Reading.{Reading}
-use Rattle.reader.specs.declared.edition.Reading.TheVariants.{Taken, Refused}
 use Rattle.reader.specs.Store.{low_word, lent, entry_words}
 use Rattle.reader.specs.Boards.{record_out}
 use Rattle.reader.specs.Records.{records_of}
@@ -23,11 +22,6 @@ abbrev pub read_carries : ReadRefusal → ℕ
 read_carries (Overlong n) = n
 read_carries (BoxFull n) = n
 read_carries (ListFull n) = n
-
--- An edition is taken when none of them is met.
-abbrev pub is_taken : Reading → Bool
-is_taken (Taken boards entries) = true
-is_taken (Refused f) = false
 
 -- ---- the 64 words of a card
 
@@ -93,20 +87,22 @@ unfoldable pub entries_of : Conventions → List ℕ → List (List ℕ)
 entries_of c text = entries_from c 0 (records_of text)
 
 -- The answer for lc lent card words and le lent entry words; a tail too short for a card or an entry counts as none.
-abbrev pub counts_answer : ℕ → ℕ → ℕ → ℕ → Reading
-counts_answer lc le boards entries =
-    cond (ltb (lc / 64) boards) (Refused (BoxFull boards))
-    (cond (ltb (le / 4) entries) (Refused (ListFull entries)) (Taken boards entries))
+abbrev pub counts_answer : ℕ → ℕ → Counts → Result Counts ReadRefusal
+counts_answer lc le n =
+    cond (ltb (lc / 64) n.boards) (Err (BoxFull n.boards))
+    (cond (ltb (le / 4) n.entries) (Err (ListFull n.entries)) (Ok n))
 
-unfoldable pub reading_of : Conventions → List ℕ → ℕ → ℕ → Reading
-reading_of c text lc le =
-    cond (ltb 16777215 (length text)) (Refused (Overlong (length text)))
-    (counts_answer lc le (length (cards_of c text)) (length (entries_of c text)))
+-- How many of both a text has.
+abbrev pub counts_of : Conventions → List ℕ → Counts
+counts_of c text = record { boards = length (cards_of c text); entries = length (entries_of c text) }
+
+unfoldable pub reading_of : Conventions → List ℕ → ℕ → ℕ → Result Counts ReadRefusal
+reading_of c text lc le = cond (ltb 16777215 (length text)) (Err (Overlong (length text))) (counts_answer lc le (counts_of c text))
 
 -- ---- the contract
 
 -- The contract of reading: the answer, every card word and every entry word.
-pub record IsRead (c : Conventions) (text cards entries : List ℕ) (r : Reading) (cards' entries' : List ℕ) : Type 0 where
+pub record IsRead (c : Conventions) (text cards entries : List ℕ) (r : Result Counts ReadRefusal) (cards' entries' : List ℕ) : Type 0 where
   pub answer : r ≡ reading_of c text (length cards) (length entries)
-  pub cards_after : cards' ≡ lent (is_taken r) (length cards) (cards_of c text)
-  pub entries_after : entries' ≡ lent (is_taken r) (length entries) (entries_of c text)
+  pub cards_after : cards' ≡ lent (is_ok r) (length cards) (cards_of c text)
+  pub entries_after : entries' ≡ lent (is_ok r) (length entries) (entries_of c text)

@@ -1,15 +1,13 @@
 -- What a board keeps of its record: the deal, the values and the table, as its tags leave them. Proved of every record in proofs:
 -- PlainValues, PlainDeal, PlainBounds; of its card in CardKept.
-use Rattle.std.specs.Prelude.{ℕ, ◌≤◌, ◌≡◌, true, cond, ◌&&◌, List, [], ◌∷◌, map, eqb, leb, length, get_or, take, drop, replicate}
+use Rattle.std.specs.Prelude.{ℕ, ◌≤◌, ◌≡◌, true, cond, ◌&&◌, List, [], ◌∷◌, map, eqb, leb, length, get_or, take, drop, replicate, Some, None}
 use Rattle.std.proofs.Math.Option.{Option, none, some}
 use Rattle.tables.specs.declared.letters.Conventions.{Conventions}
 use Rattle.tables.specs.Letters.{every}
 use Rattle.reader.specs.declared.deal.Hands.{Hands}
-use Rattle.reader.specs.declared.deal.DealRead.{DealRead}
-use Rattle.reader.specs.declared.deal.DealRead.TheVariants.{Dealt, NoDeal}
 use Rattle.reader.specs.declared.board.TableCard.{TableCard}
 use Rattle.reader.specs.Names.{tag_number, board_name, deal_name, event_name, site_name, date_name, contract_name, north_name, east_name, south_name, west_name, optimum_score_name, par_contract_name}
-use Rattle.reader.specs.Deals.{deal_of, hand_words, hands_of_words, Proper}
+use Rattle.reader.specs.Deals.{DealRead, deal_of, hand_words, hands_of_words, Proper}
 use Rattle.reader.specs.Boards.{is_kept}
 use Rattle.reader.specs.Plain.{TagPair, PlainBoard, plain_list}
 
@@ -43,8 +41,8 @@ pub record ValuesKept (c : Conventions) (p : PlainBoard) : Type 0 where
 
 -- The hands o, after one more tag: those of a Deal tag that parses.
 abbrev pub hands_read : DealRead → Option Hands → Option Hands
-hands_read (Dealt h) o = some h
-hands_read NoDeal o = o
+hands_read (Some h) o = some h
+hands_read None o = o
 
 abbrev pub hands_by : Conventions → Option Hands → TagPair → Option Hands
 hands_by c o t = cond (eqb (tag_number t.name) deal_name) (hands_read (deal_of c t.value) o) o
@@ -72,7 +70,7 @@ pub record DealKept (c : Conventions) (p : PlainBoard) : Type 0 where
   pub words_are : p.deal.words ≡ words_kept (last_hands c p.tags)
   pub hands_proper : Proper (hands_of_words p.deal.words)
   pub words_back : hand_words (hands_of_words p.deal.words) ≡ p.deal.words
-  pub read_again : (v : List ℕ) → p.values.deal ≡ some v → deal_of c v ≡ NoDeal
+  pub read_again : (v : List ℕ) → p.values.deal ≡ some v → deal_of c v ≡ None
   pub kept_again : (v : List ℕ) → p.values.deal ≡ some v → is_kept c deal_name v ≡ true
 
 -- ---- the table

@@ -1,15 +1,11 @@
 -- The kinds of lines outside commentary.
-use Rattle.std.specs.Prelude.{ℕ, suc, List, [], ◌∷◌, Bool, true, false, ◌&&◌, ◌||◌, cond, not, eqb, length, get_or}
+use Rattle.std.specs.Prelude.{ℕ, suc, List, [], ◌∷◌, Bool, true, false, ◌&&◌, ◌||◌, cond, not, eqb, length, get_or, Some, None}
 use Rattle.tables.specs.Text.{trim_start, trimmed}
 use Rattle.tables.specs.Letters.{among}
-use Rattle.reader.specs.declared.tag.TagLine.{TagLine}
-use Rattle.reader.specs.declared.tag.TagLine.TheVariants.{NoTag, Plain as PlainTag, WithComment as CommentTag}
-use Rattle.reader.specs.declared.tag.Split.{Split}
-use Rattle.reader.specs.declared.tag.Split.TheVariants.{Data as DataTag, NoData}
 use Rattle.reader.specs.declared.line.TagReading.TheVariants.{Plain, WithComment, WithData}
 use Rattle.reader.specs.declared.line.Line.{Line}
 use Rattle.reader.specs.declared.line.Line.TheVariants.{Blank, Brace, Directive, Tag, Bracket, Data}
-use Rattle.reader.specs.Tag.{trim_span, tag_line, split_of}
+use Rattle.reader.specs.Tag.{TagLine, Split, trim_span, tag_line, split_of}
 
 -- A line is blank where it is empty once it is trimmed.
 unfoldable pub is_blank : List ℕ → Bool
@@ -26,17 +22,17 @@ last_brace (b ∷ bs) = cond (eqb b 125 && not (among 125 bs)) 0 (suc (last_brac
 
 -- A `[` line that is no tag: a tag with section data split off, or nothing.
 abbrev pub split_as : Split → Line
-split_as (DataTag t d) = Tag (WithData t d)
-split_as NoData = Bracket
+split_as (Some (t, d)) = Tag (WithData t d)
+split_as None = Bracket
 
 unfoldable pub split_line : List ℕ → Line
 split_line line = split_as (split_of line)
 
 -- A `[` line.
 abbrev pub bracket_as : TagLine → List ℕ → Line
-bracket_as NoTag line = split_line line
-bracket_as (PlainTag t) line = Tag (Plain t)
-bracket_as (CommentTag t c) line = Tag (WithComment t c)
+bracket_as None line = split_line line
+bracket_as (Some (t, None)) line = Tag (Plain t)
+bracket_as (Some (t, Some c)) line = Tag (WithComment t c)
 
 unfoldable pub bracket_line : List ℕ → Line
 bracket_line line = bracket_as (tag_line line) line

@@ -1,7 +1,9 @@
 -- The tag names that a reader knows, by number.
-use Rattle.std.specs.Prelude.{ℕ, ◌+◌, List, [], ◌∷◌, cond}
+use Rattle.std.specs.Prelude.{ℕ, ◌+◌, List, [], ◌∷◌, Option, Some, None, cond}
 use Rattle.tables.specs.Text.{ascii}
 use Rattle.reader.specs.Words.{same}
+use Rattle.reader.specs.declared.names.TagName.{TagName}
+use Rattle.reader.specs.declared.names.TagName.TheVariants.{Board, Dealer, Vulnerable, Deal, Event, Site, Date, Declarer, Contract, Result, North, East, South, West, Auction, Play, Note, DoubleDummyTricks, OptimumResultTable, OptimumScore, ParContract}
 
 -- Numbered from 1.
 unfoldable pub tag_names : List (List ℕ)
@@ -101,3 +103,28 @@ number_in (w ∷ ws) t n = cond (same w t) n (number_in ws t (n + 1))
 -- The number of a tag name, compared byte by byte; 0 for any other.
 unfoldable pub tag_number : List ℕ → ℕ
 tag_number t = number_in tag_names t 1
+
+-- The number of a name that is known, and 0 for none.
+abbrev pub number_of : Option TagName → ℕ
+number_of None = 0
+number_of (Some Board) = board_name
+number_of (Some Dealer) = dealer_name
+number_of (Some Vulnerable) = vulnerable_name
+number_of (Some Deal) = deal_name
+number_of (Some Event) = event_name
+number_of (Some Site) = site_name
+number_of (Some Date) = date_name
+number_of (Some Declarer) = declarer_name
+number_of (Some Contract) = contract_name
+number_of (Some Result) = result_name
+number_of (Some North) = north_name
+number_of (Some East) = east_name
+number_of (Some South) = south_name
+number_of (Some West) = west_name
+number_of (Some Auction) = auction_name
+number_of (Some Play) = play_name
+number_of (Some Note) = note_name
+number_of (Some DoubleDummyTricks) = double_dummy_tricks_name
+number_of (Some OptimumResultTable) = optimum_result_table_name
+number_of (Some OptimumScore) = optimum_score_name
+number_of (Some ParContract) = par_contract_name

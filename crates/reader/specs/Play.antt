@@ -67,8 +67,7 @@ opened lead t =
 
 -- The end mark, whether the section stops, and the seats taken, set anew.
 abbrev pub taking : Tricks → ℕ → Bool → ℕ → Tricks
-taking t end stopped seat =
-    record { any = true; leader = t.leader; winner = t.winner; slots = t.slots; seat = seat; end = end; stopped = stopped; count = t.count }
+taking t end stopped seat = record t { any = true; seat = seat; end = end; stopped = stopped }
 
 -- The slot of the next seat, counted from the trick's own leader.
 abbrev pub slot_of : ℕ → ℕ → ℕ → ℕ
@@ -77,16 +76,7 @@ slot_of lead seat leader = (lead + seat + 4 - leader) % 4
 -- The next seat's card taken into the slots s. A trick with four cards has a winner.
 abbrev pub with_card : ℕ → Tricks → Slots → Tricks
 with_card trump t s =
-    record {
-      any = true;
-      leader = t.leader;
-      winner = cond (is_full s) (winner_of trump t.leader s) t.winner;
-      slots = s;
-      seat = t.seat + 1;
-      end = t.end;
-      stopped = false;
-      count = t.count;
-    }
+    record t { any = true; winner = cond (is_full s) (winner_of trump t.leader s) t.winner; slots = s; seat = t.seat + 1; stopped = false }
 
 -- An unknown card.
 unfoldable pub is_gap : List ℕ → Bool
@@ -115,17 +105,7 @@ played_piece c lead trump t q = out_all (played_token c lead trump) t (tokens_of
 
 -- The section closes: an open trick is closed too.
 abbrev pub one_more : Tricks → Tricks
-one_more t =
-    record {
-      any = t.any;
-      leader = t.leader;
-      winner = t.winner;
-      slots = t.slots;
-      seat = t.seat;
-      end = t.end;
-      stopped = t.stopped;
-      count = t.count + 1;
-    }
+one_more t = record t { count = t.count + 1 }
 
 unfoldable pub last_trick : Tricks → Out Tricks
 last_trick t =

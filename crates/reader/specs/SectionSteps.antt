@@ -1,8 +1,9 @@
 -- How the code walks the data of a section, and what its functions promise.
-use Rattle.std.specs.Prelude.{ℕ, ◌+◌, ◌≤◌, ◌<◌, ◌≡◌, List, [], ◌++◌, Bool, true, false, cond, length, drop}
+use Rattle.std.specs.Prelude.{ℕ, ◌+◌, ◌≤◌, ◌<◌, ◌≡◌, List, [], ◌++◌, Bool, false, cond, Option, None, Some, length, drop}
 use Rattle.reader.specs.declared.line.Line.{Line}
 use Rattle.reader.specs.declared.line.Line.TheVariants.{Blank, Brace, Directive, Tag, Bracket, Data}
 use Rattle.reader.specs.declared.section.Next.{Next}
+use Rattle.reader.specs.declared.store.Entries.{Entries}
 use Rattle.reader.specs.declared.section.Visit.{Visit}
 use Rattle.reader.specs.declared.section.Visit.TheVariants.{Stop, Pass, Piece as PieceOn}
 use Rattle.reader.specs.declared.section.Walk.{Walk}
@@ -25,30 +26,31 @@ visit_kind (Data s) = PieceOn s
 unfoldable pub visit_of : Bool → List ℕ → Visit
 visit_of commentary l = cond commentary Pass (visit_kind (line_kind l))
 
--- No piece is left; p is where the search for one ended.
-abbrev pub no_piece : ℕ → Next
-no_piece p = record { more = false; piece = record { start = 0; len = 0 }; at = p }
+-- The data lines from the place p on.
+abbrev pub data_from : List ℕ → ℕ → List Piece
+data_from r p = data_in false p (raw_lines (drop p r))
 
--- A piece of the section's data and the data lines after it, nothing where no piece is left.
-abbrev pub next_data : List ℕ → Next → List Piece
-next_data r n = cond n.more (split_piece r n.piece ++ data_in false n.at (raw_lines (drop n.at r))) []
-
--- The contract of a function that looks for the next data line from the place p on: its piece and the lines after it are the data
--- lines from p on; the piece and the place after it lie in the record, and that place is after p by the piece's length or more.
-pub record NextPiece (r : List ℕ) (p : ℕ) (n : Next) : Type 0 where
-  pub data_lines : data_in false p (raw_lines (drop p r)) ≡ next_data r n
+-- A data line that was found from the place p on: its piece and the data lines after it are those from p on; the piece and the place
+-- after it lie in the record, and that place is after p by the piece's length or more.
+pub record PieceFrom (r : List ℕ) (p : ℕ) (n : Next) : Type 0 where
+  pub data_lines : data_from r p ≡ split_piece r n.piece ++ data_from r n.at
   pub piece_inside : n.piece.start + n.piece.len ≤ length r
   pub inside : n.at ≤ length r
   pub past : p + n.piece.len ≤ n.at
-  pub later : n.more ≡ true → p < n.at
+  pub later : p < n.at
+
+-- The contract of a function that looks for the next data line from the place p on.
+abbrev pub NextPiece : List ℕ → ℕ → Option Next → Type 0
+NextPiece r p None = data_from r p ≡ []
+NextPiece r p (Some n) = PieceFrom r p n
 
 -- The entries of a section so far.
 abbrev pub walk_count : Walk → ℕ
 walk_count w = w.bidding.count + w.tricks.count
 
--- The contract of a function that walks data: what it comes to, its entries put from the n-th on; seats and slots are in range; there
--- are at most so many entries in all.
-pub record Walks (a n most : ℕ) (entries entries' : List ℕ) (r : Walk) (o : Out Walk) : Type 0 where
-  pub emits : Emits a n entries entries' r o
+-- The contract of a function that walks data: what it comes to; seats and slots are in range; there are at most so many entries in
+-- all.
+pub record Walks (most : ℕ) (l l' : Entries) (r : Walk) (o : Out Walk) : Type 0 where
+  pub emits : Emits l l' r o
   pub seated : Seated r.tricks
   pub few : walk_count r ≤ most

@@ -1,9 +1,7 @@
 -- The data of an open section, and what it comes to when the section closes.
-use Rattle.std.specs.Prelude.{ℕ, ◌+◌, List, [], ◌∷◌, ◌++◌, Bool, true, false, cond, ◌&&◌, not, eqb, length, drop, replicate}
+use Rattle.std.specs.Prelude.{ℕ, ◌+◌, List, [], ◌∷◌, ◌++◌, Bool, true, false, cond, ◌&&◌, not, eqb, length, drop, replicate, None, Ok, Err}
 use Rattle.tables.specs.declared.letters.Conventions.{Conventions}
-use Rattle.tables.specs.declared.dd.Row.{Row}
-use Rattle.tables.specs.declared.dd.Row.TheVariants.{Blank as BlankRow, Cell, Fault}
-use Rattle.tables.specs.Tables.{row_of, stored_row}
+use Rattle.tables.specs.Tables.{row_of, stored_row, gives, Row}
 use Rattle.reader.specs.declared.tag.Span.{Span}
 use Rattle.reader.specs.declared.line.Line.{Line}
 use Rattle.reader.specs.declared.line.Line.TheVariants.{Blank, Brace, Directive, Tag, Bracket, Data}
@@ -72,9 +70,8 @@ section_data r o = split_piece r o.split ++ lines_data r o
 
 -- OptimumResultTable (PBN 2.1, section 5.7): each data line is a row; one bad row loses the table.
 abbrev pub row_stored : Row → Rows → Rows
-row_stored BlankRow w = w
-row_stored (Cell k v) w = record { cells = record { tricks = stored_row w.cells.tricks (Cell k v) }; fault = w.fault }
-row_stored (Fault f) w = record { cells = w.cells; fault = true }
+row_stored (Ok given) w = record { cells = stored_row w.cells (Ok given); fault = w.fault }
+row_stored (Err f) w = record { cells = w.cells; fault = true }
 
 unfoldable pub rowed_piece : Conventions → Rows → Piece → Rows
 rowed_piece c w q = row_stored (row_of c 0 q.bytes) w
@@ -95,7 +92,7 @@ walked c o trump w q =
     (record { state = record { bidding = w.bidding; tricks = w.tricks; rows = rowed_piece c w.rows q }; entries = [] }))
 
 unfoldable pub no_walk : Walk
-no_walk = record { bidding = no_bidding; tricks = no_tricks; rows = record { cells = record { tricks = replicate 20 255 }; fault = false } }
+no_walk = record { bidding = no_bidding; tricks = no_tricks; rows = record { cells = replicate 20 255; fault = false } }
 
 -- All the data of a section.
 unfoldable pub walked_all : Conventions → List ℕ → Open → ℕ → Out Walk

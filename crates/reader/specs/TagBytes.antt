@@ -1,14 +1,10 @@
 -- A second reading of a tag line, as bytes without places, and which names and values can be written. The contracts cite Tag; that both
 -- readings agree is proved in proofs/Tags.antt.
-use Rattle.std.specs.Prelude.{ℕ, List, [], ◌∷◌, ◌++◌, Bool, true, false, ◌&&◌, cond, not, eqb}
+use Rattle.std.specs.Prelude.{ℕ, List, [], ◌∷◌, ◌++◌, Bool, true, false, ◌&&◌, cond, not, eqb, Some, None}
 use Rattle.std.proofs.Math.Option.{Option, none, some}
 use Rattle.tables.specs.Text.{is_white, is_word, word, past_word, trimmed}
 use Rattle.tables.specs.Letters.{every, among}
-use Rattle.reader.specs.declared.tag.TagLine.{TagLine}
-use Rattle.reader.specs.declared.tag.TagLine.TheVariants.{NoTag, Plain, WithComment}
-use Rattle.reader.specs.declared.tag.Split.{Split}
-use Rattle.reader.specs.declared.tag.Split.TheVariants.{Data, NoData}
-use Rattle.reader.specs.Tag.{cut, is_comment}
+use Rattle.reader.specs.Tag.{TagLine, Split, cut, is_comment}
 
 -- One partial answer after another; the first that is missing ends it.
 infixl 10 ◌>>=◌
@@ -96,13 +92,13 @@ read_split line = do
 
 -- The bytes that stand at the places of an answer.
 abbrev pub tag_bytes : TagLine → List ℕ → Option TagBytes
-tag_bytes NoTag line = none
-tag_bytes (Plain t) line = some (record { name = cut t.name line; value = cut t.value line; comment = none })
-tag_bytes (WithComment t c) line = some (record { name = cut t.name line; value = cut t.value line; comment = some (cut c line) })
+tag_bytes None line = none
+tag_bytes (Some (t, None)) line = some (record { name = cut t.name line; value = cut t.value line; comment = none })
+tag_bytes (Some (t, Some c)) line = some (record { name = cut t.name line; value = cut t.value line; comment = some (cut c line) })
 
 abbrev pub split_bytes : Split → List ℕ → Option SplitBytes
-split_bytes NoData line = none
-split_bytes (Data t d) line = some (record { name = cut t.name line; value = cut t.value line; section = cut d line })
+split_bytes None line = none
+split_bytes (Some (t, d)) line = some (record { name = cut t.name line; value = cut t.value line; section = cut d line })
 
 -- ---- what can be written
 

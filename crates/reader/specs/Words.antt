@@ -1,6 +1,7 @@
 -- The meanings of words: calls, cards, contracts, vulnerability, ends of sections. Words and letters are taken in either
 -- case, ASCII alone; a word is the whole text, not trimmed.
-use Rattle.std.specs.Prelude.{ℕ, ◌+◌, ◌-◌, ◌*◌, ◌/◌, ◌%◌, List, [], ◌∷◌, Bool, true, false, ◌&&◌, ◌||◌, cond, not, ltb, eqb, length, replicate}
+use Rattle.std.specs.Prelude.{ℕ, ◌+◌, ◌-◌, ◌*◌, ◌/◌, ◌%◌, List, [], ◌∷◌, Bool, ◌||◌, cond, not, ltb, eqb, length, replicate}
+use Rattle.std.specs.Cmp.Lexicographic.{pointwise}
 use Rattle.tables.specs.declared.letters.Conventions.{Conventions}
 use Rattle.tables.specs.Text.{ascii, front, is_inside, single}
 use Rattle.tables.specs.Letters.{capital, suit_of, rank_of, strain_of, suit_letter, rank_letter, strain_token, every}
@@ -8,17 +9,11 @@ use Rattle.tables.specs.Letters.{capital, suit_of, rank_of, strain_of, suit_lett
 -- ---- equal texts
 
 abbrev pub same : List ℕ → List ℕ → Bool
-same [] [] = true
-same [] (y ∷ ys) = false
-same (x ∷ xs) [] = false
-same (x ∷ xs) (y ∷ ys) = eqb x y && same xs ys
+same a b = pointwise eqb a b
 
 -- A word in capitals, and a token in either case.
 abbrev pub same_word : List ℕ → List ℕ → Bool
-same_word [] [] = true
-same_word [] (y ∷ ys) = false
-same_word (x ∷ xs) [] = false
-same_word (x ∷ xs) (y ∷ ys) = eqb x (capital y) && same_word xs ys
+same_word word token = pointwise (λ x y. eqb x (capital y)) word token
 
 -- ---- calls
 

@@ -3,19 +3,19 @@ ghost use Rattle.std.specs.Prelude.{◌≡◌, ◌≤◌};
 ghost use Rattle.tables.specs.Text.{first_character};
 ghost use Rattle.tables.specs.Letters.{seat_of};
 ghost use Rattle.reader.specs.Words.{vulnerability_of};
-ghost use Rattle.reader.specs.Names.{deal_name, double_dummy_tricks_name};
+ghost use Rattle.reader.specs.Names.{deal_name, double_dummy_tricks_name, number_of};
 ghost use Rattle.reader.specs.Boards.{with_number, with_result, identity_by, parsed_deal, table_by, is_kept_contract, contract_by, is_kept_value, value_put, applied, no_open, seat_open, open_by, no_board};
 ghost use Rattle.reader.specs.BoardSteps.{values_put};
 
 use crate::board::{Board, DealCard, Identity, Section, TableCard, Values};
-use crate::deal::{DealRead, Hands, hand_words, read_deal};
-use crate::names;
-use crate::section::Open;
+use crate::deal::{Hands, hand_words, read_deal};
+use crate::names::TagName;
+use crate::section::{AUCTION, NO_SECTION, OPTIMUM, Open, PLAY};
 use crate::tag::Span;
 use crate::words::{contract_trump, same, vulnerability_of};
-use tables::dd::{Decoded, dd_table_from_pbn};
+use tables::dd::dd_table_from_pbn;
 use tables::letters::{Conventions, seat_of};
-use tables::numbers::{Number, parse_number, parse_signed};
+use tables::numbers::{parse_number, parse_signed};
 use tables::text::{first_character, trim};
 
 // The seat that a value's first character names, 4 where it names none.
@@ -25,21 +25,15 @@ fn seat_in(c: Conventions, value: &[u8]) -> usize
     seat_of(c, first_character(value)) as usize
 }
 
-fn vulnerability_in(value: &[u8]) -> usize
-    ensures { result ≡ vulnerability_of value.now }
-{
-    vulnerability_of(value) as usize
-}
-
-fn with_number(mut i: Identity, n: Number) -> Identity
+fn with_number(mut i: Identity, n: Option<u32>) -> Identity
     ensures { result ≡ with_number i n }
 {
     match n {
-        Number::Value(v) => {
+        Some(v) => {
             i.number_met = 1;
             i.number = v as usize;
         }
-        Number::Bad => {
+        None => {
             i.number_met = 0;
             i.number = 0;
         }
@@ -47,15 +41,15 @@ fn with_number(mut i: Identity, n: Number) -> Identity
     i
 }
 
-fn with_result(mut i: Identity, n: Number) -> Identity
+fn with_result(mut i: Identity, n: Option<u32>) -> Identity
     ensures { result ≡ with_result i n }
 {
     match n {
-        Number::Value(v) => {
+        Some(v) => {
             i.result_met = 1;
             i.result = v as usize;
         }
-        Number::Bad => {
+        None => {
             i.result_met = 0;
             i.result = 0;
         }
@@ -64,24 +58,25 @@ fn with_result(mut i: Identity, n: Number) -> Identity
 }
 
 // Board, Dealer, Vulnerable, Declarer, Result.
-fn identity_by(c: Conventions, k: u8, value: &[u8], mut i: Identity) -> Identity
-    ensures { result ≡ identity_by c k value.now i }
+#[tactic(auto, unfolding(crate::specs::Boards::identity_by))]
+fn identity_by(c: Conventions, k: Option<TagName>, value: &[u8], mut i: Identity) -> Identity
+    ensures { result ≡ identity_by c (number_of k) value.now i }
 {
     match k {
-        names::BOARD => with_number(i, parse_number(value, 4294967295)),
-        names::DEALER => {
+        Some(TagName::Board) => with_number(i, parse_number(value, 4294967295)),
+        Some(TagName::Dealer) => {
             i.dealer = seat_in(c, value);
             i
         }
-        names::VULNERABLE => {
-            i.vulnerability = vulnerability_in(value);
+        Some(TagName::Vulnerable) => {
+            i.vulnerability = vulnerability_of(value) as usize;
             i
         }
-        names::DECLARER => {
+        Some(TagName::Declarer) => {
             i.declarer = seat_in(c, value);
             i
         }
-        names::RESULT => with_result(i, parse_signed(value, 128)),
+        Some(TagName::Result) => with_result(i, parse_signed(value, 128)),
         _ => i,
     }
 }
@@ -90,20 +85,17 @@ fn identity_by(c: Conventions, k: u8, value: &[u8], mut i: Identity) -> Identity
 fn parsed_deal(h: Hands, d: DealCard) -> DealCard
     ensures { result ≡ parsed_deal h d }
 {
-    let w = hand_words(h);
-    let words = w.words;
-    let kind = d.kind;
-    if kind == 2 {
-        return DealCard { kind: 2, words };
+    DealCard {
+        kind: if d.kind == 2 { 2 } else { 1 },
+        words: hand_words(h),
     }
-    DealCard { kind: 1, words }
 }
 
 // Deal: read once, for the hands and for the value that is kept.
 fn deal_tag(c: Conventions, value: &[u8], place: usize, mut b: Board) -> Board
     ensures { result ≡ applied c deal_name value.now place b }
 {
-    let DealRead::Dealt(h) = read_deal(c, value) else {
+    let Some(h) = read_deal(c, value) else {
         if trim(value).len() == 0 {
             return b;
         }
@@ -111,12 +103,12 @@ fn deal_tag(c: Conventions, value: &[u8], place: usize, mut b: Board) -> Board
         b.values.deal = place;
         return b;
     };
-    let d = parsed_deal(h, b.deal);
-    b.deal = d;
+    b.deal = parsed_deal(h, b.deal);
     b
 }
 
 // DoubleDummyTricks: never over a table of an OptimumResultTable.
+#[tactic(auto, unfolding(crate::specs::Boards::table_by))]
 fn table_by(value: &[u8], t: TableCard) -> TableCard
     ensures { result ≡ table_by double_dummy_tricks_name value.now t }
 {
@@ -124,12 +116,12 @@ fn table_by(value: &[u8], t: TableCard) -> TableCard
     if kind == 2 {
         return t;
     }
-    let r = dd_table_from_pbn(value);
-    let cells = r.table;
-    let answer = r.answer;
-    match answer {
-        Decoded::Table => TableCard { kind: 1, cells },
-        Decoded::Refused(_) => TableCard { kind: 0, cells },
+    match dd_table_from_pbn(value) {
+        Ok(cells) => TableCard { kind: 1, cells },
+        Err(_) => TableCard {
+            kind: 0,
+            cells: [0; 20],
+        },
     }
 }
 
@@ -140,51 +132,52 @@ fn is_kept_contract(value: &[u8]) -> bool
     !(value.len() == 0) & !same(b"?", value)
 }
 
-fn contract_by(c: Conventions, k: u8, value: &[u8], trump: usize) -> usize
-    ensures { result ≡ contract_by c k value.now trump }
+#[tactic(auto, unfolding(crate::specs::Boards::contract_by))]
+fn contract_by(c: Conventions, k: Option<TagName>, value: &[u8], trump: usize) -> usize
+    ensures { result ≡ contract_by c (number_of k) value.now trump }
 {
-    if k == names::CONTRACT {
-        if is_kept_contract(value) {
-            return contract_trump(c, value) as usize;
-        }
-        return trump;
+    if matches!(k, Some(TagName::Contract)) && is_kept_contract(value) {
+        return contract_trump(c, value) as usize;
     }
     trump
 }
 
 // Whether the value of a tag other than Deal is kept.
-fn is_kept(k: u8, value: &[u8]) -> bool
-    ensures { result ≡ is_kept_value k value.now }
-{
-    if k == names::CONTRACT {
-        return is_kept_contract(value);
-    }
-    ((k == names::OPTIMUM_SCORE) | (k == names::PAR_CONTRACT)) | !(value.len() == 0)
-}
-
-fn value_put(k: u8, place: usize, mut v: Values) -> Values
-    ensures { result ≡ value_put k place v }
+#[tactic(auto, unfolding(crate::specs::Boards::is_kept_value))]
+fn is_kept(k: Option<TagName>, value: &[u8]) -> bool
+    ensures { result ≡ is_kept_value (number_of k) value.now }
 {
     match k {
-        names::BOARD => v.id = place,
-        names::DEAL => v.deal = place,
-        names::EVENT => v.event = place,
-        names::SITE => v.site = place,
-        names::DATE => v.date = place,
-        names::CONTRACT => v.contract = place,
-        names::NORTH => v.north = place,
-        names::EAST => v.east = place,
-        names::SOUTH => v.south = place,
-        names::WEST => v.west = place,
-        names::OPTIMUM_SCORE => v.score = place,
-        names::PAR_CONTRACT => v.par = place,
+        Some(TagName::Contract) => is_kept_contract(value),
+        Some(TagName::OptimumScore) | Some(TagName::ParContract) => true,
+        _ => value.len() != 0,
+    }
+}
+
+fn value_put(k: Option<TagName>, place: usize, mut v: Values) -> Values
+    ensures { result ≡ value_put (number_of k) place v }
+{
+    match k {
+        Some(TagName::Board) => v.id = place,
+        Some(TagName::Deal) => v.deal = place,
+        Some(TagName::Event) => v.event = place,
+        Some(TagName::Site) => v.site = place,
+        Some(TagName::Date) => v.date = place,
+        Some(TagName::Contract) => v.contract = place,
+        Some(TagName::North) => v.north = place,
+        Some(TagName::East) => v.east = place,
+        Some(TagName::South) => v.south = place,
+        Some(TagName::West) => v.west = place,
+        Some(TagName::OptimumScore) => v.score = place,
+        Some(TagName::ParContract) => v.par = place,
         _ => {}
     }
     v
 }
 
-fn values_by(k: u8, value: &[u8], place: usize, v: Values) -> Values
-    ensures { result ≡ values_put k value.now place v }
+#[tactic(auto, unfolding(crate::specs::BoardSteps::values_put))]
+fn values_by(k: Option<TagName>, value: &[u8], place: usize, v: Values) -> Values
+    ensures { result ≡ values_put (number_of k) value.now place v }
 {
     if is_kept(k, value) {
         return value_put(k, place, v);
@@ -192,23 +185,29 @@ fn values_by(k: u8, value: &[u8], place: usize, v: Values) -> Values
     v
 }
 
-// A board after a tag of number k; place is the value's entry plus 1.
-pub(crate) fn apply_tag(c: Conventions, k: u8, value: &[u8], place: usize, mut b: Board) -> Board
-    ensures { result ≡ applied c k value.now place b }
+// A board after a tag whose name is k; place is the value's entry plus 1.
+pub(crate) fn apply_tag(
+    c: Conventions,
+    k: Option<TagName>,
+    value: &[u8],
+    place: usize,
+    mut b: Board,
+) -> Board
+    ensures { result ≡ applied c (number_of k) value.now place b }
 {
-    match k {
-        0 | names::NOTE => b,
-        names::DEAL => deal_tag(c, value, place, b),
-        names::DOUBLE_DUMMY_TRICKS => {
-            let t = table_by(value, b.table);
-            b.table = t;
+    let Some(name) = k else {
+        return b;
+    };
+    match name {
+        TagName::Note => b,
+        TagName::Deal => deal_tag(c, value, place, b),
+        TagName::DoubleDummyTricks => {
+            b.table = table_by(value, b.table);
             b
         }
         _ => {
-            let id = identity_by(c, k, value, b.id);
-            let values = values_by(k, value, place, b.values);
-            b.id = id;
-            b.values = values;
+            b.id = identity_by(c, k, value, b.id);
+            b.values = values_by(k, value, place, b.values);
             b.contract = contract_by(c, k, value, b.contract);
             b
         }
@@ -219,7 +218,7 @@ pub(crate) fn no_open() -> Open
     ensures { result ≡ no_open }
 {
     Open {
-        kind: 0,
+        kind: NO_SECTION,
         seat: 4,
         at: 0,
         split: Span { start: 0, len: 0 },
@@ -241,14 +240,21 @@ fn seat_open(kind: usize, seat: usize, at: usize, split: Span) -> Open
 }
 
 // The section that a tag opens.
-pub(crate) fn open_by(c: Conventions, k: u8, value: &[u8], at: usize, split: Span) -> Open
-    ensures { (result ≡ open_by c k value.now at split) × (result.seat ≤ 4) × (result.kind ≤ 3) × (result.kind ≡ 2 → result.seat ≤ 3) × (result.kind ≡ 1 → result.seat ≤ 3) }
+#[tactic(auto, unfolding(crate::specs::Boards::open_by))]
+pub(crate) fn open_by(
+    c: Conventions,
+    k: Option<TagName>,
+    value: &[u8],
+    at: usize,
+    split: Span,
+) -> Open
+    ensures { (result ≡ open_by c (number_of k) value.now at split) × (result.seat ≤ 4) × (result.kind ≤ 3) × (result.kind ≡ 2 → result.seat ≤ 3) × (result.kind ≡ 1 → result.seat ≤ 3) }
 {
     match k {
-        names::AUCTION => seat_open(1, seat_in(c, value), at, split),
-        names::PLAY => seat_open(2, seat_in(c, value), at, split),
-        names::OPTIMUM_RESULT_TABLE => Open {
-            kind: 3,
+        Some(TagName::Auction) => seat_open(AUCTION, seat_in(c, value), at, split),
+        Some(TagName::Play) => seat_open(PLAY, seat_in(c, value), at, split),
+        Some(TagName::OptimumResultTable) => Open {
+            kind: OPTIMUM,
             seat: 4,
             at,
             split,
@@ -272,26 +278,6 @@ fn no_identity() -> Identity
     }
 }
 
-// No value is kept.
-fn no_values() -> Values
-    ensures { result ≡ no_board.values }
-{
-    Values {
-        id: 0,
-        event: 0,
-        site: 0,
-        date: 0,
-        contract: 0,
-        north: 0,
-        east: 0,
-        south: 0,
-        west: 0,
-        deal: 0,
-        score: 0,
-        par: 0,
-    }
-}
-
 // Before the first tag.
 pub(crate) fn no_board() -> Board
     ensures { result ≡ no_board }
@@ -312,7 +298,7 @@ pub(crate) fn no_board() -> Board
             kind: 0,
             cells: [0; 20],
         },
-        values: no_values(),
+        values: Values::default(),
         auction: none,
         play: none,
         trump: 4,

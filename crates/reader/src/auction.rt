@@ -1,12 +1,11 @@
 // The auction section (parse_auction).
-ghost use Rattle.std.specs.Prelude.{◌≡◌, ◌+◌, ◌*◌, ◌≤◌, ◌<◌, ◌^◌, length};
-ghost use Rattle.reader.specs.Store.{put, entry_words};
+ghost use Rattle.std.specs.Prelude.{◌≡◌, ◌∷◌, [], ◌+◌, ◌*◌, ◌≤◌, ◌<◌, ◌^◌, length};
 ghost use Rattle.reader.specs.Pieces.{entry};
-ghost use Rattle.reader.specs.PieceSteps.{Emits, piece};
-ghost use Rattle.reader.specs.Auction.{call_token_of, bidding, called, call_out, passes_out, called_piece, no_bidding};
+ghost use Rattle.reader.specs.PieceSteps.{Adds, Emits, piece};
+ghost use Rattle.reader.specs.Auction.{call_token_of, bidding, called, call_out, passes_out, called_piece};
 ghost use Rattle.reader.specs.TokenSteps.{CallInside};
 
-use crate::store::{Entry, put_entry};
+use crate::store::{ANNOTATION, CALL, Entries, Entry};
 use crate::words::{call_code, call_len, is_all_pass, section_end};
 use tables::letters::Conventions;
 use tables::text::{from, lead_len, upto, word_len};
@@ -22,8 +21,8 @@ pub enum CallToken {
     NoCall,
 }
 
-// Bidding so far.
-#[derive(Clone, Copy)]
+// Bidding so far; before the first token it is the default.
+#[derive(Clone, Copy, Default)]
 pub struct Bidding {
     pub any: bool,
     pub made: bool,
@@ -32,18 +31,7 @@ pub struct Bidding {
     pub count: usize,
 }
 
-pub(crate) fn no_bidding() -> Bidding
-    ensures { result ≡ no_bidding }
-{
-    Bidding {
-        any: false,
-        made: false,
-        end: 0,
-        stopped: false,
-        count: 0,
-    }
-}
-
+#[tactic(auto, unfolding(crate::specs::Auction::call_token_of))]
 fn call_token(c: Conventions, t: &[u8]) -> CallToken
     ensures { (result ≡ call_token_of c t.now) × CallInside result (length t.now) }
 {
@@ -61,10 +49,9 @@ fn call_token(c: Conventions, t: &[u8]) -> CallToken
     if k == 0 {
         return CallToken::Annotation;
     }
-    let code = call_code(c, upto(t, k));
-    if code == 47 {
+    let Some(code) = call_code(c, upto(t, k)) else {
         return CallToken::NoCall;
-    }
+    };
     CallToken::Call(code, k)
 }
 
@@ -80,109 +67,79 @@ fn bid(made: bool, end: usize, stopped: bool, count: usize) -> Bidding
     }
 }
 
-// Stores, as the n-th entry, a call of `len` bytes at the place `at` of a record that starts at `a`.
-fn put_call_entry(entries: &mut [u32], n: usize, a: usize, at: usize, len: usize, code: usize)
-    requires { a + at < 2 ^ 63 }
-    ensures { entries.new ≡ put 4 entries.old n (entry_words a (entry 6 at len code)) }
+// Stores a call of `len` bytes at the place `at` of its record.
+fn put_call_entry(entries: &mut Entries, at: usize, len: usize, code: usize)
+    requires { (entries.old.start + at < 2 ^ 63) × (entries.old.count ≤ 2 ^ 60) }
+    ensures { Adds entries.old entries.new (entry 6 at len code ∷ []) }
 {
-    let e = Entry {
-        kind: 6,
+    entries.push(Entry {
+        kind: CALL,
         x: at,
         y: len,
         z: code,
-    };
-    put_entry(entries, n, a, e);
+    });
 }
 
 // The same for an annotation.
-fn put_annotation(entries: &mut [u32], n: usize, a: usize, at: usize, len: usize)
-    requires { a + at < 2 ^ 63 }
-    ensures { entries.new ≡ put 4 entries.old n (entry_words a (entry 7 at len 0)) }
+fn put_annotation(entries: &mut Entries, at: usize, len: usize)
+    requires { (entries.old.start + at < 2 ^ 63) × (entries.old.count ≤ 2 ^ 60) }
+    ensures { Adds entries.old entries.new (entry 7 at len 0 ∷ []) }
 {
-    let e = Entry {
-        kind: 7,
+    entries.push(Entry {
+        kind: ANNOTATION,
         x: at,
         y: len,
         z: 0,
-    };
-    put_entry(entries, n, a, e);
+    });
 }
 
 // A call with its annotation, if it has one.
-fn put_call(
-    b: Bidding,
-    len: usize,
-    at: usize,
-    k: usize,
-    code: u8,
-    a: usize,
-    base: usize,
-    entries: &mut [u32],
-) -> Bidding
-    requires { (a + at + len ≤ 2 ^ 40) × (base + b.count ≤ 2 ^ 60) × (k ≤ len) }
-    ensures { Emits a (base + b.count) entries.old entries.new result (call_out b at len k code) × (result.count ≤ b.count + 3) }
+fn put_call(b: Bidding, len: usize, at: usize, k: usize, code: u8, entries: &mut Entries) -> Bidding
+    requires { (entries.old.start + at + len ≤ 2 ^ 40) × (entries.old.count ≤ 2 ^ 59) × (b.count ≤ 2 ^ 60) × (k ≤ len) }
+    ensures { Emits entries.old entries.new result (call_out b at len k code) × (result.count ≤ b.count + 3) }
 {
-    let n = base + b.count;
-    put_call_entry(entries, n, a, at, k, code as usize);
+    put_call_entry(entries, at, k, code as usize);
     if k < len {
-        put_annotation(entries, n + 1, a, at + k, len - k);
+        put_annotation(entries, at + k, len - k);
         return bid(true, b.end, false, b.count + 2);
     }
     bid(true, b.end, false, b.count + 1)
 }
 
 // AP: three passes, all at its own place.
-fn put_passes(
-    b: Bidding,
-    len: usize,
-    at: usize,
-    a: usize,
-    base: usize,
-    entries: &mut [u32],
-) -> Bidding
-    requires { (a + at + len ≤ 2 ^ 40) × (base + b.count ≤ 2 ^ 60) }
-    ensures { Emits a (base + b.count) entries.old entries.new result (passes_out b at len) × (result.count ≤ b.count + 3) }
+fn put_passes(b: Bidding, len: usize, at: usize, entries: &mut Entries) -> Bidding
+    requires { (entries.old.start + at + len ≤ 2 ^ 40) × (entries.old.count ≤ 2 ^ 59) × (b.count ≤ 2 ^ 60) }
+    ensures { Emits entries.old entries.new result (passes_out b at len) × (result.count ≤ b.count + 3) }
 {
-    let n = base + b.count;
-    put_call_entry(entries, n, a, at, len, 0);
-    put_call_entry(entries, n + 1, a, at, len, 0);
-    put_call_entry(entries, n + 2, a, at, len, 0);
+    put_call_entry(entries, at, len, 0);
+    put_call_entry(entries, at, len, 0);
+    put_call_entry(entries, at, len, 0);
     bid(true, b.end, true, b.count + 3)
 }
 
-// One token at the place `at` of a record that starts at `a`; the section's entries stand from `base` on.
-fn call_step(
-    c: Conventions,
-    b: Bidding,
-    t: &[u8],
-    at: usize,
-    a: usize,
-    base: usize,
-    entries: &mut [u32],
-) -> Bidding
-    requires { (a + at + length t.now ≤ 2 ^ 40) × (base + b.count ≤ 2 ^ 60) }
-    ensures { Emits a (base + b.count) entries.old entries.new result (called c b (piece at t.now)) × (result.count ≤ b.count + 3) }
+// One token at the place `at` of its record.
+fn call_step(c: Conventions, b: Bidding, t: &[u8], at: usize, entries: &mut Entries) -> Bidding
+    requires { (entries.old.start + at + length t.now ≤ 2 ^ 40) × (entries.old.count ≤ 2 ^ 59) × (b.count ≤ 2 ^ 60) }
+    ensures { Emits entries.old entries.new result (called c b (piece at t.now)) × (result.count ≤ b.count + 3) }
 {
-    let stopped = b.stopped;
-    if stopped {
+    if b.stopped {
         return b;
     }
     match call_token(c, t) {
         CallToken::Plus => {
-            put_call_entry(entries, base + b.count, a, at, t.len(), 38);
+            put_call_entry(entries, at, t.len(), 38);
             bid(true, 1, false, b.count + 1)
         }
         CallToken::Star => bid(b.made, 2, true, b.count),
-        CallToken::AllPass => put_passes(b, t.len(), at, a, base, entries),
+        CallToken::AllPass => put_passes(b, t.len(), at, entries),
         CallToken::Annotation => {
-            let made = b.made;
-            if made {
-                put_annotation(entries, base + b.count, a, at, t.len());
+            if b.made {
+                put_annotation(entries, at, t.len());
                 return bid(true, b.end, false, b.count + 1);
             }
             bid(false, b.end, false, b.count)
         }
-        CallToken::Call(code, k) => put_call(b, t.len(), at, k, code, a, base, entries),
+        CallToken::Call(code, k) => put_call(b, t.len(), at, k, code, entries),
         CallToken::NoCall => bid(b.made, b.end, false, b.count),
     }
 }
@@ -193,19 +150,17 @@ pub(crate) fn call_piece(
     b: Bidding,
     s: &[u8],
     at: usize,
-    a: usize,
-    base: usize,
-    entries: &mut [u32],
+    entries: &mut Entries,
 ) -> Bidding
-    requires { (a + at + length s.now ≤ 2 ^ 40) × (base + b.count ≤ 2 ^ 59) }
-    ensures { Emits a (base + b.count) entries.old entries.new result (called_piece c b (piece at s.now)) × (result.count ≤ b.count + 3 * length s.now) }
+    requires { (entries.old.start + at + length s.now ≤ 2 ^ 40) × (entries.old.count ≤ 2 ^ 58) × (b.count ≤ 2 ^ 59) }
+    ensures { Emits entries.old entries.new result (called_piece c b (piece at s.now)) × (result.count ≤ b.count + 3 * length s.now) }
 {
     let mut w = b;
     let mut i = lead_len(s);
     while i < s.len() {
         let rest = from(s, i);
         let n = word_len(rest);
-        w = call_step(c, w, upto(rest, n), at + i, a, base, entries);
+        w = call_step(c, w, upto(rest, n), at + i, entries);
         i = i + n + lead_len(from(rest, n));
     }
     w

@@ -1,6 +1,8 @@
 // The structs of a board and of a record's state.
 use crate::section::Open;
 
+// The number and the result each have a word before them that says whether there is one, as words 2, 3, 7 and 8 of a card: the writer
+// reads the same struct back from any four words.
 #[derive(Clone, Copy)]
 pub struct Identity {
     pub number_met: usize,
@@ -12,22 +14,24 @@ pub struct Identity {
     pub result: usize,
 }
 
-// 0 none, 1 parsed, 2 kept unparsed; the words of the last deal that parsed.
+// 0 none, 1 parsed, 2 kept unparsed; the words of the last deal that parsed. The kind is word 9 of a card, which the writer reads back
+// from any word.
 #[derive(Clone, Copy)]
 pub struct DealCard {
     pub kind: usize,
     pub words: [u32; 8],
 }
 
-// 0 none, 1 DoubleDummyTricks, 2 OptimumResultTable.
+// 0 none, 1 DoubleDummyTricks, 2 OptimumResultTable: word 38 of a card, which the writer reads back from any word.
 #[derive(Clone, Copy)]
 pub struct TableCard {
     pub kind: usize,
     pub cells: [u8; 20],
 }
 
-// Value entries plus 1, 0 absent.
-#[derive(Clone, Copy)]
+// Value entries plus 1, 0 absent, as words 39 to 50 of a card and the plain board count them: an Option would become that number at
+// each of the twelve.
+#[derive(Clone, Copy, Default)]
 pub struct Values {
     pub id: usize,
     pub event: usize,
@@ -43,7 +47,7 @@ pub struct Values {
     pub par: usize,
 }
 
-// First entry plus 1, entries, dealer or leader, end.
+// First entry plus 1, entries, dealer or leader, end, as words 51 to 54 and 55 to 58 of a card: the writer reads them back from any words.
 #[derive(Clone, Copy)]
 pub struct Section {
     pub first: usize,

@@ -6,30 +6,23 @@ ghost use Rattle.reader.specs.Store.{low_word, put};
 ghost use Rattle.reader.specs.Editions.{read_number, read_carries, entry_place, head_words, value_words, section_words, tail_words, back_words, card_words, IsRead};
 ghost use Rattle.reader.specs.EditionSteps.{RecordIn, AllIn, ReadingEnded};
 
-use crate::board::{Board, DealCard, Section, TableCard, Values};
+use crate::board::{Board, Section, TableCard, Values};
 use crate::reading::read_board;
 use crate::record::record_end;
-use crate::store::{copy_in, low_word, zero};
+use crate::store::{Entries, copy_in, low_word};
 use tables::letters::{Conventions, built_in};
 use tables::text::{from, upto};
 
 // Refusals 1 to 3, each with its carried number; specs/Editions.antt gives the numbers.
-#[derive(Clone, Copy)]
+#[derive(Clone, Copy, Debug, PartialEq, Eq)]
 pub enum ReadRefusal {
     Overlong(u64),
     BoxFull(u64),
     ListFull(u64),
 }
 
-// Taken with the counts of boards and entries, or refused, which leaves all lent words zero.
-#[derive(Clone, Copy)]
-pub enum Reading {
-    Taken(u64, u64),
-    Refused(ReadRefusal),
-}
-
 // The boards and entries of an edition.
-#[derive(Clone, Copy)]
+#[derive(Clone, Copy, Debug, PartialEq, Eq)]
 pub struct Counts {
     pub boards: usize,
     pub entries: usize,
@@ -93,23 +86,16 @@ fn head_words(n: usize, count: usize, b: Board) -> [u32; 10]
     ]
 }
 
-fn hand_words(d: DealCard) -> [u32; 8]
-    ensures { result ≡ d.words }
-{
-    d.words
-}
-
 fn cell_words(t: TableCard) -> [u32; 20]
     ensures { result ≡ t.cells }
 {
+    // The array's map would take some 500 instructions a board more.
     let cells = t.cells;
-    let mut w = [0; 20];
-    let mut i = 0;
-    while i < 20 {
-        w[i] = cells[i] as u32;
-        i += 1;
+    let mut words = [0; 20];
+    for i in 0..20 {
+        words[i] = cells[i] as u32;
     }
-    w
+    words
 }
 
 // The table's kind, and the value entries.
@@ -170,13 +156,13 @@ fn put_back(cards: &mut [u32], at: usize, start: usize, end: usize, n: usize, b:
 fn put_card(cards: &mut [u32], k: usize, start: usize, end: usize, n: usize, count: usize, b: Board)
     ensures { (cards.new ≡ put 64 cards.old k (card_words start end n count b)) × (length (card_words start end n count b) ≡ 64) }
 {
-    let hands = hand_words(b.deal);
+    let deal = b.deal;
     let cells = cell_words(b.table);
     if k < cards.len() / 64 {
         let at = 64 * k;
         let head = head_words(n, count, b);
         copy_in(cards, at, &head);
-        copy_in(cards, at + 10, &hands);
+        copy_in(cards, at + 10, &deal.words);
         copy_in(cards, at + 18, &cells);
         put_back(cards, at + 38, start, end, n, b);
     }
@@ -197,10 +183,14 @@ fn read_record(
     ensures { RecordIn c (take (e - a) (drop a text.now)) a k n cards.old entries.old result cards.new entries.new }
 {
     let own = upto(from(text, a), e - a);
-    let s = read_board(c, own, a, n, entries);
-    let count = s.n;
-    put_card(cards, k, a, e, n, count, s.board);
-    n + count
+    let mut list = Entries {
+        words: entries,
+        start: a,
+        count: n,
+    };
+    let s = read_board(c, own, &mut list);
+    put_card(cards, k, a, e, n, s.n, s.board);
+    list.count
 }
 
 // Reads all records of a text.
@@ -211,13 +201,7 @@ fn read_records(c: Conventions, text: &[u8], cards: &mut [u32], entries: &mut [u
     let mut a = 0;
     let mut boards = 0;
     let mut n = 0;
-    while a < text.len() {
-        let r = record_end(text, a);
-        let e = r.end;
-        let met = r.met;
-        if !met {
-            return Counts { boards, entries: n };
-        }
+    while let Some(e) = record_end(text, a) {
         n = read_record(c, text, a, e, cards, boards, entries, n);
         boards += 1;
         a = e;
@@ -225,39 +209,48 @@ fn read_records(c: Conventions, text: &[u8], cards: &mut [u32], entries: &mut [u
     Counts { boards, entries: n }
 }
 
-// The answer; the words are set to 0 where it is a refusal.
-fn finish_reading(cards: &mut [u32], entries: &mut [u32], boards: usize, n: usize) -> Reading
-    ensures { ReadingEnded cards.old entries.old boards n result cards.new entries.new }
+// The counts, where all fits; the words are set to 0 where it does not.
+fn finish_reading(
+    cards: &mut [u32],
+    entries: &mut [u32],
+    counts: Counts,
+) -> Result<Counts, ReadRefusal>
+    ensures { ReadingEnded cards.old entries.old counts result cards.new entries.new }
 {
-    if cards.len() / 64 < boards {
-        zero(cards);
-        zero(entries);
-        return Reading::Refused(ReadRefusal::BoxFull(boards as u64));
+    if cards.len() / 64 < counts.boards {
+        cards.fill(0);
+        entries.fill(0);
+        return Err(ReadRefusal::BoxFull(counts.boards as u64));
     }
-    if entries.len() / 4 < n {
-        zero(cards);
-        zero(entries);
-        return Reading::Refused(ReadRefusal::ListFull(n as u64));
+    if entries.len() / 4 < counts.entries {
+        cards.fill(0);
+        entries.fill(0);
+        return Err(ReadRefusal::ListFull(counts.entries as u64));
     }
-    Reading::Taken(boards as u64, n as u64)
+    Ok(counts)
 }
 
-// Reads a text into the lent words, by the given conventions.
-pub fn read_pbn_with(c: Conventions, text: &[u8], cards: &mut [u32], entries: &mut [u32]) -> Reading
+// Reads a text into the lent words, by the given conventions. A refusal leaves all of them zero.
+pub fn read_pbn_with(
+    c: Conventions,
+    text: &[u8],
+    cards: &mut [u32],
+    entries: &mut [u32],
+) -> Result<Counts, ReadRefusal>
     ensures { IsRead c text.now cards.old entries.old result cards.new entries.new }
 {
-    zero(cards);
-    zero(entries);
+    cards.fill(0);
+    entries.fill(0);
     let length = text.len();
     if 16777215 < length {
-        return Reading::Refused(ReadRefusal::Overlong(length as u64));
+        return Err(ReadRefusal::Overlong(length as u64));
     }
-    let t = read_records(c, text, cards, entries);
-    finish_reading(cards, entries, t.boards, t.entries)
+    let counts = read_records(c, text, cards, entries);
+    finish_reading(cards, entries, counts)
 }
 
 // Reads a text into the lent words.
-pub fn read_pbn(text: &[u8], cards: &mut [u32], entries: &mut [u32]) -> Reading
+pub fn read_pbn(text: &[u8], cards: &mut [u32], entries: &mut [u32]) -> Result<Counts, ReadRefusal>
     ensures { IsRead built_in text.now cards.old entries.old result cards.new entries.new }
 {
     read_pbn_with(built_in(), text, cards, entries)

@@ -3,9 +3,7 @@ ghost use Rattle.std.specs.Prelude.{◌≡◌, ◌≤◌, length};
 ghost use Rattle.reader.specs.Lines.{is_blank, has_brace, last_brace, line_kind, split_line, bracket_line, opens_board};
 ghost use Rattle.reader.specs.LineSteps.{LinePlaced};
 
-use crate::tag::{
-    Span, Split, Tag, TagLine, contains, parse_tag_line, split_tag_and_data, trim_span,
-};
+use crate::tag::{Span, Tag, contains, parse_tag_line, split_tag_and_data, trim_span};
 use tables::text::{byte_at, lead_len};
 
 // A tag: alone on its line, with a comment, or with section data split off.
@@ -27,6 +25,7 @@ pub enum Line {
     Data(Span),
 }
 
+#[tactic(auto, using(crate::proofs::LineLaws::blank_is))]
 pub(crate) fn is_blank(line: &[u8]) -> bool
     ensures { result ≡ is_blank line.now }
 {
@@ -34,49 +33,45 @@ pub(crate) fn is_blank(line: &[u8]) -> bool
 }
 
 // Whether the line has a `}`.
+#[tactic(auto, unfolding(crate::specs::Lines::has_brace))]
 pub(crate) fn has_brace(line: &[u8]) -> bool
     ensures { result ≡ has_brace line.now }
 {
-    contains(line, 125)
+    contains(line, b'}')
 }
 
 // The place of the last `}`, the line's length where there is none.
 pub(crate) fn last_brace(line: &[u8]) -> usize
     ensures { (result ≡ last_brace line.now) × (result ≤ length line.now) }
 {
-    let mut e = line.len();
-    while e > 0 {
-        let last = e - 1;
-        if line[last] == 125 {
-            return last;
-        }
-        e = last;
-    }
-    line.len()
+    line.iter().rposition(|b| *b == b'}').unwrap_or(line.len())
 }
 
 // A line that starts with `[` and is no tag, unless section data is split off.
+#[tactic(auto, unfolding(crate::specs::Lines::split_line))]
 fn split_line(line: &[u8]) -> Line
     ensures { (result ≡ split_line line.now) × LinePlaced result (length line.now) }
 {
     match split_tag_and_data(line) {
-        Split::Data(tag, data) => Line::Tag(TagReading::WithData(tag, data)),
-        Split::NoData => Line::Bracket,
+        Some((tag, data)) => Line::Tag(TagReading::WithData(tag, data)),
+        None => Line::Bracket,
     }
 }
 
 // A line that starts with `[`.
+#[tactic(auto, unfolding(crate::specs::Lines::bracket_line))]
 fn bracket_line(line: &[u8]) -> Line
     ensures { (result ≡ bracket_line line.now) × LinePlaced result (length line.now) }
 {
     match parse_tag_line(line) {
-        TagLine::Plain(tag) => Line::Tag(TagReading::Plain(tag)),
-        TagLine::WithComment(tag, comment) => Line::Tag(TagReading::WithComment(tag, comment)),
-        TagLine::NoTag => split_line(line),
+        Some((tag, None)) => Line::Tag(TagReading::Plain(tag)),
+        Some((tag, Some(comment))) => Line::Tag(TagReading::WithComment(tag, comment)),
+        None => split_line(line),
     }
 }
 
 // A line outside commentary, by its first byte that is not white.
+#[tactic(auto, using(crate::proofs::LineLaws::blank_span), unfolding(crate::specs::Lines::line_kind))]
 pub(crate) fn line_kind(line: &[u8]) -> Line
     ensures { (result ≡ line_kind line.now) × LinePlaced result (length line.now) }
 {
@@ -84,30 +79,17 @@ pub(crate) fn line_kind(line: &[u8]) -> Line
     if t.len == 0 {
         return Line::Blank;
     }
-    let start = t.start;
-    let b = byte_at(line, start);
-    if b == 123 {
-        return Line::Brace;
+    match byte_at(line, t.start) {
+        b'{' => Line::Brace,
+        b';' | b'%' => Line::Directive(t),
+        b'[' => bracket_line(line),
+        _ => Line::Data(t),
     }
-    if (b == 59) | (b == 37) {
-        return Line::Directive(t);
-    }
-    if b == 91 {
-        return bracket_line(line);
-    }
-    Line::Data(t)
 }
 
 // Whether the line holds a tag, which opens a board or goes on with one.
 pub(crate) fn opens_board(line: &[u8]) -> bool
     ensures { result ≡ opens_board (line_kind line.now) }
 {
-    match line_kind(line) {
-        Line::Tag(_) => true,
-        Line::Blank => false,
-        Line::Brace => false,
-        Line::Directive(_) => false,
-        Line::Bracket => false,
-        Line::Data(_) => false,
-    }
+    matches!(line_kind(line), Line::Tag(_))
 }

@@ -4,18 +4,26 @@ ghost use Rattle.reader.specs.PieceSteps.{Emits, piece};
 ghost use Rattle.reader.specs.Play.{no_slots, with_slot, is_full, weight, best_slot, winner_of, trick_entry, new_trick, next_leader, opened, taking, slot_of, with_card, is_gap, played, played_bytes, played_piece, one_more, last_trick, no_tricks};
 ghost use Rattle.reader.specs.TokenSteps.{Low, Seated, OpenTrick};
 
-use crate::store::{Entry, put_entry};
+use crate::store::{Entries, Entry, TRICK};
 use crate::words::{card_named, same, section_end};
 use tables::letters::Conventions;
 use tables::text::{from, lead_len, upto, word_len};
 
-// The four slots of a trick, 255 for an empty one.
+// The four slots of a trick, 255 for an empty one, as the bytes of a trick's last word in C.
 #[derive(Clone, Copy)]
 pub struct Slots {
     pub a: usize,
     pub b: usize,
     pub c: usize,
     pub d: usize,
+}
+
+// What the cards of a play are read by: the conventions, the seat of the opening leader, and the trump.
+#[derive(Clone, Copy)]
+pub struct Terms {
+    pub c: Conventions,
+    pub lead: usize,
+    pub trump: usize,
 }
 
 // Play so far.
@@ -58,6 +66,7 @@ pub(crate) fn no_tricks() -> Tricks
 }
 
 // A card's weight in a trick.
+#[tactic(auto, unfolding(crate::specs::Play::weight))]
 fn weigh(trump: usize, led: usize, card: usize) -> usize
     requires { card ≤ 255 }
     ensures { result ≡ weight trump led card }
@@ -72,6 +81,7 @@ fn weigh(trump: usize, led: usize, card: usize) -> usize
 }
 
 // The first of the heaviest.
+#[tactic(auto, unfolding(crate::specs::Play::best_slot))]
 fn best_slot(p: usize, q: usize, r: usize, s: usize) -> usize
     ensures { (result ≡ best_slot p q r s) × (result ≤ 3) }
 {
@@ -119,21 +129,15 @@ fn winner_now(trump: usize, leader: usize, before: usize, s: Slots) -> usize
     before
 }
 
-fn choose(test: bool, x: usize, y: usize) -> usize
-    ensures { result ≡ cond test x y }
-{
-    if test { x } else { y }
-}
-
 pub fn with_slot(s: Slots, k: usize, v: usize) -> Slots
     requires { Low s × (v ≤ 255) }
     ensures { (result ≡ with_slot s k v) × Low result }
 {
     Slots {
-        a: choose(k == 0, v, s.a),
-        b: choose(k == 1, v, s.b),
-        c: choose(k == 2, v, s.c),
-        d: choose(k == 3, v, s.d),
+        a: if k == 0 { v } else { s.a },
+        b: if k == 1 { v } else { s.b },
+        c: if k == 2 { v } else { s.c },
+        d: if k == 3 { v } else { s.d },
     }
 }
 
@@ -152,7 +156,7 @@ fn trick_entry(t: Tricks) -> Entry
 {
     let s = t.slots;
     Entry {
-        kind: 8,
+        kind: TRICK,
         x: t.leader,
         y: t.winner,
         z: s.a + 256 * s.b + 65536 * s.c + 16777216 * s.d,
@@ -183,14 +187,13 @@ fn next_leader(winner: usize, leader: usize) -> usize
 }
 
 // A token opens the first trick, and after a full one the next; the full one is stored.
-fn open_trick(lead: usize, t: Tricks, a: usize, base: usize, entries: &mut [u32]) -> Tricks
-    requires { (lead ≤ 3) × Seated t × (a ≤ 2 ^ 40) × (base + t.count ≤ 2 ^ 60) }
-    ensures { Emits a (base + t.count) entries.old entries.new result (opened lead t) × OpenTrick result }
+fn open_trick(lead: usize, t: Tricks, entries: &mut Entries) -> Tricks
+    requires { (lead ≤ 3) × Seated t × (entries.old.start ≤ 2 ^ 40) × (entries.old.count ≤ 2 ^ 60) × (t.count ≤ 2 ^ 60) }
+    ensures { Emits entries.old entries.new result (opened lead t) × OpenTrick result }
 {
-    let any = t.any;
-    if any {
+    if t.any {
         if t.seat == 4 {
-            put_entry(entries, base + t.count, a, trick_entry(t));
+            entries.push(trick_entry(t));
             return new_trick(next_leader(t.winner, t.leader), t.end, t.count + 1);
         }
         return t;
@@ -202,16 +205,12 @@ fn take_seat(t: Tricks, end: usize, stopped: bool, seat: usize) -> Tricks
     requires { Seated t × (seat ≤ 4) }
     ensures { (result ≡ taking t end stopped seat) × Seated result }
 {
-    let s = t.slots;
     Tricks {
         any: true,
-        leader: t.leader,
-        winner: t.winner,
-        slots: s,
         seat,
         end,
         stopped,
-        count: t.count,
+        ..t
     }
 }
 
@@ -219,16 +218,13 @@ fn with_card(trump: usize, t: Tricks, s: Slots) -> Tricks
     requires { OpenTrick t × Low s }
     ensures { (result ≡ with_card trump t s) × Seated result }
 {
-    let w = winner_now(trump, t.leader, t.winner, s);
     Tricks {
         any: true,
-        leader: t.leader,
-        winner: w,
+        winner: winner_now(trump, t.leader, t.winner, s),
         slots: s,
         seat: t.seat + 1,
-        end: t.end,
         stopped: false,
-        count: t.count,
+        ..t
     }
 }
 
@@ -245,6 +241,7 @@ fn play_card(lead: usize, trump: usize, t: Tricks, card: usize) -> Tricks
     )
 }
 
+#[tactic(auto, unfolding(crate::specs::Play::is_gap))]
 fn is_dash(token: &[u8]) -> bool
     ensures { result ≡ is_gap token.now }
 {
@@ -252,9 +249,10 @@ fn is_dash(token: &[u8]) -> bool
 }
 
 // What a token does in an open trick.
-fn play_token(c: Conventions, lead: usize, trump: usize, t: Tricks, token: &[u8]) -> Tricks
-    requires { (lead ≤ 3) × OpenTrick t }
-    ensures { (result ≡ played c lead trump t token.now) × Seated result }
+#[tactic(auto, unfolding(crate::specs::Play::played))]
+fn play_token(by: Terms, t: Tricks, token: &[u8]) -> Tricks
+    requires { (by.lead ≤ 3) × OpenTrick t }
+    ensures { (result ≡ played by.c by.lead by.trump t token.now) × Seated result }
 {
     let end = section_end(token);
     if end == 1 {
@@ -266,55 +264,34 @@ fn play_token(c: Conventions, lead: usize, trump: usize, t: Tricks, token: &[u8]
     if is_dash(token) {
         return take_seat(t, t.end, false, t.seat + 1);
     }
-    let card = card_named(c, token);
-    if card < 52 {
-        return play_card(lead, trump, t, card as usize);
-    }
-    t
+    let Some(card) = card_named(by.c, token) else {
+        return t;
+    };
+    play_card(by.lead, by.trump, t, card as usize)
 }
 
-// One token of a record that starts at `a`; the section's entries stand from `base` on.
-fn play_step(
-    c: Conventions,
-    lead: usize,
-    trump: usize,
-    t: Tricks,
-    token: &[u8],
-    a: usize,
-    base: usize,
-    entries: &mut [u32],
-) -> Tricks
-    requires { (lead ≤ 3) × Seated t × (a ≤ 2 ^ 40) × (base + t.count ≤ 2 ^ 60) }
-    ensures { Emits a (base + t.count) entries.old entries.new result (played_bytes c lead trump t token.now) × Seated result }
+// One token.
+fn play_step(by: Terms, t: Tricks, token: &[u8], entries: &mut Entries) -> Tricks
+    requires { (by.lead ≤ 3) × Seated t × (entries.old.start ≤ 2 ^ 40) × (entries.old.count ≤ 2 ^ 60) × (t.count ≤ 2 ^ 60) }
+    ensures { Emits entries.old entries.new result (played_bytes by.c by.lead by.trump t token.now) × Seated result }
 {
-    let stopped = t.stopped;
-    if stopped {
+    if t.stopped {
         return t;
     }
-    play_token(c, lead, trump, open_trick(lead, t, a, base, entries), token)
+    play_token(by, open_trick(by.lead, t, entries), token)
 }
 
 // All tokens of a piece of data at the place `at` of its record.
-pub(crate) fn play_piece(
-    c: Conventions,
-    lead: usize,
-    trump: usize,
-    t: Tricks,
-    s: &[u8],
-    at: usize,
-    a: usize,
-    base: usize,
-    entries: &mut [u32],
-) -> Tricks
-    requires { (lead ≤ 3) × Seated t × (a + at + length s.now ≤ 2 ^ 40) × (base + t.count ≤ 2 ^ 59) }
-    ensures { Emits a (base + t.count) entries.old entries.new result (played_piece c lead trump t (piece at s.now)) × Seated result × (result.count ≤ t.count + length s.now) }
+pub(crate) fn play_piece(by: Terms, t: Tricks, s: &[u8], at: usize, entries: &mut Entries) -> Tricks
+    requires { (by.lead ≤ 3) × Seated t × (entries.old.start + at + length s.now ≤ 2 ^ 40) × (entries.old.count ≤ 2 ^ 58) × (t.count ≤ 2 ^ 59) }
+    ensures { Emits entries.old entries.new result (played_piece by.c by.lead by.trump t (piece at s.now)) × Seated result × (result.count ≤ t.count + length s.now) }
 {
     let mut w = t;
     let mut i = lead_len(s);
     while i < s.len() {
         let rest = from(s, i);
         let n = word_len(rest);
-        w = play_step(c, lead, trump, w, upto(rest, n), a, base, entries);
+        w = play_step(by, w, upto(rest, n), entries);
         i = i + n + lead_len(from(rest, n));
     }
     w
@@ -324,27 +301,19 @@ fn one_more(t: Tricks) -> Tricks
     requires { t.count ≤ 2 ^ 60 }
     ensures { result ≡ one_more t }
 {
-    let s = t.slots;
     Tricks {
-        any: t.any,
-        leader: t.leader,
-        winner: t.winner,
-        slots: s,
-        seat: t.seat,
-        end: t.end,
-        stopped: t.stopped,
         count: t.count + 1,
+        ..t
     }
 }
 
 // The section closes: its last trick is stored.
-pub(crate) fn last_trick(t: Tricks, a: usize, base: usize, entries: &mut [u32]) -> Tricks
-    requires { Seated t × (a ≤ 2 ^ 40) × (base + t.count ≤ 2 ^ 60) }
-    ensures { Emits a (base + t.count) entries.old entries.new result (last_trick t) × (result.count ≤ t.count + 1) }
+pub(crate) fn last_trick(t: Tricks, entries: &mut Entries) -> Tricks
+    requires { Seated t × (entries.old.start ≤ 2 ^ 40) × (entries.old.count ≤ 2 ^ 60) × (t.count ≤ 2 ^ 60) }
+    ensures { Emits entries.old entries.new result (last_trick t) × (result.count ≤ t.count + 1) }
 {
-    let any = t.any;
-    if any {
-        put_entry(entries, base + t.count, a, trick_entry(t));
+    if t.any {
+        entries.push(trick_entry(t));
         return one_more(t);
     }
     t

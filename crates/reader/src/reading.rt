@@ -1,8 +1,7 @@
 // The lines of a record: what each does to the board, and the entries that it adds.
-ghost use Rattle.std.specs.Prelude.{◌≡◌, cond, ◌+◌, ◌-◌, ◌*◌, ◌≤◌, ◌<◌, ◌^◌, length};
-ghost use Rattle.reader.specs.Store.{put, entry_words};
+ghost use Rattle.std.specs.Prelude.{◌≡◌, ◌∷◌, [], cond, ◌+◌, ◌-◌, ◌*◌, ◌≤◌, ◌<◌, ◌^◌, length};
 ghost use Rattle.reader.specs.Pieces.{entry};
-ghost use Rattle.reader.specs.PieceSteps.{Emits};
+ghost use Rattle.reader.specs.PieceSteps.{Adds, Emits};
 ghost use Rattle.tables.specs.Text.{is_white};
 ghost use Rattle.tables.specs.Letters.{every};
 ghost use Rattle.reader.specs.Tag.{cut};
@@ -18,13 +17,13 @@ ghost use Rattle.reader.specs.BoardSteps.{Sound, Stepped, LastStored, data_out, 
 use crate::apply::{apply_tag, no_board, no_open, open_by};
 use crate::board::{Board, Section, State, TableCard};
 use crate::line::{Line, TagReading, has_brace, last_brace, line_kind};
-use crate::names::tag_number;
+use crate::names::tag_name;
 use crate::play::last_trick;
-use crate::section::{Open, Walk, walk_section};
-use crate::store::{Entry, put_entry};
+use crate::section::{AUCTION, NO_SECTION, Open, PLAY, Walk, walk_section};
+use crate::store::{COMMENTARY, DATA, DIRECTIVE, Entries, Entry, NAME, VALUE};
 use crate::tag::{Span, Tag};
 use crate::walk::line_at;
-use tables::dd::{Decoded, gathered_table};
+use tables::dd::gathered_table;
 use tables::letters::Conventions;
 use tables::text::{from, lead_len, upto};
 
@@ -46,9 +45,7 @@ fn counted(s: State, k: usize) -> State
     requires { s.n + k < 2 ^ 63 }
     ensures { result ≡ counted_state s k }
 {
-    let mut t = s;
-    t.n = s.n + k;
-    t
+    State { n: s.n + k, ..s }
 }
 
 // The board after an auction with tokens.
@@ -57,39 +54,37 @@ fn auction_closed(b: Board, o: Open, n: usize, w: Walk) -> Board
     ensures { result ≡ auction_closed b o n w }
 {
     let bidding = w.bidding;
-    let any = bidding.any;
-    if any {
-        let section = Section {
+    if bidding.any {
+        let auction = Section {
             first: n + 1,
             count: bidding.count,
             seat: o.seat,
             end: bidding.end,
         };
-        let mut next = b;
-        next.auction = section;
-        return next;
+        return Board { auction, ..b };
     }
     b
 }
 
 // The board after a play with tokens.
+#[tactic(auto, unfolding(crate::specs::Play::last_trick))]
 fn play_closed(b: Board, o: Open, n: usize, w: Walk) -> Board
     requires { (n < 2 ^ 62) × (w.tricks.count < 2 ^ 62) }
     ensures { result ≡ play_closed b o n w }
 {
     let tricks = w.tricks;
-    let any = tricks.any;
-    if any {
-        let section = Section {
+    if tricks.any {
+        let play = Section {
             first: n + 1,
             count: tricks.count + 1,
             seat: o.seat,
             end: tricks.end,
         };
-        let mut next = b;
-        next.play = section;
-        next.trump = b.contract;
-        return next;
+        return Board {
+            play,
+            trump: b.contract,
+            ..b
+        };
     }
     b
 }
@@ -103,17 +98,10 @@ fn table_closed(b: Board, w: Walk) -> Board
     if fault {
         return b;
     }
-    let cells = rows.cells;
-    let read = gathered_table(cells);
-    let answer = read.answer;
-    let Decoded::Table = answer else {
+    let Ok(cells) = gathered_table(rows.cells) else {
         return b;
     };
-    let tricks = read.table;
-    let table = TableCard {
-        kind: 2,
-        cells: tricks,
-    };
+    let table = TableCard { kind: 2, cells };
     let mut next = b;
     next.table = table;
     next
@@ -127,10 +115,8 @@ fn after_section(s: State, b: Board, k: usize) -> State
     State {
         board: b,
         section: no_open(),
-        tags: s.tags,
         n: s.n + k,
-        commentary: s.commentary,
-        block: s.block,
+        ..s
     }
 }
 
@@ -139,53 +125,43 @@ fn board_closed(b: Board, o: Open, n: usize, w: Walk) -> Board
     requires { (n < 2 ^ 62) × (w.tricks.count < 2 ^ 62) }
     ensures { result ≡ board_closed b o n w }
 {
-    let kind = o.kind;
-    if kind == 1 {
-        return auction_closed(b, o, n, w);
+    match o.kind {
+        AUCTION => auction_closed(b, o, n, w),
+        PLAY => play_closed(b, o, n, w),
+        _ => table_closed(b, w),
     }
-    if kind == 2 {
-        return play_closed(b, o, n, w);
-    }
-    table_closed(b, w)
 }
 
 // The last trick of a play is stored behind the section's entries; how many these then are.
-fn last_entries(kind: usize, w: Walk, a: usize, base: usize, entries: &mut [u32]) -> usize
-    requires { Seated w.tricks × (a ≤ 2 ^ 40) × (base ≤ 2 ^ 58) × (walk_count w ≤ 2 ^ 58) }
-    ensures { LastStored a base kind w entries.old entries.new result }
+fn last_entries(kind: usize, w: Walk, entries: &mut Entries) -> usize
+    requires { Seated w.tricks × (entries.old.start ≤ 2 ^ 40) × (entries.old.count ≤ 2 ^ 58) × (walk_count w ≤ 2 ^ 58) }
+    ensures { LastStored kind w entries.old entries.new result }
 {
     let bidding = w.bidding;
     let tricks = w.tricks;
     let calls = bidding.count;
-    if kind == 2 {
-        let last = last_trick(tricks, a, base + calls, entries);
+    if kind == PLAY {
+        let last = last_trick(tricks, entries);
         return calls + last.count;
     }
     calls + tricks.count
 }
 
 // Closes the open section, if there is one (close_sections): its calls or tricks are added, or its table is taken.
-fn close_sections(
-    c: Conventions,
-    r: &[u8],
-    s: State,
-    a: usize,
-    base: usize,
-    entries: &mut [u32],
-) -> State
-    requires { (a + length r.now ≤ 16777215) × (base + s.n ≤ 2 ^ 57) × Sound (length r.now) s }
-    ensures { Emits a (base + s.n) entries.old entries.new result (closed c r.now s) × (result.n ≤ s.n + 6 * length r.now + 1) }
+fn close_sections(c: Conventions, r: &[u8], s: State, entries: &mut Entries) -> State
+    requires { (entries.old.start + length r.now ≤ 16777215) × (entries.old.count ≤ 2 ^ 57) × (s.n ≤ 2 ^ 57) × Sound (length r.now) s }
+    ensures { Emits entries.old entries.new result (closed c r.now s) × (result.n ≤ s.n + 6 * length r.now + 1) }
 {
     let o = s.section;
     let kind = o.kind;
-    if kind == 0 {
+    if kind == NO_SECTION {
         return s;
     }
     let b = s.board;
     let n = s.n;
     let trump = b.contract;
-    let w = walk_section(c, r, o, trump, a, base + n, entries);
-    let k = last_entries(kind, w, a, base + n, entries);
+    let w = walk_section(c, r, o, trump, entries);
+    let k = last_entries(kind, w, entries);
     after_section(s, board_closed(b, o, n, w), k)
 }
 
@@ -193,12 +169,6 @@ fn cut_span<'a>(s: &'a [u8], d: Span) -> &'a [u8]
     ensures { result.now ≡ cut d s.now }
 {
     upto(from(s, d.start), d.len)
-}
-
-fn no_span() -> Span
-    ensures { result ≡ no_span }
-{
-    Span { start: 0, len: 0 }
 }
 
 // A part of the line at p, as a part of the record.
@@ -212,22 +182,17 @@ fn placed_span(p: usize, d: Span) -> Span
     }
 }
 
-// Stores the part d of the line at p as the n-th entry, with a mark.
-fn put_part(entries: &mut [u32], n: usize, a: usize, kind: usize, p: usize, d: Span, mark: usize)
-    requires { a + p + d.start < 2 ^ 63 }
-    ensures { entries.new ≡ put 4 entries.old n (entry_words a (entry kind (p + d.start) d.len mark)) }
+// Stores the part d of the line at p, with a mark.
+fn put_part(entries: &mut Entries, kind: usize, p: usize, d: Span, mark: usize)
+    requires { (entries.old.start + p + d.start < 2 ^ 63) × (entries.old.count ≤ 2 ^ 60) }
+    ensures { Adds entries.old entries.new (entry kind (p + d.start) d.len mark ∷ []) }
 {
-    put_entry(
-        entries,
-        n,
-        a,
-        Entry {
-            kind,
-            x: p + d.start,
-            y: d.len,
-            z: mark,
-        },
-    );
+    entries.push(Entry {
+        kind,
+        x: p + d.start,
+        y: d.len,
+        z: mark,
+    });
 }
 
 // A tag, once sections are closed: its name and value, and what its value does.
@@ -238,19 +203,16 @@ fn tag_step(
     l: &[u8],
     tag: Tag,
     split: Span,
-    a: usize,
-    base: usize,
-    entries: &mut [u32],
+    entries: &mut Entries,
 ) -> State
-    requires { (a + p + length l.now ≤ 16777215) × (base + s.n ≤ 2 ^ 58) × Sound p s × (s.tags ≤ 2 ^ 58) × TagInside tag (length l.now) × (split.start + split.len ≤ p + length l.now) }
-    ensures { Stepped a (base + s.n) (p + length l.now) entries.old entries.new result (tagged c s p l.now (p + length l.now) tag split) }
+    requires { (entries.old.start + p + length l.now ≤ 16777215) × (entries.old.count ≤ 2 ^ 58) × (s.n ≤ 2 ^ 58) × Sound p s × (s.tags ≤ 2 ^ 58) × TagInside tag (length l.now) × (split.start + split.len ≤ p + length l.now) }
+    ensures { Stepped (p + length l.now) entries.old entries.new result (tagged c s p l.now (p + length l.now) tag split) }
 {
     let name = tag.name;
     let value = tag.value;
-    let n = base + s.n;
-    put_part(entries, n, a, 1, p, name, 0);
-    put_part(entries, n + 1, a, 2, p, value, 0);
-    let k = tag_number(cut_span(l, name));
+    put_part(entries, NAME, p, name, 0);
+    put_part(entries, VALUE, p, value, 0);
+    let k = tag_name(cut_span(l, name));
     let v = cut_span(l, value);
     State {
         board: apply_tag(c, k, v, s.n + 2, s.board),
@@ -263,43 +225,33 @@ fn tag_step(
 }
 
 // A directive, or a comment on a tag's line.
-fn directive_step(s: State, p: usize, d: Span, a: usize, base: usize, entries: &mut [u32]) -> State
-    requires { (a + p + d.start + d.len ≤ 2 ^ 40) × (base + s.n ≤ 2 ^ 59) }
-    ensures { Emits a (base + s.n) entries.old entries.new result (directed s p d) }
+fn directive_step(s: State, p: usize, d: Span, entries: &mut Entries) -> State
+    requires { (entries.old.start + p + d.start + d.len ≤ 2 ^ 40) × (entries.old.count ≤ 2 ^ 59) × (s.n ≤ 2 ^ 59) }
+    ensures { Emits entries.old entries.new result (directed s p d) }
 {
-    put_entry(
-        entries,
-        base + s.n,
-        a,
-        Entry {
-            kind: 3,
-            x: p + d.start,
-            y: d.len,
-            z: s.tags,
-        },
-    );
+    put_part(entries, DIRECTIVE, p, d, s.tags);
     counted(s, 1)
 }
 
 // The entry of a data line, where a section of the kind is open; how many entries there are.
-fn put_data(kind: usize, p: usize, d: Span, a: usize, n: usize, entries: &mut [u32]) -> usize
-    requires { a + p + d.start + d.len ≤ 2 ^ 40 }
-    ensures { Emits a n entries.old entries.new result (data_out kind p d) × (result ≤ 1) }
+fn put_data(kind: usize, p: usize, d: Span, entries: &mut Entries) -> usize
+    requires { (entries.old.start + p + d.start + d.len ≤ 2 ^ 40) × (entries.old.count ≤ 2 ^ 59) }
+    ensures { Emits entries.old entries.new result (data_out kind p d) × (result ≤ 1) }
 {
-    if kind == 0 {
+    if kind == NO_SECTION {
         return 0;
     }
-    put_part(entries, n, a, 5, p, d, kind);
+    put_part(entries, DATA, p, d, kind);
     1
 }
 
 // A data line.
-fn data_step(s: State, p: usize, d: Span, a: usize, base: usize, entries: &mut [u32]) -> State
-    requires { (a + p + d.start + d.len ≤ 2 ^ 40) × (base + s.n ≤ 2 ^ 59) }
-    ensures { Emits a (base + s.n) entries.old entries.new result (data_added s p d) }
+fn data_step(s: State, p: usize, d: Span, entries: &mut Entries) -> State
+    requires { (entries.old.start + p + d.start + d.len ≤ 2 ^ 40) × (entries.old.count ≤ 2 ^ 59) × (s.n ≤ 2 ^ 59) }
+    ensures { Emits entries.old entries.new result (data_added s p d) }
 {
     let o = s.section;
-    let k = put_data(o.kind, p, d, a, base + s.n, entries);
+    let k = put_data(o.kind, p, d, entries);
     counted(s, k)
 }
 
@@ -319,8 +271,7 @@ fn split_of(p: usize, n: usize, t: TagReading) -> Span
     ensures { (result ≡ split_in p t) × (result.start + result.len ≤ p + n) }
 {
     match t {
-        TagReading::Plain(_) => no_span(),
-        TagReading::WithComment(_, _) => no_span(),
+        TagReading::Plain(_) | TagReading::WithComment(_, _) => Span { start: 0, len: 0 },
         TagReading::WithData(_, d) => placed_span(p, d),
     }
 }
@@ -332,20 +283,18 @@ fn tag_read(
     p: usize,
     l: &[u8],
     t: TagReading,
-    a: usize,
-    base: usize,
-    entries: &mut [u32],
+    entries: &mut Entries,
 ) -> State
-    requires { (a + p + length l.now ≤ 16777215) × (base + s.n ≤ 2 ^ 58) × Sound p s × (s.tags ≤ 2 ^ 58) × ReadingPlaced t (length l.now) }
-    ensures { Stepped a (base + s.n) (p + length l.now) entries.old entries.new result (read_by c s p l.now (p + length l.now) t) }
+    requires { (entries.old.start + p + length l.now ≤ 16777215) × (entries.old.count ≤ 2 ^ 58) × (s.n ≤ 2 ^ 58) × Sound p s × (s.tags ≤ 2 ^ 58) × ReadingPlaced t (length l.now) }
+    ensures { Stepped (p + length l.now) entries.old entries.new result (read_by c s p l.now (p + length l.now) t) }
 {
     let tag = tag_of(t);
     let split = split_of(p, l.len(), t);
-    let next = tag_step(c, s, p, l, tag, split, a, base, entries);
+    let next = tag_step(c, s, p, l, tag, split, entries);
     match t {
         TagReading::Plain(_) => next,
-        TagReading::WithComment(_, d) => directive_step(next, p, d, a, base, entries),
-        TagReading::WithData(_, d) => data_step(next, p, d, a, base, entries),
+        TagReading::WithComment(_, d) => directive_step(next, p, d, entries),
+        TagReading::WithData(_, d) => data_step(next, p, d, entries),
     }
 }
 
@@ -356,93 +305,57 @@ fn all_white(s: &[u8]) -> bool
     lead_len(s) == s.len()
 }
 
-// j - i, or 0.
-fn less(j: usize, i: usize) -> usize
-    ensures { result ≡ j - i }
-{
-    if j <= i {
-        return 0;
-    }
-    j - i
-}
-
 // Commentary closes: a block from i to j of the record, unless it is all white.
-fn block_step(
-    r: &[u8],
-    s: State,
-    i: usize,
-    j: usize,
-    a: usize,
-    base: usize,
-    entries: &mut [u32],
-) -> State
-    requires { (a + i ≤ 2 ^ 41) × (base + s.n ≤ 2 ^ 59) }
-    ensures { Emits a (base + s.n) entries.old entries.new result (blocked r.now s i j) }
+fn block_step(r: &[u8], s: State, i: usize, j: usize, entries: &mut Entries) -> State
+    requires { (entries.old.start + i ≤ 2 ^ 41) × (entries.old.count ≤ 2 ^ 59) × (s.n ≤ 2 ^ 59) }
+    ensures { Emits entries.old entries.new result (blocked r.now s i j) }
 {
     let next = with_commentary(s, false, 0);
-    let len = less(j, i);
+    let len = j.saturating_sub(i);
     if all_white(upto(from(r, i), len)) {
         return counted(next, 0);
     }
-    put_entry(
-        entries,
-        base + s.n,
-        a,
-        Entry {
-            kind: 4,
-            x: i,
-            y: len,
-            z: s.tags,
-        },
-    );
+    entries.push(Entry {
+        kind: COMMENTARY,
+        x: i,
+        y: len,
+        z: s.tags,
+    });
     counted(next, 1)
 }
 
 fn with_commentary(s: State, commentary: bool, block: usize) -> State
     ensures { result ≡ with_commentary s commentary block }
 {
-    let mut t = s;
-    t.commentary = commentary;
-    t.block = block;
-    t
+    State {
+        commentary,
+        block,
+        ..s
+    }
 }
 
 // A line that begins with `{`.
-fn brace_line(
-    r: &[u8],
-    s: State,
-    p: usize,
-    l: &[u8],
-    a: usize,
-    base: usize,
-    entries: &mut [u32],
-) -> State
-    requires { (a + p + length l.now ≤ 16777215) × (base + s.n ≤ 2 ^ 57) }
-    ensures { Emits a (base + s.n) entries.old entries.new result (braced r.now s p l.now) × (result.block ≤ p + length l.now + 1) }
+#[tactic(auto, unfolding(crate::specs::Boards::braced))]
+fn brace_line(r: &[u8], s: State, p: usize, l: &[u8], entries: &mut Entries) -> State
+    requires { (entries.old.start + p + length l.now ≤ 16777215) × (entries.old.count ≤ 2 ^ 57) × (s.n ≤ 2 ^ 57) }
+    ensures { Emits entries.old entries.new result (braced r.now s p l.now) × (result.block ≤ p + length l.now + 1) }
 {
     let i = p + lead_len(l) + 1;
     if has_brace(l) {
-        return block_step(r, s, i, p + last_brace(l), a, base, entries);
+        return block_step(r, s, i, p + last_brace(l), entries);
     }
     with_commentary(s, true, i)
 }
 
 // A line inside commentary.
-fn commentary_line(
-    r: &[u8],
-    s: State,
-    p: usize,
-    l: &[u8],
-    a: usize,
-    base: usize,
-    entries: &mut [u32],
-) -> State
-    requires { (a + p + length l.now ≤ 16777215) × (base + s.n ≤ 2 ^ 57) × (s.block ≤ p + 1) }
-    ensures { Emits a (base + s.n) entries.old entries.new result (in_commentary r.now s p l.now) × (result.block ≤ p + 1) }
+#[tactic(auto, unfolding(crate::specs::Boards::in_commentary))]
+fn commentary_line(r: &[u8], s: State, p: usize, l: &[u8], entries: &mut Entries) -> State
+    requires { (entries.old.start + p + length l.now ≤ 16777215) × (entries.old.count ≤ 2 ^ 57) × (s.n ≤ 2 ^ 57) × (s.block ≤ p + 1) }
+    ensures { Emits entries.old entries.new result (in_commentary r.now s p l.now) × (result.block ≤ p + 1) }
 {
     if has_brace(l) {
         let i = s.block;
-        return block_step(r, s, i, p + last_brace(l), a, base, entries);
+        return block_step(r, s, i, p + last_brace(l), entries);
     }
     s
 }
@@ -458,36 +371,21 @@ fn kind_in(commentary: bool, l: &[u8]) -> Line
 }
 
 // A line that holds nothing, unless it is one inside commentary.
-fn quiet_line(
-    r: &[u8],
-    s: State,
-    p: usize,
-    l: &[u8],
-    a: usize,
-    base: usize,
-    entries: &mut [u32],
-) -> State
-    requires { (a + p + length l.now ≤ 16777215) × (base + s.n ≤ 2 ^ 57) × (s.block ≤ p + 1) }
-    ensures { Emits a (base + s.n) entries.old entries.new result (cond s.commentary (in_commentary r.now s p l.now) (unchanged s)) × (result.block ≤ p + 1) }
+fn quiet_line(r: &[u8], s: State, p: usize, l: &[u8], entries: &mut Entries) -> State
+    requires { (entries.old.start + p + length l.now ≤ 16777215) × (entries.old.count ≤ 2 ^ 57) × (s.n ≤ 2 ^ 57) × (s.block ≤ p + 1) }
+    ensures { Emits entries.old entries.new result (cond s.commentary (in_commentary r.now s p l.now) (unchanged s)) × (result.block ≤ p + 1) }
 {
     let commentary = s.commentary;
     if commentary {
-        return commentary_line(r, s, p, l, a, base, entries);
+        return commentary_line(r, s, p, l, entries);
     }
     s
 }
 
-// The board of a record's own text r, which starts at a of its edition; base entries stand before its own. A data line changes the
-// count alone.
-pub(crate) fn read_board(
-    c: Conventions,
-    r: &[u8],
-    a: usize,
-    base: usize,
-    entries: &mut [u32],
-) -> State
-    requires { (a + length r.now ≤ 16777215) × (base ≤ 2 ^ 56) }
-    ensures { Emits a base entries.old entries.new result (record_out c r.now) }
+// The board of a record's own text r. A data line changes the count alone.
+pub(crate) fn read_board(c: Conventions, r: &[u8], entries: &mut Entries) -> State
+    requires { (entries.old.start + length r.now ≤ 16777215) × (entries.old.count ≤ 2 ^ 56) }
+    ensures { Emits entries.old entries.new result (record_out c r.now) }
 {
     let mut s = no_state();
     let mut p = 0;
@@ -496,31 +394,31 @@ pub(crate) fn read_board(
         let o = s.section;
         match kind_in(s.commentary, l) {
             Line::Data(d) => {
-                let n = put_data(o.kind, p, d, a, base + s.n, entries);
+                let n = put_data(o.kind, p, d, entries);
                 s.n = s.n + n;
                 p += l.len();
             }
             Line::Tag(t) => {
-                if o.kind != 0 {
-                    s = close_sections(c, r, s, a, base, entries);
+                if o.kind != NO_SECTION {
+                    s = close_sections(c, r, s, entries);
                 }
-                s = tag_read(c, s, p, l, t, a, base, entries);
+                s = tag_read(c, s, p, l, t, entries);
                 p += l.len();
             }
             Line::Directive(d) => {
-                s = directive_step(s, p, d, a, base, entries);
+                s = directive_step(s, p, d, entries);
                 p += l.len();
             }
             Line::Brace => {
-                s = brace_line(r, s, p, l, a, base, entries);
+                s = brace_line(r, s, p, l, entries);
                 p += l.len();
             }
             Line::Blank => {
-                s = quiet_line(r, s, p, l, a, base, entries);
+                s = quiet_line(r, s, p, l, entries);
                 p += l.len();
             }
             Line::Bracket => p += l.len(),
         }
     }
-    close_sections(c, r, s, a, base, entries)
+    close_sections(c, r, s, entries)
 }

@@ -1,11 +1,11 @@
 // Where a record ends.
-ghost use Rattle.std.specs.Prelude.{◌≡◌, ◌<◌, length};
+ghost use Rattle.std.specs.Prelude.{◌≡◌, ◌≤◌, length};
 ghost use Rattle.reader.specs.Records.{fresh, scanned, closes_record};
-ghost use Rattle.reader.specs.RecordSteps.{EndsAt};
+ghost use Rattle.reader.specs.RecordSteps.{FirstEnd};
 
 use crate::line::{is_blank, opens_board};
 use crate::section::commentary_after;
-use crate::walk::line_at;
+use crate::walk::lines_from;
 
 // Whether commentary is open, and whether a tag was met since the record's start.
 #[derive(Clone, Copy)]
@@ -14,59 +14,42 @@ pub struct Scan {
     pub met: bool,
 }
 
-// The place just after the record, and whether a tag was met in it.
-#[derive(Clone, Copy)]
-pub struct RecordEnd {
-    pub end: usize,
-    pub met: bool,
-}
-
 // Whether the line closes the record: a blank line, once a tag was met.
+#[tactic(auto, unfolding(crate::specs::Records::closes_record))]
 fn closes_record(s: Scan, l: &[u8]) -> bool
     ensures { result ≡ closes_record s l.now }
 {
-    let open = s.met & !s.commentary;
-    if open {
-        return is_blank(l);
-    }
-    false
+    !s.commentary && s.met && is_blank(l)
 }
 
 // What is known after the line. Once a tag was met, no line is read as a tag.
+#[tactic(auto, unfolding(crate::specs::Records::scanned))]
 fn scan_line(s: Scan, l: &[u8]) -> Scan
     ensures { result ≡ scanned s l.now }
 {
-    let commentary = s.commentary;
-    let met = s.met;
-    if commentary | met {
-        return Scan {
-            commentary: commentary_after(commentary, l),
-            met,
-        };
-    }
+    let met = s.met || (!s.commentary && opens_board(l));
     Scan {
-        commentary: commentary_after(false, l),
-        met: opens_board(l),
+        commentary: commentary_after(s.commentary, l),
+        met,
     }
 }
 
-// The end of the record that starts at `a`.
-pub(crate) fn record_end(text: &[u8], a: usize) -> RecordEnd
-    requires { a < length text.now }
-    ensures { EndsAt text.now a result }
+// The end of the record that starts at `a`; nothing where no record is left.
+pub(crate) fn record_end(text: &[u8], a: usize) -> Option<usize>
+    requires { a ≤ length text.now }
+    ensures { FirstEnd text.now a result }
 {
     let mut s = Scan {
         commentary: false,
         met: false,
     };
-    let mut e = a;
-    while e < text.len() {
-        let l = line_at(text, e);
-        e += l.len();
-        if closes_record(s, l) {
-            return RecordEnd { end: e, met: true };
+    let mut end = a;
+    for line in lines_from(text, a) {
+        end += line.len();
+        if closes_record(s, line) {
+            return Some(end);
         }
-        s = scan_line(s, l);
+        s = scan_line(s, line);
     }
-    RecordEnd { end: e, met: s.met }
+    s.met.then_some(end)
 }

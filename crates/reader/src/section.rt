@@ -5,18 +5,28 @@ ghost use Rattle.reader.specs.Pieces.{out_all};
 ghost use Rattle.reader.specs.PieceSteps.{piece};
 ghost use Rattle.reader.specs.TokenSteps.{Seated};
 ghost use Rattle.reader.specs.Sections.{commentary_after, split_piece, row_stored, walked, no_walk, walked_all};
-ghost use Rattle.reader.specs.SectionSteps.{visit_of, no_piece, NextPiece, walk_count, Walks};
+ghost use Rattle.reader.specs.SectionSteps.{visit_of, NextPiece, walk_count, Walks};
 
-use crate::auction::{Bidding, call_piece, no_bidding};
+use crate::auction::{Bidding, call_piece};
 use crate::line::{Line, has_brace, line_kind};
-use crate::play::{Tricks, no_tricks, play_piece};
+use crate::play::{Terms, Tricks, no_tricks, play_piece};
+use crate::store::Entries;
 use crate::tag::Span;
 use crate::walk::line_at;
-use tables::dd::{Cells, Row, no_cells, read_row, stored_row};
+use tables::dd::{no_cells, read_row, stored_row};
 use tables::letters::Conventions;
 use tables::text::{byte_at, from, lead_len, upto};
 
-// An open section: 0 none, 1 auction, 2 play, 3 optimum; where the lines after its tag start, and what was split off its tag line.
+// The kinds of open sections: numbers, as the last word of a data line's entry in C; 0 where none is open.
+pub(crate) const NO_SECTION: usize = 0;
+
+pub(crate) const AUCTION: usize = 1;
+
+pub(crate) const PLAY: usize = 2;
+
+pub(crate) const OPTIMUM: usize = 3;
+
+// An open section: where the lines after its tag start, and what was split off its tag line.
 #[derive(Clone, Copy)]
 pub struct Open {
     pub kind: usize,
@@ -28,7 +38,7 @@ pub struct Open {
 // The rows of an OptimumResultTable so far.
 #[derive(Clone, Copy)]
 pub struct Rows {
-    pub cells: Cells,
+    pub cells: [u8; 20],
     pub fault: bool,
 }
 
@@ -60,14 +70,14 @@ pub enum Visit {
     Piece(Span),
 }
 
-// The next piece of a section's data, and where the lines after it start; `more` is false where the section has ended.
+// A piece of a section's data, and where the lines after it start.
 #[derive(Clone, Copy)]
 pub struct Next {
-    pub more: bool,
     pub piece: Span,
     pub at: usize,
 }
 
+#[tactic(auto, unfolding(crate::specs::SectionSteps::visit_of))]
 fn visit_line(commentary: bool, l: &[u8]) -> Visit
     ensures { result ≡ visit_of commentary l.now }
 {
@@ -84,18 +94,8 @@ fn visit_line(commentary: bool, l: &[u8]) -> Visit
     }
 }
 
-fn no_piece(at: usize) -> Next
-    ensures { result ≡ no_piece at }
-{
-    Next {
-        more: false,
-        piece: Span { start: 0, len: 0 },
-        at,
-    }
-}
-
-// The section's next data line, of the lines from `at` on.
-fn next_piece(r: &[u8], at: usize) -> Next
+// The section's next data line, of the lines from `at` on; none where the section has ended.
+fn next_piece(r: &[u8], at: usize) -> Option<Next>
     requires { (at ≤ length r.now) × (length r.now ≤ 2 ^ 40) }
     ensures { NextPiece r.now at result }
 {
@@ -104,26 +104,27 @@ fn next_piece(r: &[u8], at: usize) -> Next
     while e < r.len() {
         let l = line_at(r, e);
         match visit_line(commentary, l) {
-            Visit::Stop => return no_piece(e),
+            Visit::Stop => return None,
             Visit::Pass => {
                 commentary = commentary_after(commentary, l);
                 e += l.len();
             }
             Visit::Piece(s) => {
-                return Next {
-                    more: true,
-                    piece: Span {
-                        start: e + s.start,
-                        len: s.len,
-                    },
-                    at: e + l.len(),
+                let piece = Span {
+                    start: e + s.start,
+                    len: s.len,
                 };
+                return Some(Next {
+                    piece,
+                    at: e + l.len(),
+                });
             }
         }
     }
-    no_piece(e)
+    None
 }
 
+#[tactic(auto, unfolding(crate::specs::Sections::no_walk))]
 fn no_walk() -> Walk
     ensures { result ≡ no_walk }
 {
@@ -133,7 +134,7 @@ fn no_walk() -> Walk
         fault: false,
     };
     Walk {
-        bidding: no_bidding(),
+        bidding: Bidding::default(),
         tricks: no_tricks(),
         rows,
     }
@@ -145,19 +146,15 @@ fn walk_row(c: Conventions, w: Rows, s: &[u8]) -> Rows
 {
     let cells = w.cells;
     match read_row(c, s, 0) {
-        Row::Blank => w,
-        Row::Cell(k, v) => {
-            let stored = stored_row(cells, Row::Cell(k, v));
-            Rows {
-                cells: stored,
-                fault: w.fault,
-            }
-        }
-        Row::Fault(_) => Rows { cells, fault: true },
+        Ok(given) => Rows {
+            cells: stored_row(cells, given),
+            fault: w.fault,
+        },
+        Err(_) => Rows { cells, fault: true },
     }
 }
 
-// A piece of the section's data at the place `at` of a record that starts at `a`; the section's entries stand from `base` on.
+// A piece of the section's data at the place `at` of its record.
 fn walk_piece(
     c: Conventions,
     o: Open,
@@ -165,27 +162,29 @@ fn walk_piece(
     w: Walk,
     s: &[u8],
     at: usize,
-    a: usize,
-    base: usize,
-    entries: &mut [u32],
+    entries: &mut Entries,
 ) -> Walk
-    requires { Seated w.tricks × (a + at + length s.now ≤ 2 ^ 40) × (base + walk_count w ≤ 2 ^ 59) × (o.kind ≡ 2 → o.seat ≤ 3) }
-    ensures { Walks a (base + walk_count w) (walk_count w + 3 * length s.now) entries.old entries.new result (walked c o trump w (piece at s.now)) }
+    requires { Seated w.tricks × (entries.old.start + at + length s.now ≤ 2 ^ 40) × (entries.old.count ≤ 2 ^ 58) × (walk_count w ≤ 2 ^ 59) × (o.kind ≡ 2 → o.seat ≤ 3) }
+    ensures { Walks (walk_count w + 3 * length s.now) entries.old entries.new result (walked c o trump w (piece at s.now)) }
 {
     let bidding = w.bidding;
     let tricks = w.tricks;
     let rows = w.rows;
-    if o.kind == 1 {
-        let bid = call_piece(c, bidding, s, at, a, base + tricks.count, entries);
+    if o.kind == AUCTION {
+        let bid = call_piece(c, bidding, s, at, entries);
         return Walk {
             bidding: bid,
             tricks,
             rows,
         };
     }
-    if o.kind == 2 {
-        let n = base + bidding.count;
-        let played = play_piece(c, o.seat, trump, tricks, s, at, a, n, entries);
+    if o.kind == PLAY {
+        let by = Terms {
+            c,
+            lead: o.seat,
+            trump,
+        };
+        let played = play_piece(by, tricks, s, at, entries);
         return Walk {
             bidding,
             tricks: played,
@@ -207,12 +206,10 @@ fn walk_span(
     trump: usize,
     w: Walk,
     s: Span,
-    a: usize,
-    base: usize,
-    entries: &mut [u32],
+    entries: &mut Entries,
 ) -> Walk
-    requires { Seated w.tricks × (a + length r.now ≤ 2 ^ 40) × (base + walk_count w ≤ 2 ^ 59) × (s.start + s.len ≤ length r.now) × (o.kind ≡ 2 → o.seat ≤ 3) }
-    ensures { Walks a (base + walk_count w) (walk_count w + 3 * s.len) entries.old entries.new result (out_all (walked c o trump) w (split_piece r.now s)) }
+    requires { Seated w.tricks × (entries.old.start + length r.now ≤ 2 ^ 40) × (entries.old.count ≤ 2 ^ 58) × (walk_count w ≤ 2 ^ 59) × (s.start + s.len ≤ length r.now) × (o.kind ≡ 2 → o.seat ≤ 3) }
+    ensures { Walks (walk_count w + 3 * s.len) entries.old entries.new result (out_all (walked c o trump) w (split_piece r.now s)) }
 {
     if s.len == 0 {
         return w;
@@ -224,36 +221,26 @@ fn walk_span(
         w,
         upto(from(r, s.start), s.len),
         s.start,
-        a,
-        base,
         entries,
     )
 }
 
-// All the data of the open section `o` of the record `r`, which starts at `a`; its entries stand from `base` on.
+// All the data of the open section `o` of the record `r`.
 pub(crate) fn walk_section(
     c: Conventions,
     r: &[u8],
     o: Open,
     trump: usize,
-    a: usize,
-    base: usize,
-    entries: &mut [u32],
+    entries: &mut Entries,
 ) -> Walk
-    requires { (a + length r.now ≤ 2 ^ 40) × (base ≤ 2 ^ 58) × (o.at ≤ length r.now) × (o.split.start + o.split.len ≤ length r.now) × (o.kind ≡ 2 → o.seat ≤ 3) }
-    ensures { Walks a base (3 * (o.split.len + (length r.now - o.at))) entries.old entries.new result (walked_all c r.now o trump) }
+    requires { (entries.old.start + length r.now ≤ 2 ^ 40) × (entries.old.count ≤ 2 ^ 57) × (o.at ≤ length r.now) × (o.split.start + o.split.len ≤ length r.now) × (o.kind ≡ 2 → o.seat ≤ 3) }
+    ensures { Walks (3 * (o.split.len + (length r.now - o.at))) entries.old entries.new result (walked_all c r.now o trump) }
 {
-    let split = o.split;
-    let mut w = no_walk();
-    let mut next = Next {
-        more: true,
-        piece: split,
-        at: o.at,
-    };
-    while next.more {
-        let s = next.piece;
-        w = walk_span(c, r, o, trump, w, s, a, base, entries);
-        next = next_piece(r, next.at);
+    let mut w = walk_span(c, r, o, trump, no_walk(), o.split, entries);
+    let mut at = o.at;
+    while let Some(next) = next_piece(r, at) {
+        w = walk_span(c, r, o, trump, w, next.piece, entries);
+        at = next.at;
     }
     w
 }

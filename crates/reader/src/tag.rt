@@ -1,8 +1,8 @@
 // Tags: a line `[Name "value"]`, perhaps with a comment or with section data after it. Every place is one of the line as given.
-ghost use Rattle.std.specs.Prelude.{◌≡◌, [], ◌+◌, ◌-◌, ◌≤◌, length, take, drop};
+ghost use Rattle.std.specs.Prelude.{◌≡◌, [], ◌+◌, ◌-◌, ◌≤◌, ◌<◌, length, take, drop, IfSome};
 ghost use Rattle.tables.specs.Letters.{among};
-ghost use Rattle.reader.specs.Tag.{part, last_byte, trim_span, trim_part, bracket_of, ends_quoted, close_at, name_of, is_quoted, value_of, is_comment, comment_of, tag_line, pair_of, find_at, data_bracket, data_after, split_of};
-ghost use Rattle.reader.specs.TagSteps.{BracketInside, IsInside, NameInside, ValueInside, CommentInside, TagPlaced, PairInside, SplitPlaced};
+ghost use Rattle.reader.specs.Tag.{part, last_byte, trim_span, trim_part, bracket_of, ends_quoted, close_at, name_of, is_quoted, value_of, is_comment, comment_of, tag_line, find_at, data_bracket, data_after, split_of};
+ghost use Rattle.reader.specs.TagSteps.{SpanInside, TagPlaced, SplitPlaced};
 
 use tables::text::{byte_at, from, index_of, kept_len, lead_len, trim_end, upto, word_len};
 
@@ -18,61 +18,6 @@ pub struct Span {
 pub struct Tag {
     pub name: Span,
     pub value: Span,
-}
-
-#[derive(Clone, Copy)]
-pub enum TagLine {
-    NoTag,
-    Plain(Tag),
-    WithComment(Tag, Span),
-}
-
-#[derive(Clone, Copy)]
-pub enum Pair {
-    Of(Tag),
-    NoPair,
-}
-
-#[derive(Clone, Copy)]
-pub enum Split {
-    Data(Tag, Span),
-    NoData,
-}
-
-// Where the text behind the opening bracket starts.
-#[derive(Clone, Copy)]
-enum Bracket {
-    Body(usize),
-    NoBracket,
-}
-
-// The place of a byte that was looked for.
-#[derive(Clone, Copy)]
-enum Close {
-    At(usize),
-    Nothing,
-}
-
-// The length of a tag's name.
-#[derive(Clone, Copy)]
-enum Name {
-    Len(usize),
-    NoName,
-}
-
-// The text between a value's quotes.
-#[derive(Clone, Copy)]
-enum Value {
-    Text(Span),
-    NoValue,
-}
-
-// What follows a tag on its line: nothing, a comment, or something else.
-#[derive(Clone, Copy)]
-enum Comment {
-    Clean,
-    Found(Span),
-    Bad,
 }
 
 // The bytes from place `a` up to place `e`.
@@ -93,13 +38,10 @@ fn cut(s: &[u8], a: usize, n: usize) -> &[u8]
 fn last_byte(s: &[u8]) -> u8
     ensures { result ≡ last_byte s.now }
 {
-    let n = s.len();
-    if n == 0 {
-        return 0;
-    }
-    s[n - 1]
+    s.last().copied().unwrap_or(0)
 }
 
+#[tactic(auto, using(crate::proofs::TagLaws::among_before))]
 pub(crate) fn contains(s: &[u8], x: u8) -> bool
     ensures { result ≡ among x s.now }
 {
@@ -129,186 +71,150 @@ fn trim_part(line: &[u8], a: usize, e: usize) -> Span
     }
 }
 
-// The `[` that a line starts with, white space apart.
-fn opening_bracket(line: &[u8]) -> Bracket
-    ensures { (result ≡ bracket_of line.now) × BracketInside result (length line.now) }
+// The place behind the `[` that a line starts with, white space apart.
+fn opening_bracket(line: &[u8]) -> Option<usize>
+    ensures { (result ≡ bracket_of line.now) × IfSome result (λ a. a ≤ length line.now) }
 {
     let n = lead_len(line);
-    if byte_at(line, n) == 91 {
-        return Bracket::Body(n + 1);
+    if byte_at(line, n) == b'[' {
+        return Some(n + 1);
     }
-    Bracket::NoBracket
+    None
 }
 
 // Whether the text from `a` up to `e`, the white space off its end, ends with a quote.
+#[tactic(auto, unfolding(crate::specs::Tag::ends_quoted))]
 fn quote_before(line: &[u8], a: usize, e: usize) -> bool
     ensures { result ≡ ends_quoted (part a e line.now) }
 {
-    last_byte(trim_end(part(line, a, e))) == 34
+    last_byte(trim_end(part(line, a, e))) == b'"'
 }
 
 // The first `]` of the body, which starts at `a`, with a quote before it, white space apart.
-fn closing_bracket(line: &[u8], a: usize) -> Close
-    ensures { (result ≡ close_at a [] (drop a line.now)) × IsInside result (length line.now) }
+fn closing_bracket(line: &[u8], a: usize) -> Option<usize>
+    ensures { (result ≡ close_at a [] (drop a line.now)) × IfSome result (λ k. k < length line.now) }
 {
-    let mut i = a + index_of(from(line, a), 93);
+    // From one `]` to the next, which `index_of` finds four bytes a turn: a `for` over places would look at each byte alone.
+    let mut i = a + index_of(from(line, a), b']');
     while i < line.len() {
         if quote_before(line, a, i) {
-            return Close::At(i);
+            return Some(i);
         }
-        i = i + 1 + index_of(from(line, i + 1), 93);
+        i = i + 1 + index_of(from(line, i + 1), b']');
     }
-    Close::Nothing
+    None
 }
 
-// The name that ends before the first white byte between `a` and `e`.
-fn tag_name(line: &[u8], a: usize, e: usize) -> Name
-    ensures { (result ≡ name_of (part a e line.now)) × NameInside result (length line.now - a) }
+// The length of the name that ends before the first white byte between `a` and `e`.
+#[tactic(auto, using(crate::proofs::TagLaws::length_part), unfolding(crate::specs::Tag::name_of))]
+fn tag_name(line: &[u8], a: usize, e: usize) -> Option<usize>
+    ensures { (result ≡ name_of (part a e line.now)) × IfSome result (λ n. n < length line.now - a) }
 {
     let t = part(line, a, e);
     let n = word_len(t);
-    if n < t.len() {
-        return Name::Len(n);
-    }
-    Name::NoName
+    (n < t.len()).then_some(n)
 }
 
 // An opening and a closing quote, which are two bytes.
+#[tactic(auto, unfolding(crate::specs::Tag::is_quoted))]
 fn is_quoted(s: &[u8]) -> bool
     ensures { result ≡ is_quoted s.now }
 {
-    if s.len() < 2 {
-        return false;
-    }
-    (byte_at(s, 0) == 34) & (last_byte(s) == 34)
+    s.len() >= 2 && byte_at(s, 0) == b'"' && last_byte(s) == b'"'
 }
 
 // The value in quotes between `a` and `e`, white space apart.
-fn quoted_value(line: &[u8], a: usize, e: usize) -> Value
-    ensures { (result ≡ value_of a e line.now) × ValueInside result (length line.now) }
+fn quoted_value(line: &[u8], a: usize, e: usize) -> Option<Span>
+    ensures { (result ≡ value_of a e line.now) × IfSome result (λ p. SpanInside p (length line.now)) }
 {
     let t = trim_part(line, a, e);
     let start = t.start;
     let n = t.len;
     if is_quoted(cut(line, start, n)) {
-        return Value::Text(Span {
+        return Some(Span {
             start: start + 1,
             len: n - 2,
         });
     }
-    Value::NoValue
+    None
 }
 
 // `;` and anything, or `{` closed on the line.
+#[tactic(auto, unfolding(crate::specs::Tag::is_comment))]
 fn is_comment(s: &[u8]) -> bool
     ensures { result ≡ is_comment s.now }
 {
     let b = byte_at(s, 0);
-    if b == 123 {
-        return contains(s, 125);
+    if b == b'{' {
+        return contains(s, b'}');
     }
-    b == 59
+    b == b';'
 }
 
-// What stands on the line from `a` on.
-fn trailing_comment(line: &[u8], a: usize) -> Comment
-    ensures { (result ≡ comment_of a line.now) × CommentInside result (length line.now) }
+// The comment on the line from `a` on, if something stands there; nothing where that is no comment.
+#[tactic(auto, unfolding(crate::specs::Tag::comment_of))]
+fn trailing_comment(line: &[u8], a: usize) -> Option<Option<Span>>
+    ensures { (result ≡ comment_of a line.now) × IfSome result (λ o. IfSome o (λ p. SpanInside p (length line.now))) }
 {
     let t = trim_part(line, a, line.len());
     let start = t.start;
     let n = t.len;
     if n == 0 {
-        return Comment::Clean;
+        return Some(None);
     }
-    if is_comment(cut(line, start, n)) {
-        return Comment::Found(t);
-    }
-    Comment::Bad
+    is_comment(cut(line, start, n)).then_some(Some(t))
 }
 
 // A tag and the comment after it.
-pub(crate) fn parse_tag_line(line: &[u8]) -> TagLine
+#[tactic(auto, unfolding(crate::specs::Tag::tag_line))]
+pub(crate) fn parse_tag_line(line: &[u8]) -> Option<(Tag, Option<Span>)>
     ensures { (result ≡ tag_line line.now) × TagPlaced result (length line.now) }
 {
-    let Bracket::Body(a) = opening_bracket(line) else {
-        return TagLine::NoTag;
-    };
-    let Close::At(e) = closing_bracket(line, a) else {
-        return TagLine::NoTag;
-    };
-    let Name::Len(n) = tag_name(line, a, e) else {
-        return TagLine::NoTag;
-    };
-    let Value::Text(value) = quoted_value(line, a + n, e) else {
-        return TagLine::NoTag;
-    };
+    let a = opening_bracket(line)?;
+    let e = closing_bracket(line, a)?;
+    let n = tag_name(line, a, e)?;
+    let value = quoted_value(line, a + n, e)?;
+    let comment = trailing_comment(line, e + 1)?;
     let name = Span { start: a, len: n };
-    let tag = Tag { name, value };
-    match trailing_comment(line, e + 1) {
-        Comment::Clean => TagLine::Plain(tag),
-        Comment::Found(c) => TagLine::WithComment(tag, c),
-        Comment::Bad => TagLine::NoTag,
-    }
-}
-
-// A tag, whether or not a comment follows it.
-fn parse_tag_pair(line: &[u8]) -> Pair
-    ensures { (result ≡ pair_of (tag_line line.now)) × PairInside result (length line.now) }
-{
-    match parse_tag_line(line) {
-        TagLine::Plain(tag) => Pair::Of(tag),
-        TagLine::WithComment(tag, _) => Pair::Of(tag),
-        TagLine::NoTag => Pair::NoPair,
-    }
+    Some((Tag { name, value }, comment))
 }
 
 // The first `x` at `a` or after it.
-fn find_from(line: &[u8], x: u8, a: usize) -> Close
-    ensures { (result ≡ find_at x a (drop a line.now)) × IsInside result (length line.now) }
+fn find_from(line: &[u8], x: u8, a: usize) -> Option<usize>
+    ensures { (result ≡ find_at x a (drop a line.now)) × IfSome result (λ k. k < length line.now) }
 {
-    let mut i = a;
-    while i < line.len() {
-        if line[i] == x {
-            return Close::At(i);
-        }
-        i += 1;
-    }
-    Close::Nothing
+    let k = a + index_of(from(line, a), x);
+    (k < line.len()).then_some(k)
 }
 
 // The first `]` after the line's second quote.
-fn data_bracket(line: &[u8]) -> Close
-    ensures { (result ≡ data_bracket line.now) × IsInside result (length line.now) }
+#[tactic(auto, unfolding(crate::specs::Tag::data_bracket))]
+fn data_bracket(line: &[u8]) -> Option<usize>
+    ensures { (result ≡ data_bracket line.now) × IfSome result (λ k. k < length line.now) }
 {
-    let Close::At(o) = find_from(line, 34, 0) else {
-        return Close::Nothing;
-    };
-    let Close::At(q) = find_from(line, 34, o + 1) else {
-        return Close::Nothing;
-    };
-    find_from(line, 93, q + 1)
+    let o = find_from(line, b'"', 0)?;
+    let q = find_from(line, b'"', o + 1)?;
+    find_from(line, b']', q + 1)
 }
 
-// The tag that stands before `e`, and the data from there.
-fn data_after(line: &[u8], e: usize) -> Split
+// The tag that stands before `e`, whether or not a comment follows it, and the data from there.
+#[tactic(auto, unfolding(crate::specs::Tag::data_after))]
+fn data_after(line: &[u8], e: usize) -> Option<(Tag, Span)>
     ensures { (result ≡ data_after e line.now) × SplitPlaced result (length line.now) }
 {
-    let Pair::Of(tag) = parse_tag_pair(upto(line, e)) else {
-        return Split::NoData;
-    };
-    let d = trim_part(line, e, line.len());
-    if d.len == 0 {
-        return Split::NoData;
+    let (tag, _) = parse_tag_line(upto(line, e))?;
+    let data = trim_part(line, e, line.len());
+    if data.len == 0 {
+        return None;
     }
-    Split::Data(tag, d)
+    Some((tag, data))
 }
 
 // A tag with section data after its bracket, as `[Play "W"]SJ`.
-pub(crate) fn split_tag_and_data(line: &[u8]) -> Split
+#[tactic(auto, unfolding(crate::specs::Tag::split_of))]
+pub(crate) fn split_tag_and_data(line: &[u8]) -> Option<(Tag, Span)>
     ensures { (result ≡ split_of line.now) × SplitPlaced result (length line.now) }
 {
-    let Close::At(k) = data_bracket(line) else {
-        return Split::NoData;
-    };
+    let k = data_bracket(line)?;
     data_after(line, k + 1)
 }

@@ -1,19 +1,19 @@
 // Recorded cases replayed through lin_to_pbn, and compared.
 use crate::cases::{Case, Told};
-use lin::convert::{Converted, lin_carried, lin_number, lin_to_pbn};
+use lin::convert::{Converted, LinRefusal, lin_carried, lin_number, lin_to_pbn};
 use recorded::bytes::Bytes;
 use recorded::cases::{Counting, Fault, one_more};
 use recorded::pages::holds;
 
-fn told_converted(c: Converted) -> Told {
+fn told_converted(c: Result<Converted, LinRefusal>) -> Told {
     match c {
-        Converted::Page(written, boards) => Told {
+        Ok(page) => Told {
             refusal: 0,
             carried: 0,
-            boards,
-            written,
+            boards: page.boards,
+            written: page.bytes,
         },
-        Converted::Refused(f) => Told {
+        Err(f) => Told {
             refusal: lin_number(f),
             carried: lin_carried(f),
             boards: 0,

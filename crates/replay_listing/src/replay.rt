@@ -1,39 +1,34 @@
 // Cases replayed through the listing, and compared.
 use crate::cases::Case;
 use listing_text::listing::list;
+use planning::editions::LentBoxes;
 use recorded::bytes::Bytes;
 use recorded::cases::{Counting, Fault};
 use recorded::pages::holds;
-use tables::page::Written;
+use tables::refusal::Refusal;
 
 // Whether the answer is the expected one: the bytes of the output, or a refusal with its carried number.
-fn is_told(w: Written, c: Case) -> bool {
+fn is_told(w: Result<u64, Refusal>, c: Case) -> bool {
     match w {
-        Written::Bytes(n) => (c.refusal == 0) & (n == c.carried) & (c.output.len() as u64 == n),
-        Written::Refused(f) => {
-            (tables::refusal::number(f) == c.refusal) & (tables::refusal::carried(f) == c.carried)
-        }
+        Ok(n) => (c.refusal == 0) & (n == c.carried) & (c.output.len() as u64 == n),
+        Err(f) => (f.number() == c.refusal) & (f.carried() == c.carried),
     }
 }
 
 // Lends four cards and sixteen entries an edition and two slips, each with a tail too short for one more. No lent word is zero before.
-fn list_on(page: &mut [u8], old: &[u8], new: &[u8], limit: usize) -> Written {
+fn list_on(page: &mut [u8], old: &[u8], new: &[u8], limit: usize) -> Result<u64, Refusal> {
     let mut old_cards = [170u32; 319];
     let mut old_entries = [170u32; 67];
     let mut new_cards = [170u32; 319];
     let mut new_entries = [170u32; 67];
     let mut slips = [170u64; 14];
-    list(
-        old,
-        new,
-        limit,
-        &mut old_cards,
-        &mut old_entries,
-        &mut new_cards,
-        &mut new_entries,
-        &mut slips,
-        page,
-    )
+    let mut boxes = LentBoxes {
+        old_cards: &mut old_cards,
+        old_entries: &mut old_entries,
+        new_cards: &mut new_cards,
+        new_entries: &mut new_entries,
+    };
+    list(old, new, limit, &mut boxes, &mut slips, page)
 }
 
 // Whether the case gives the expected answer. The page has no zeros before, so that a byte which should have become 0 is seen.

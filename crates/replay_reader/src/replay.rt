@@ -1,22 +1,22 @@
 // Recorded cases replayed through read_pbn, and compared.
 use crate::cases::{Case, Told};
 use crate::codes::is_coded;
-use reader::edition::{Reading, read_pbn};
+use reader::edition::{ReadRefusal, read_pbn};
 use recorded::bytes::Bytes;
 use recorded::cases::{Counting, Fault, one_more};
 
 // A lent word is not zero before, so that one which should have become 0 is seen.
 const FULL: u32 = 2863311530;
 
-fn told_reading(r: Reading) -> Told {
+fn told_reading(r: Result<reader::edition::Counts, ReadRefusal>) -> Told {
     match r {
-        Reading::Taken(boards, entries) => Told {
+        Ok(n) => Told {
             refusal: 0,
             carried: 0,
-            boards,
-            entries,
+            boards: n.boards as u64,
+            entries: n.entries as u64,
         },
-        Reading::Refused(f) => Told {
+        Err(f) => Told {
             refusal: reader::edition::read_number(f),
             carried: reader::edition::read_carried(f),
             boards: 0,

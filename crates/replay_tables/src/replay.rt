@@ -4,43 +4,43 @@ use recorded::bytes::Bytes;
 use recorded::cases::{Counting, Fault, one_more};
 use recorded::pages::holds;
 use tables::dd::{
-    Decoded, TableRead, dd_table_from_pbn, dd_table_to_pbn, optimum_result_table_from_rows,
+    dd_table_from_pbn, dd_table_to_pbn, optimum_result_table_from_rows,
     optimum_result_table_header, optimum_result_table_rows,
 };
-use tables::page::Written;
+use tables::refusal::Refusal;
 
-fn refused(f: tables::refusal::Refusal, bytes: usize) -> Told {
+fn refused(f: Refusal, bytes: usize) -> Told {
     Told {
-        refusal: tables::refusal::number(f),
-        carried: tables::refusal::carried(f),
+        refusal: f.number(),
+        carried: f.carried(),
         bytes,
     }
 }
 
-fn told_written(w: Written) -> Told {
+fn told_written(w: Result<u64, Refusal>) -> Told {
     match w {
-        Written::Bytes(n) => Told {
+        Ok(n) => Told {
             refusal: 0,
             carried: 0,
             bytes: n as usize,
         },
-        Written::Refused(f) => refused(f, 0),
+        Err(f) => refused(f, 0),
     }
 }
 
-fn told_decoded(d: Decoded) -> Told {
-    match d {
-        Decoded::Table => Told {
+fn told_read(r: Result<[u8; 20], Refusal>) -> Told {
+    match r {
+        Ok(_) => Told {
             refusal: 0,
             carried: 0,
             bytes: 20,
         },
-        Decoded::Refused(f) => refused(f, 20),
+        Err(f) => refused(f, 20),
     }
 }
 
 // Whether a table is written as recorded. The page has no zeros before, so that a byte which should have become 0 is seen.
-fn is_written<F: Fn(&[u8; 20], &mut [u8]) -> Written>(case: Case, write: F) -> bool
+fn is_written<F: Fn(&[u8; 20], &mut [u8]) -> Result<u64, Refusal>>(case: Case, write: F) -> bool
     requires { F.IsAlwaysCallable write }
 {
     let Some(table) = case.input.first_chunk::<20>() else {
@@ -53,11 +53,15 @@ fn is_written<F: Fn(&[u8; 20], &mut [u8]) -> Written>(case: Case, write: F) -> b
 }
 
 // Whether a text is read as recorded.
-fn is_read<F: Fn(&[u8]) -> TableRead>(case: Case, read: F) -> bool
+fn is_read<F: Fn(&[u8]) -> Result<[u8; 20], Refusal>>(case: Case, read: F) -> bool
     requires { F.IsAlwaysCallable read }
 {
     let r = read(case.input);
-    (told_decoded(r.answer) == case.told) & (r.table.as_slice() == case.output)
+    let table = match r {
+        Ok(cells) => cells,
+        Err(_) => [0; 20],
+    };
+    (told_read(r) == case.told) & (table.as_slice() == case.output)
 }
 
 fn is_same(case: Case) -> bool {

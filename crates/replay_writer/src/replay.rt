@@ -4,19 +4,19 @@ use reader::edition::read_pbn;
 use recorded::bytes::Bytes;
 use recorded::cases::{Counting, Fault, one_more};
 use recorded::pages::holds;
-use writer::write::{Writing, write_carried, write_number, write_pbn};
+use writer::write::{WriteRefusal, write_carried, write_number, write_pbn};
 
 // A lent word is not zero before, so that one which should have become 0 is seen.
 const FULL: u32 = 2863311530;
 
-fn told_writing(w: Writing) -> Told {
+fn told_writing(w: Result<u64, WriteRefusal>) -> Told {
     match w {
-        Writing::Written(written) => Told {
+        Ok(written) => Told {
             refusal: 0,
             carried: 0,
             written,
         },
-        Writing::Refused(f) => Told {
+        Err(f) => Told {
             refusal: write_number(f),
             carried: write_carried(f),
             written: 0,

@@ -3,18 +3,18 @@ use Prim.Native.Nat.{ℕ, zero, suc, ◌+◌, ◌≤◌, ◌<◌}
 use mathlib.Core.Path.{◌≡◌, refl}
 use mathlib.Core.Bool.{Bool, true, false, ◌&&◌}
 use mathlib.Core.List.{List, [], ◌∷◌, map}
-use mathlib.Core.Option.{none}
 use native.Mathlib.Omega.{arith}
 use lib.Dec.{leb, ltb, eqb}
 use lib.ListN.{length, length-map}
 use borrow.Author.Tests.{eqb-true, eqb-false, eq-eqb, le-ltb, ltb-true, leb-true, lt-leb}
 use Rattle.tables.specs.Text.{is_white, trim_end, trimmed, is_inside, single, starts, characters}
 use Rattle.tables.specs.Letters.{every}
-use Rattle.tables.specs.Tables.{holds, digit_byte, digit_of, digits_text, first_bad, digits_reading, table_of_digits}
+use Rattle.tables.specs.Tables.{digit_byte, digit_of, digits_text, first_bad, digits_reading, table_of_digits}
 use Rattle.tables.proofs.Laws.{by_cases, both}
 use Rattle.tables.proofs.TextLaws.{above_white}
+use Rattle.std.specs.Prelude.{None, Ok}
 
--- A finite check: a test that holds for every number below n.
+-- A finite check: a test that Ok for every number below n.
 abbrev pub below : (ℕ → Bool) → ℕ → Bool
 below p zero = true
 below p (suc n) = p n && below p n
@@ -80,7 +80,7 @@ digits_characters : (ts : List ℕ) → characters (digits_text ts) ≡ digits_t
 digits_characters [] = refl
 digits_characters (t ∷ ts) = rw (digit_single t ts, digits_starts ts)
 
-digits_good : (ts : List ℕ) (i : ℕ) → every (λ t. leb t 13) ts ≡ true → first_bad (digits_text ts) i ≡ none
+digits_good : (ts : List ℕ) (i : ℕ) → every (λ t. leb t 13) ts ≡ true → first_bad (digits_text ts) i ≡ None
 digits_good [] i e = refl
 digits_good (t ∷ ts) i e =
     let h = small_cells t ts e in
@@ -99,7 +99,7 @@ pub DigitsLength : (cells : List ℕ) → length (digits_text cells) ≡ length 
 DigitsLength cells = length-map cells digit_byte
 
 -- For every table of cells 0 to 13: the digits that are written for it are read as the same table.
-pub DigitsBack : (cells : List ℕ) → length cells ≡ 20 → every (λ t. leb t 13) cells ≡ true → table_of_digits (digits_text cells) ≡ holds cells
+pub DigitsBack : (cells : List ℕ) → length cells ≡ 20 → every (λ t. leb t 13) cells ≡ true → table_of_digits (digits_text cells) ≡ Ok cells
 unfolding table_of_digits digits_reading
 DigitsBack cells l e =
     rw (digits_trimmed cells, digits_characters cells, DigitsLength cells, eq-eqb (length cells) 20 l, digits_good cells 0 e, digits_values cells e)

@@ -8,11 +8,11 @@ use native.Mathlib.Nat.{pow-succ'}
 use lib.Dec.{ltb, eqb}
 use lib.ListN.{length, drop, get_or}
 use borrow.Author.Tests.{ltb-true, ltb-false, le-ltb, ne_eqb}
-use Rattle.tables.specs.declared.numbers.Number.TheVariants.{Value, Bad}
+use Rattle.std.specs.Prelude.{Some, None}
 use Rattle.tables.specs.Numbers.{digits_from, some_digits, number_of, signed_of, raised, lowered, digits, decimal}
 use Rattle.tables.proofs.Laws.{by_cases}
 
-pub digits_none : (limit : ℕ) (s : List ℕ) → length s ≡ 0 → Bad ≡ some_digits limit s
+pub digits_none : (limit : ℕ) (s : List ℕ) → length s ≡ 0 → None ≡ some_digits limit s
 digits_none limit [] e = refl
 digits_none limit (b ∷ bs) e = absurd (omega arith)
 
@@ -78,6 +78,6 @@ number_digits limit s t =
     rw (t.is, e)
 
 -- A number that was written in decimal is read back, whatever the limit that it keeps.
-pub DecimalBack : (limit n : ℕ) → n < 4294967296 → n ≤ limit → number_of limit (decimal n) ≡ Value n
+pub DecimalBack : (limit n : ℕ) → n < 4294967296 → n ≤ limit → number_of limit (decimal n) ≡ Some n
 unfolding decimal
 DecimalBack limit n h l = number_digits limit (decimal n) (decimal_starts n) ∙ digits_read limit 9 n [] (omega arith) l

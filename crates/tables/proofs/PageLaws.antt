@@ -10,7 +10,8 @@ use lib.Dec.{ltb, leb}
 use lib.ListN.{length, drop, take, set, replicate, length-append, length-replicate, length-set, length-drop, drop_of_length-le}
 use lib.Seq.{sets, sets-eq, length-sets, drop-cons, take-append_seam, get_or-set_same, drop-set-lt, take-suc-set, take_all}
 use borrow.Author.Tests.{leb-true, lt-ltb, le-ltb}
-use Rattle.tables.specs.declared.page.Written.{Written}
+use Rattle.tables.specs.declared.refusal.Refusal.{Refusal}
+use Rattle.std.specs.Prelude.{Result}
 use Rattle.tables.specs.Numbers.{digits, decimal}
 use Rattle.tables.specs.Page.{Wrote, right, answer_of, page_of}
 use Rattle.tables.specs.PageSteps.{Put, PageEnded, Digits, cleared}
@@ -144,7 +145,7 @@ page_then bs page =
     (λ e. rw e)
 
 -- a text put at 0 and finished is a page written
-pub finished : {bs page page₁ : List ℕ} {n : ℕ} {page' : List ℕ} {r : Written} → Put page 0 bs page₁ n → PageEnded n page₁ page' r → Wrote bs page page' r
+pub finished : {bs page page₁ : List ℕ} {n : ℕ} {page' : List ℕ} {r : Result ℕ Refusal} → Put page 0 bs page₁ n → PageEnded n page₁ page' r → Wrote bs page page' r
 unfolding answer_of
 finished {bs} {page} {page₁} {n} {page'} {r} p f =
     let el : length page₁ ≡ length page = rw (p.after, length-sets) in

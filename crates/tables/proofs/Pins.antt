@@ -4,45 +4,44 @@ use mathlib.Core.Path.{◌≡◌, refl}
 use mathlib.Core.Bool.{true, false}
 use mathlib.Core.List.{[], ◌∷◌, ◌++◌, map}
 use lib.ListN.{replicate}
-use Rattle.tables.specs.declared.dd.Row.TheVariants.{Blank, Cell, Fault}
+use Rattle.std.specs.Prelude.{Some, None, Ok, Err}
 use Rattle.tables.specs.declared.refusal.Refusal.TheVariants.{Digit, Fields, Declarer, Denomination, Over}
-use Rattle.tables.specs.declared.numbers.Number.TheVariants.{Value, Bad}
 use Rattle.tables.specs.Text.{ascii, is_white, is_inside, trimmed, fields, lines, characters, first_character}
 use Rattle.tables.specs.Numbers.{number_of, signed_of, digits, decimal}
 use Rattle.tables.specs.Letters.{built_in, capital, seat_of, suit_of, honour_of, rank_of, strain_of}
 use Rattle.tables.specs.Page.{right}
-use Rattle.tables.specs.Tables.{holds, refuses, digit_byte, digit_of, digits_reading, table_of_digits, header_text, row_order, cell_of, column_text, row_text, rows_text, fields_row, row_of, gathered, table_of_rows}
+use Rattle.tables.specs.Tables.{gives, digit_byte, digit_of, digits_reading, table_of_digits, header_text, row_order, cell_of, column_text, row_text, rows_text, fields_row, row_of, gathered, table_of_rows}
 
 -- ---- rows
 
 -- A plus sign is taken.
-pub result_plus : row_of built_in 4 (ascii "W C +9") ≡ Cell 19 9
+pub result_plus : row_of built_in 4 (ascii "W C +9") ≡ gives 19 9
 unfolding built_in is_white capital seat_of suit_of row_order cell_of fields_row row_of
 result_plus = refl
 
 -- A blank row; rows of two and of four fields; no seat; no strain.
-pub blank_row : row_of built_in 4 (ascii " \t\r") ≡ Blank
+pub blank_row : row_of built_in 4 (ascii " \t\r") ≡ Ok None
 unfolding is_white row_of
 blank_row = refl
 
-pub row_two : row_of built_in 4 (ascii "N NT") ≡ Fault (Fields 4)
+pub row_two : row_of built_in 4 (ascii "N NT") ≡ Err (Fields 4)
 unfolding is_white row_of
 row_two = refl
 
-pub row_four : row_of built_in 4 (ascii "N NT 7 ;") ≡ Fault (Fields 4)
+pub row_four : row_of built_in 4 (ascii "N NT 7 ;") ≡ Err (Fields 4)
 unfolding is_white row_of
 row_four = refl
 
-pub row_no_seat : row_of built_in 4 (ascii "X NT 7") ≡ Fault (Declarer 4)
+pub row_no_seat : row_of built_in 4 (ascii "X NT 7") ≡ Err (Declarer 4)
 unfolding built_in is_white capital seat_of suit_of row_order cell_of fields_row row_of
 row_no_seat = refl
 
-pub row_no_strain : row_of built_in 4 (ascii "N NTX 7") ≡ Fault (Denomination 4)
+pub row_no_strain : row_of built_in 4 (ascii "N NTX 7") ≡ Err (Denomination 4)
 unfolding built_in is_white capital seat_of suit_of row_order cell_of fields_row row_of
 row_no_strain = refl
 
 -- The first row that is refused is the answer, with its number; blank rows count.
-pub first_fault : table_of_rows built_in (ascii "N NT 7\n\nN NT 14\nN X 7\n") ≡ refuses (Over 2)
+pub first_fault : table_of_rows built_in (ascii "N NT 7\n\nN NT 14\nN X 7\n") ≡ Err (Over 2)
 unfolding built_in is_white capital seat_of suit_of row_order cell_of fields_row row_of gathered table_of_rows
 first_fault = refl
 
@@ -80,12 +79,12 @@ header_two = refl
 -- ---- digits
 
 -- The character 14 is the first bad one.
-pub digit_e : table_of_digits (ascii "0123456789abcde0123x") ≡ refuses (Digit 14)
+pub digit_e : table_of_digits (ascii "0123456789abcde0123x") ≡ Err (Digit 14)
 unfolding is_white is_inside trimmed digit_of digits_reading table_of_digits
 digit_e = refl
 
 -- Capitals count, and so do texts with white space around the digits.
-pub digits_capital : table_of_digits (ascii " 0123456789ABCDdcba98\n") ≡ holds (0 ∷ 1 ∷ 2 ∷ 3 ∷ 4 ∷ 5 ∷ 6 ∷ 7 ∷ 8 ∷ 9 ∷ 10 ∷ 11 ∷ 12 ∷ 13 ∷ 13 ∷ 12 ∷ 11 ∷ 10 ∷ 9 ∷ 8 ∷ [])
+pub digits_capital : table_of_digits (ascii " 0123456789ABCDdcba98\n") ≡ Ok (0 ∷ 1 ∷ 2 ∷ 3 ∷ 4 ∷ 5 ∷ 6 ∷ 7 ∷ 8 ∷ 9 ∷ 10 ∷ 11 ∷ 12 ∷ 13 ∷ 13 ∷ 12 ∷ 11 ∷ 10 ∷ 9 ∷ 8 ∷ [])
 unfolding is_white is_inside trimmed digit_of digits_reading table_of_digits
 digits_capital = refl
 
@@ -137,14 +136,14 @@ first_characters = refl
 
 -- ---- numbers
 
-pub numbers_good : map (number_of 255) (ascii "255" ∷ ascii "+0" ∷ ascii "007" ∷ []) ≡ Value 255 ∷ Value 0 ∷ Value 7 ∷ []
+pub numbers_good : map (number_of 255) (ascii "255" ∷ ascii "+0" ∷ ascii "007" ∷ []) ≡ Some 255 ∷ Some 0 ∷ Some 7 ∷ []
 numbers_good = refl
 
-pub numbers_bad : map (number_of 255) (ascii "256" ∷ ascii "+" ∷ [] ∷ ascii "-0" ∷ ascii "++1" ∷ ascii "1x" ∷ []) ≡ replicate 6 Bad
+pub numbers_bad : map (number_of 255) (ascii "256" ∷ ascii "+" ∷ [] ∷ ascii "-0" ∷ ascii "++1" ∷ ascii "1x" ∷ []) ≡ replicate 6 None
 numbers_bad = refl
 
 -- Signed numbers are given with 128 added.
-pub signed_numbers : map (signed_of 128) (ascii "-128" ∷ ascii "-129" ∷ ascii "127" ∷ ascii "128" ∷ ascii "-0" ∷ []) ≡ Value 0 ∷ Bad ∷ Value 255 ∷ Bad ∷ Value 128 ∷ []
+pub signed_numbers : map (signed_of 128) (ascii "-128" ∷ ascii "-129" ∷ ascii "127" ∷ ascii "128" ∷ ascii "-0" ∷ []) ≡ Some 0 ∷ None ∷ Some 255 ∷ None ∷ Some 128 ∷ []
 signed_numbers = refl
 
 pub decimals : map decimal (0 ∷ 10 ∷ 4294967295 ∷ []) ≡ ascii "0" ∷ ascii "10" ∷ ascii "4294967295" ∷ []

@@ -5,7 +5,8 @@ use mathlib.Core.List.{List, [], ◌++◌}
 use native.Mathlib.Omega.{arith}
 use lib.ListN.{length, length-append}
 use Rattle.tables.specs.declared.page.Page.{Page}
-use Rattle.tables.specs.declared.page.Written.{Written}
+use Rattle.tables.specs.declared.refusal.Refusal.{Refusal}
+use Rattle.std.specs.Prelude.{Result}
 use Rattle.tables.specs.Page.{Wrote}
 use Rattle.tables.specs.PageSteps.{PageEnded}
 use Rattle.tables.specs.Puts.{Puts}
@@ -64,5 +65,5 @@ pub puts_all : {p₀ : Page} {bs : List ℕ} {p : Page} → PutsLeft p₀ bs p [
 puts_all t = record { put = λ h. put_all_lem (t.left h); kept = t.kept; same = t.same }
 
 -- A page on which bs was put from its start, and which was ended, is written.
-pub ended : {page : List ℕ} {p : Page} {bs : List ℕ} {q : Page} {page₁ page' : List ℕ} {r : Written} → PageEnded q.at page₁ page' r → Puts p bs q → p.at ≡ 0 → p.bytes.now ≡ page → q.bytes.now ≡ page₁ → length bs ≤ 549755813888 → Wrote bs page page' r
+pub ended : {page : List ℕ} {p : Page} {bs : List ℕ} {q : Page} {page₁ page' : List ℕ} {r : Result ℕ Refusal} → PageEnded q.at page₁ page' r → Puts p bs q → p.at ≡ 0 → p.bytes.now ≡ page → q.bytes.now ≡ page₁ → length bs ≤ 549755813888 → Wrote bs page page' r
 ended {page} {p} {bs} {q} e a z b f h = finished (rw (← b, ← f) (rw z at (a.put (omega (arith, z))))) e

@@ -1,6 +1,6 @@
 -- Laws of written rows, and of rows gathered into a table.
 use Prim.Native.Nat.{ℕ, zero, suc, ◌+◌, ◌-◌, ◌/◌, ◌%◌, ◌≤◌, ◌<◌}
-use mathlib.Core.Path.{◌≡◌, refl, ◌∙◌}
+use mathlib.Core.Path.{◌≡◌, refl, ap, ◌∙◌}
 use mathlib.Core.Bool.{Bool, true, false}
 use mathlib.Core.List.{List, [], ◌∷◌, ◌++◌, append_assoc}
 use native.Mathlib.Omega.{arith}
@@ -8,18 +8,15 @@ use lib.Dec.{leb, ltb, eqb}
 use lib.ListN.{length, get_or, replicate, length-set}
 use lib.Seq.{get_or-set_other}
 use borrow.Author.Tests.{eqb-true, eqb-false, eq-eqb, ne_eqb, ltb-true, not-true}
-use Rattle.tables.specs.declared.dd.Row.{Row}
-use Rattle.tables.specs.declared.dd.Row.TheVariants.{Blank, Cell, Fault}
+use Rattle.std.specs.Prelude.{Option, Some, None, Ok, Err}
 use Rattle.tables.specs.declared.refusal.Refusal.{Refusal}
 use Rattle.tables.specs.declared.refusal.Refusal.TheVariants.{Declarer, Denomination, Over}
 use Rattle.tables.specs.declared.letters.Conventions.{Conventions}
-use Rattle.tables.specs.declared.numbers.Number.{Number}
-use Rattle.tables.specs.declared.numbers.Number.TheVariants.{Value, Bad}
 use Rattle.tables.specs.Text.{is_white, is_word, fields, lines, differs, first_character}
 use Rattle.tables.specs.Numbers.{number_of, digits, decimal}
 use Rattle.tables.specs.Letters.{Accepted, every, is_plain, seat_of, strain_of, strain_token, seat_letter, suit_letter}
 use Rattle.tables.specs.Page.{right}
-use Rattle.tables.specs.Tables.{TableReading, holds, row_order, cell_of, column_text, row_text, result_row, fields_row, row_with, row_of, stored_row, missing, gathered, unless}
+use Rattle.tables.specs.Tables.{TableReading, Row, gives, row_order, cell_of, column_text, row_text, result_row, fields_row, row_with, row_of, stored_row, missing, gathered, unless}
 use Rattle.tables.proofs.Laws.{by_cases, both, clash, neither}
 use Rattle.tables.proofs.TextLaws.{above_white}
 use Rattle.tables.proofs.LetterLaws.{letter_plain}
@@ -170,7 +167,7 @@ module _ (c : Conventions) (ok : Accepted c) where
       (λ t. rw t)
       (λ t. rw (t, letter_line (7 - (4 - k)) (omega (arith, eqb-false k 0 t))))
 
-  -- A written row holds no LF.
+  -- A written row Ok no LF.
   pub row_line : (w k t : ℕ) → k < 20 → every (differs 10) (row_text c w k t) ≡ true
   row_line w k t h =
       let s = order_seat (k / 5) (omega arith) in
@@ -180,29 +177,36 @@ module _ (c : Conventions) (ok : Accepted c) where
 -- ---- rows that are gathered
 
 -- A row that is not refused lets the others be read.
-pub unless_passes : (r : Row) (x : TableReading) → ((f : Refusal) → r ≡ Fault f → ⊥) → unless r x ≡ x
-unless_passes Blank x h = refl
-unless_passes (Cell k v) x h = refl
-unless_passes (Fault f) x h = absurd (h f refl)
+pub unless_passes : (r : Row) (x : TableReading) → ((f : Refusal) → r ≡ Err f → ⊥) → unless r x ≡ x
+unless_passes (Ok y) x h = refl
+unless_passes (Err f) x h = absurd (h f refl)
 
 -- Where a table is read, the rows behind the first gave it.
-pub unless_holds : (r : Row) (x : TableReading) {ts : List ℕ} → unless r x ≡ holds ts → x ≡ holds ts
-unless_holds Blank x e = e
-unless_holds (Cell k v) x e = e
-unless_holds (Fault f) x e = cc
+pub unless_holds : (r : Row) (x : TableReading) {ts : List ℕ} → unless r x ≡ Ok ts → x ≡ Ok ts
+unless_holds (Ok y) x e = e
+unless_holds (Err f) x e = cc
 
 pub stored_length : (cells : List ℕ) (r : Row) → length (stored_row cells r) ≡ length cells
-stored_length cells Blank = refl
-stored_length cells (Cell k v) = length-set cells k v
-stored_length cells (Fault f) = refl
+stored_length cells (Ok None) = refl
+stored_length cells (Ok (Some y)) = length-set cells y.place y.tricks
+stored_length cells (Err f) = refl
+
+-- The place of the cell that a row gives.
+abbrev place_of : Row → ℕ
+place_of (Ok None) = 0
+place_of (Ok (Some y)) = y.place
+place_of (Err f) = 0
+
+pub same_place : {j u k v : ℕ} → gives j u ≡ gives k v → j ≡ k
+same_place e = ap place_of e
 
 -- A row that does not name the cell k leaves it as it is.
-pub stored_other : (cells : List ℕ) (r : Row) (k : ℕ) → ((v : ℕ) → r ≡ Cell k v → ⊥) → get_or (stored_row cells r) k 0 ≡ get_or cells k 0
-stored_other cells Blank k f = refl
-stored_other cells (Cell j v) k f = get_or-set_other cells j k v 0 (λ e. f v (rw e))
-stored_other cells (Fault g) k f = refl
+pub stored_other : (cells : List ℕ) (r : Row) (k : ℕ) → ((v : ℕ) → r ≡ gives k v → ⊥) → get_or (stored_row cells r) k 0 ≡ get_or cells k 0
+stored_other cells (Ok None) k f = refl
+stored_other cells (Ok (Some y)) k f = get_or-set_other cells y.place k y.tricks 0 (λ e. f y.tricks (rw e))
+stored_other cells (Err g) k f = refl
 
-pub gathered_holds : (cells : List ℕ) {ts : List ℕ} → gathered cells ≡ holds ts → cells ≡ ts
+pub gathered_holds : (cells : List ℕ) {ts : List ℕ} → gathered cells ≡ Ok ts → cells ≡ ts
 unfolding gathered
 gathered_holds cells e = by_cases (eqb (missing cells) 0) (λ t. let h = rw t at e in cc) (λ t. let h = rw t at e in cc)
 
@@ -218,26 +222,26 @@ cell_small (t ∷ ts) zero e = (small_cells t ts e).0
 cell_small (t ∷ ts) (suc k) e = cell_small ts k (small_cells t ts e).1
 
 -- A full table of cells 0 to 13 is the answer.
-pub gathered_full : (cells : List ℕ) → every (λ t. leb t 13) cells ≡ true → gathered cells ≡ holds cells
+pub gathered_full : (cells : List ℕ) → every (λ t. leb t 13) cells ≡ true → gathered cells ≡ Ok cells
 unfolding gathered
 gathered_full cells e = rw (none_missing cells e)
 
 -- ---- a row's number
 
-result_number : (n m cell : ℕ) (x : Number) {k v : ℕ} → result_row n cell x ≡ Cell k v → result_row m cell x ≡ Cell k v
-result_number n m cell Bad e = cc
-result_number n m cell (Value u) {k} {v} e = by_cases (ltb 13 u) (λ t. let h : Fault (Over n) ≡ Cell k v = rw t at e in cc) (λ t. let h : Cell cell u ≡ Cell k v = rw t at e in rw t h)
+result_number : (n m cell : ℕ) (x : Option ℕ) {k v : ℕ} → result_row n cell x ≡ gives k v → result_row m cell x ≡ gives k v
+result_number n m cell None e = cc
+result_number n m cell (Some u) {k} {v} e = by_cases (ltb 13 u) (λ t. let h : Err (Over n) ≡ gives k v = rw t at e in cc) (λ t. let h : gives cell u ≡ gives k v = rw t at e in rw t h)
 
-fields_number : (c : Conventions) (n m : ℕ) (d s t : List ℕ) {k v : ℕ} → fields_row c n d s t ≡ Cell k v → fields_row c m d s t ≡ Cell k v
+fields_number : (c : Conventions) (n m : ℕ) (d s t : List ℕ) {k v : ℕ} → fields_row c n d s t ≡ gives k v → fields_row c m d s t ≡ gives k v
 unfolding fields_row
 fields_number c n m d s t {k} {v} e =
     by_cases (ltb 3 (seat_of c (first_character d)))
-    (λ a. let h : Fault (Declarer n) ≡ Cell k v = rw a at e in cc)
+    (λ a. let h : Err (Declarer n) ≡ gives k v = rw a at e in cc)
     (λ a. by_cases (ltb 4 (strain_of c s))
-    (λ b. let h : Fault (Denomination n) ≡ Cell k v = rw (a, b) at e in cc)
+    (λ b. let h : Err (Denomination n) ≡ gives k v = rw (a, b) at e in cc)
     (λ b. rw (a, b) (result_number n m (cell_of (seat_of c (first_character d)) (strain_of c s)) (number_of 255 t) (rw (a, b) at e))))
 
-with_number : (c : Conventions) (n m : ℕ) (fs : List (List ℕ)) {k v : ℕ} → row_with c n fs ≡ Cell k v → row_with c m fs ≡ Cell k v
+with_number : (c : Conventions) (n m : ℕ) (fs : List (List ℕ)) {k v : ℕ} → row_with c n fs ≡ gives k v → row_with c m fs ≡ gives k v
 with_number c n m [] e = cc
 with_number c n m (d ∷ []) e = cc
 with_number c n m (d ∷ s ∷ []) e = cc
@@ -245,6 +249,6 @@ with_number c n m (d ∷ s ∷ t ∷ []) e = fields_number c n m d s t e
 with_number c n m (d ∷ s ∷ t ∷ u ∷ us) e = cc
 
 -- The number of a row does not matter to one that gives a cell: it stands in refusals alone.
-pub RowNumber : (c : Conventions) (n m : ℕ) (row : List ℕ) {k v : ℕ} → row_of c n row ≡ Cell k v → row_of c m row ≡ Cell k v
+pub RowNumber : (c : Conventions) (n m : ℕ) (row : List ℕ) {k v : ℕ} → row_of c n row ≡ gives k v → row_of c m row ≡ gives k v
 unfolding row_of
 RowNumber c n m row e = with_number c n m (fields row) e

@@ -11,16 +11,16 @@ use lib.Dec.{leb, ltb, eqb}
 use lib.ListN.{length, get_or, set, replicate, length-set}
 use lib.Seq.{ext_get_or, get_or-set_same, get_or-set_other, append_snoc}
 use borrow.Author.Tests.{eqb-true, eqb-false, lt-ltb, le-ltb, ltb-true}
-use Rattle.tables.specs.declared.dd.Row.TheVariants.{Cell, Fault}
+use Rattle.std.specs.Prelude.{Ok, Err}
 use Rattle.tables.specs.declared.refusal.Refusal.{Refusal}
 use Rattle.tables.specs.declared.letters.Conventions.{Conventions}
 use Rattle.tables.specs.Text.{lines, differs}
 use Rattle.tables.specs.Letters.{Accepted, every}
-use Rattle.tables.specs.Tables.{holds, refuses, width_of, row_order, row_text, rows_from, rows_text, fields_row, row_of, stored_row, gather, table_of_rows}
+use Rattle.tables.specs.Tables.{gives, width_of, row_order, row_text, rows_from, rows_text, fields_row, row_of, stored_row, gather, table_of_rows}
 use Rattle.tables.proofs.Laws.{by_cases}
 use Rattle.tables.proofs.LetterLaws.{seat_back, strain_back}
 use Rattle.tables.proofs.NumberLaws.{DecimalBack}
-use Rattle.tables.proofs.RowLaws.{order_seat, cell_back, row_fields, row_line, line_then, unless_passes, unless_holds, stored_length, stored_other, gathered_holds, gathered_full, cell_small, RowNumber}
+use Rattle.tables.proofs.RowLaws.{same_place, order_seat, cell_back, row_fields, row_line, line_then, unless_passes, unless_holds, stored_length, stored_other, gathered_holds, gathered_full, cell_small, RowNumber}
 
 -- ---- the width of the result column
 
@@ -62,7 +62,7 @@ WidthTwoBack (t ∷ ts) (suc k) h = by_cases (ltb 9 t) (λ b. rw b) (λ b. rw b 
 
 -- For every accepted set of letters: the row that is written for a cell, whatever its width and its number, is read as that
 -- cell with its tricks.
-pub RowBack : (c : Conventions) → Accepted c → (w k t n : ℕ) → k < 20 → t ≤ 13 → row_of c n (row_text c w k t) ≡ Cell k t
+pub RowBack : (c : Conventions) → Accepted c → (w k t n : ℕ) → k < 20 → t ≤ 13 → row_of c n (row_text c w k t) ≡ gives k t
 unfolding row_of fields_row
 RowBack c ok w k t n h l =
     let s = order_seat (k / 5) (omega arith) in
@@ -83,18 +83,18 @@ RowBack c ok w k t n h l =
 pub record GivesCell (c : Conventions) (cells row : List ℕ) : Type 0 where
   pub cell : ℕ
   pub inside : cell < 20
-  pub reads : (n : ℕ) → row_of c n row ≡ Cell cell (get_or cells cell 0)
+  pub reads : (n : ℕ) → row_of c n row ≡ gives cell (get_or cells cell 0)
 
 -- One of the rows names the cell k.
 pub record Named (c : Conventions) (rows : List (List ℕ)) (k : ℕ) : Type 0 where
   pub row : List ℕ
   pub stands : Memᴰ row rows
   pub value : ℕ
-  pub reads : (n : ℕ) → row_of c n row ≡ Cell k value
+  pub reads : (n : ℕ) → row_of c n row ≡ gives k value
 
 -- A cell named by a row or by one of the others.
 named_cases : {P : Type 0} (c : Conventions) (row : List ℕ) (rows : List (List ℕ)) (k : ℕ) → Named c (row ∷ rows) k
-    → ((v : ℕ) → row_of c 0 row ≡ Cell k v → P) → (Named c rows k → P) → P
+    → ((v : ℕ) → row_of c 0 row ≡ gives k v → P) → (Named c rows k → P) → P
 named_cases {P} c row rows k a f g = pick (Memᴰ.cases_cons a.stands)
   where
     pick : (a.row ≡ row) ⊎ Memᴰ a.row rows → P
@@ -106,7 +106,7 @@ module _ (c : Conventions) (cells : List ℕ) where
   abbrev Covered : List (List ℕ) → List ℕ → Type 0
   Covered rows now = (k : ℕ) → k < 20 → (get_or now k 0 ≡ get_or cells k 0) ⊎ Named c rows k
 
-  covered_turn : (row : List ℕ) (rows : List (List ℕ)) (now : List ℕ) (j : ℕ) → j < length now → row_of c 0 row ≡ Cell j (get_or cells j 0)
+  covered_turn : (row : List ℕ) (rows : List (List ℕ)) (now : List ℕ) (j : ℕ) → j < length now → row_of c 0 row ≡ gives j (get_or cells j 0)
       → Covered (row ∷ rows) now → Covered rows (set now j (get_or cells j 0))
   covered_turn row rows now j hj e cov k h =
       by_cases (eqb k j)
@@ -115,7 +115,7 @@ module _ (c : Conventions) (cells : List ℕ) where
     where
       pick : (k ≡ j → ⊥) → (get_or now k 0 ≡ get_or cells k 0) ⊎ Named c (row ∷ rows) k → (get_or (set now j (get_or cells j 0)) k 0 ≡ get_or cells k 0) ⊎ Named c rows k
       pick d (inl same) = inl (get_or-set_other now j k (get_or cells j 0) 0 d ∙ same)
-      pick d (inr a) = named_cases c row rows k a (λ v q. absurd (d (cc))) (λ b. inr b)
+      pick d (inr a) = named_cases c row rows k a (λ v q. absurd (d (same_place (sym q ∙ e)))) (λ b. inr b)
 
   covered_end : (now : List ℕ) → length now ≡ 20 → length cells ≡ 20 → Covered [] now → now ≡ cells
   covered_end now ln lc cov = ext_get_or 0 now cells (ln ∙ sym lc) (λ i h. pick i (cov i (omega arith)))
@@ -125,7 +125,7 @@ module _ (c : Conventions) (cells : List ℕ) where
       pick i (inr a) = absurd (Memᴰ.not-nil a.stands)
 
   gather_any : length cells ≡ 20 → every (λ t. leb t 13) cells ≡ true → (rows : List (List ℕ)) (n : ℕ) (now : List ℕ) → length now ≡ 20
-      → ((row : List ℕ) → Memᴰ row rows → GivesCell c cells row) → Covered rows now → gather c rows n now ≡ holds cells
+      → ((row : List ℕ) → Memᴰ row rows → GivesCell c cells row) → Covered rows now → gather c rows n now ≡ Ok cells
   gather_any lc small [] n now ln gives cov = rw (covered_end now ln lc cov) (gathered_full cells small)
   gather_any lc small (row ∷ rows) n now ln gives cov =
       let g = gives row (Memᴰ.head refl) in
@@ -138,7 +138,7 @@ module _ (c : Conventions) (cells : List ℕ) where
 -- often each of them stands there.
 pub AnyOrder : (c : Conventions) (cells : List ℕ) → length cells ≡ 20 → every (λ t. leb t 13) cells ≡ true → (rows : List (List ℕ))
     → ((row : List ℕ) → Memᴰ row rows → GivesCell c cells row) → ((k : ℕ) → k < 20 → Named c rows k)
-    → (n : ℕ) → gather c rows n (replicate 20 255) ≡ holds cells
+    → (n : ℕ) → gather c rows n (replicate 20 255) ≡ Ok cells
 AnyOrder c cells lc small rows gives names n = gather_any c cells lc small rows n (replicate 20 255) refl gives (λ k h. inr (names k h))
 
 -- The row is one of those that are written for the table.
@@ -159,14 +159,14 @@ joined_lines (row ∷ rows) f =
     ap lines (append_snoc row 10 (joined rows)) ∙ e ∙ ap (λ (l : List (List ℕ)). row ∷ l) (joined_lines rows (λ r m. f r (Memᴰ.tail m)))
 
 module _ (c : Conventions) (ok : Accepted c) (cells : List ℕ) (lc : length cells ≡ 20) (small : every (λ t. leb t 13) cells ≡ true) where
-  own_row : (k : ℕ) → k < 20 → (n : ℕ) → row_of c n (row_text c (width_of cells) k (get_or cells k 0)) ≡ Cell k (get_or cells k 0)
+  own_row : (k : ℕ) → k < 20 → (n : ℕ) → row_of c n (row_text c (width_of cells) k (get_or cells k 0)) ≡ gives k (get_or cells k 0)
   own_row k h n = RowBack c ok (width_of cells) k (get_or cells k 0) n h (cell_small cells k small)
 
   -- For every accepted set of letters and every table of cells 0 to 13: rows that are all written for the table, each of the
   -- twenty among them, are read as the table.
   pub RowsAnyOrder : (rows : List (List ℕ)) → ((row : List ℕ) → Memᴰ row rows → WrittenRow c cells row)
       → ((k : ℕ) → k < 20 → Memᴰ (row_text c (width_of cells) k (get_or cells k 0)) rows)
-      → (n : ℕ) → gather c rows n (replicate 20 255) ≡ holds cells
+      → (n : ℕ) → gather c rows n (replicate 20 255) ≡ Ok cells
   RowsAnyOrder rows written all n =
       AnyOrder c cells lc small rows
       (λ row m. let g = written row m in record { cell = g.cell; inside = g.inside; reads = λ i. ap (λ (r : List ℕ). row_of c i r) g.is ∙ own_row g.cell g.inside i })
@@ -176,7 +176,7 @@ module _ (c : Conventions) (ok : Accepted c) (cells : List ℕ) (lc : length cel
   -- The same of the text that the rows make.
   pub TextAnyOrder : (rows : List (List ℕ)) → ((row : List ℕ) → Memᴰ row rows → WrittenRow c cells row)
       → ((k : ℕ) → k < 20 → Memᴰ (row_text c (width_of cells) k (get_or cells k 0)) rows)
-      → table_of_rows c (joined rows) ≡ holds cells
+      → table_of_rows c (joined rows) ≡ Ok cells
   unfolding table_of_rows
   TextAnyOrder rows written all =
       rw (joined_lines rows (λ row m. let g = written row m in rw g.is (row_line c ok (width_of cells) g.cell (get_or cells g.cell 0) g.inside)))
@@ -224,7 +224,7 @@ list_only c w i (t ∷ ts) row m = pick (λ n. list_only c w (i + 1) ts row n) (
 -- For every accepted set of letters and every table of cells 0 to 13: the rows that are written for it are read as the same
 -- table.
 pub RowsBack : (c : Conventions) → Accepted c → (cells : List ℕ) → length cells ≡ 20 → every (λ t. leb t 13) cells ≡ true
-    → table_of_rows c (rows_text c cells) ≡ holds cells
+    → table_of_rows c (rows_text c cells) ≡ Ok cells
 unfolding rows_text
 RowsBack c ok cells lc small =
     rw (rows_joined c (width_of cells) 0 cells)
@@ -238,8 +238,8 @@ RowsBack c ok cells lc small =
 -- ---- the last row for a cell
 
 -- Rows that do not name the cell k leave it as it was.
-others_keep : (c : Conventions) (rows : List (List ℕ)) (n : ℕ) (now ts : List ℕ) (k : ℕ) → gather c rows n now ≡ holds ts
-    → ((row : List ℕ) (m v : ℕ) → Memᴰ row rows → row_of c m row ≡ Cell k v → ⊥) → get_or ts k 0 ≡ get_or now k 0
+others_keep : (c : Conventions) (rows : List (List ℕ)) (n : ℕ) (now ts : List ℕ) (k : ℕ) → gather c rows n now ≡ Ok ts
+    → ((row : List ℕ) (m v : ℕ) → Memᴰ row rows → row_of c m row ≡ gives k v → ⊥) → get_or ts k 0 ≡ get_or now k 0
 others_keep c [] n now ts k e f = rw (gathered_holds now e)
 others_keep c (row ∷ rows) n now ts k e f =
     others_keep c rows (n + 1) (stored_row now (row_of c n row)) ts k (unless_holds (row_of c n row) _ e) (λ r m v s. f r m v (Memᴰ.tail s))
@@ -247,8 +247,8 @@ others_keep c (row ∷ rows) n now ts k e f =
 
 -- Where a table is read, a row that gives the cell k the tricks v, and no row after it names k, then k has v.
 pub LastWins : (c : Conventions) (earlier : List (List ℕ)) (row : List ℕ) (later : List (List ℕ)) (n : ℕ) (now ts : List ℕ) (k v m : ℕ)
-    → gather c (earlier ++ row ∷ later) n now ≡ holds ts → k < length now → row_of c m row ≡ Cell k v
-    → ((r : List ℕ) (i u : ℕ) → Memᴰ r later → row_of c i r ≡ Cell k u → ⊥) → get_or ts k 0 ≡ v
+    → gather c (earlier ++ row ∷ later) n now ≡ Ok ts → k < length now → row_of c m row ≡ gives k v
+    → ((r : List ℕ) (i u : ℕ) → Memᴰ r later → row_of c i r ≡ gives k u → ⊥) → get_or ts k 0 ≡ v
 LastWins c [] row later n now ts k v m e h q f =
     let s = rw (RowNumber c m n row q) at e in
     others_keep c later (n + 1) (set now k v) ts k s f ∙ get_or-set_same now k v 0 h
@@ -259,8 +259,8 @@ LastWins c (r ∷ rs) row later n now ts k v m e h q f =
 
 -- A refusal of the row at its number, where no row before it is refused, is the answer, whatever follows.
 pub FirstFault : (c : Conventions) (earlier : List (List ℕ)) (row : List ℕ) (later : List (List ℕ)) (n : ℕ) (now : List ℕ) (f : Refusal)
-    → ((r : List ℕ) (i : ℕ) (g : Refusal) → Memᴰ r earlier → row_of c i r ≡ Fault g → ⊥) → row_of c (n + length earlier) row ≡ Fault f
-    → gather c (earlier ++ row ∷ later) n now ≡ refuses f
+    → ((r : List ℕ) (i : ℕ) (g : Refusal) → Memᴰ r earlier → row_of c i r ≡ Err g → ⊥) → row_of c (n + length earlier) row ≡ Err f
+    → gather c (earlier ++ row ∷ later) n now ≡ Err f
 FirstFault c [] row later n now f ok e =
     let z : n + 0 ≡ n = omega arith in
     rw (rw z at e)

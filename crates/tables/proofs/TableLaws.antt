@@ -1,23 +1,25 @@
 -- Laws of tables that the proofs of functions use.
 use Prim.Native.Nat.{ℕ, ◌+◌, ◌*◌, ◌%◌, ◌≤◌, ◌<◌}
 use mathlib.Core.Path.{◌≡◌, refl, sym, ap, ◌∙◌}
-use mathlib.Core.Bool.{true, cond, not}
+use mathlib.Core.Bool.{true, cond}
 use mathlib.Core.List.{List, [], ◌∷◌, ◌++◌, map, append_assoc, append-nil}
-use mathlib.Core.Option.{some}
 use native.Mathlib.Numerals.{add-one}
 use native.Mathlib.Omega.{arith}
-use lib.Dec.{eqb}
+use lib.Dec.{eqb, ltb}
 use lib.ListN.{length, drop, take, get_or, set, replicate, length-append, length-set, length-drop}
 use lib.Seq.{take-suc-set, take_all, drop-drop}
 use borrow.Author.Tests.{eqb-true, eqb-false, lt-ltb, le-ltb}
+use Rattle.std.specs.List.{count_by, list_any}
+use Rattle.std.proofs.lemmas.List.Sums.{count_by-le-length}
+use Rattle.std.proofs.lemmas.List.Recursion.{is_count_by}
 use Rattle.tables.specs.declared.letters.Conventions.{Conventions}
 use Rattle.tables.specs.declared.refusal.Refusal.{Refusal}
 use Rattle.tables.specs.declared.refusal.Refusal.TheVariants.{Digit, Fields}
-use Rattle.tables.specs.declared.dd.Row.{Row}
-use Rattle.tables.specs.declared.dd.Row.TheVariants.{Blank, Fault}
+use Rattle.std.specs.Prelude.{Option, Some, None, Ok, Err}
 use Rattle.tables.specs.Text.{is_inside, single, characters, first_character, fields, word, past_word, trim_start, lines, before, differs}
-use Rattle.tables.specs.Tables.{TableReading, holds, refuses, digit_of, first_bad, digits_reading, column_text, row_text, rows_from, fields_row, row_of, stored_row, unless, gather, gathered, missing}
-use Rattle.tables.proofs.Laws.{step, stop, by_cases}
+use Rattle.tables.specs.declared.dd.Cell.{Cell}
+use Rattle.tables.specs.Tables.{Row, digit_of, first_bad, digits_reading, column_text, row_text, rows_from, fields_row, row_of, stored_row, unless, gather, gathered, missing, width_of}
+use Rattle.tables.proofs.Laws.{by_cases}
 use Rattle.tables.proofs.TextLaws.{first_is, characters_next, length_zero, fields_none, fields_some, lines_step, take_front}
 use Rattle.tables.proofs.PageLaws.{right_few}
 
@@ -37,11 +39,21 @@ rows_few c w cell (t ∷ ts) h = simp length-append (omega (arith, row_few c w c
 
 -- ---- cells absent
 
-pub missing_turn : (s : List ℕ) (i n m : ℕ) → i < length s → m ≡ cond (not (eqb (get_or s i 0) 255)) n (n + 1) → n + missing (drop i s) ≡ m + missing (drop (i + 1) s)
-missing_turn s i n m h e =
-    by_cases (eqb (get_or s i 0) 255)
-    (λ t. rw (step s i h, t) (omega (arith, rw t at e)))
-    (λ t. rw (step s i h, t) (omega (arith, rw t at e)))
+missing_count : (s : List ℕ) → missing s ≡ count_by (λ t. eqb t 255) s
+missing_count s = is_count_by missing (λ t. eqb t 255) refl (λ t ts. by_cases (eqb t 255) (λ e. rw e (omega arith)) (λ e. rw e)) s
+
+-- How many cells no row has given.
+pub missing_counted : (s : List ℕ) {n : ℕ} → n ≡ count_by (λ t. eqb t 255) s → (n ≡ missing s) × (n ≤ length s)
+missing_counted s e = (e ∙ sym (missing_count s), rw e (count_by-le-length (λ t. eqb t 255) s))
+
+-- The width is 2 where Some cell exceeds 9.
+pub width_any : (s : List ℕ) → width_of s ≡ cond (list_any (λ t. ltb 9 t) s) 2 1
+width_any [] = refl
+width_any (t ∷ ts) = by_cases (ltb 9 t) (λ e. rw e) (λ e. rw e (width_any ts))
+
+pub width_two : (s : List ℕ) → width_of s ≤ 2
+width_two [] = omega arith
+width_two (t ∷ ts) = by_cases (ltb 9 t) (λ e. rw e (omega arith)) (λ e. rw e (width_two ts))
 
 -- ---- digits, one at a time
 
@@ -75,17 +87,17 @@ decoding_next {v} {cells} {i} t h d e l =
       size = rw length-set t.size;
     }
 
-bad_first : (u : List ℕ) (i : ℕ) → 0 < length (characters u) → 13 < digit_of (first_character u) → first_bad (characters u) i ≡ some i
+bad_first : (u : List ℕ) (i : ℕ) → 0 < length (characters u) → 13 < digit_of (first_character u) → first_bad (characters u) i ≡ Some i
 bad_first [] i z h = absurd (omega arith)
 bad_first (b ∷ bs) i z h = rw (lt-ltb 13 (digit_of (single b bs)) h)
 
-pub decoding_bad : {v cells : List ℕ} {i : ℕ} → Decoding v cells i → length (characters v) ≡ 20 → i < 20 → 13 < digit_of (first_character (drop i v)) → refuses (Digit i) ≡ digits_reading (characters v)
+pub decoding_bad : {v cells : List ℕ} {i : ℕ} → Decoding v cells i → length (characters v) ≡ 20 → i < 20 → 13 < digit_of (first_character (drop i v)) → Err (Digit i) ≡ digits_reading (characters v)
 unfolding digits_reading
 decoding_bad {v} {cells} {i} t e h l =
     let z : 0 < length (characters (drop i v)) = omega (arith, t.count) in
     rw (e, t.bad, bad_first (drop i v) i z l)
 
-pub decoding_done : {v cells : List ℕ} {i : ℕ} → Decoding v cells i → length (characters v) ≡ 20 → 20 ≤ i → holds cells ≡ digits_reading (characters v)
+pub decoding_done : {v cells : List ℕ} {i : ℕ} → Decoding v cells i → length (characters v) ≡ 20 → 20 ≤ i → Ok cells ≡ digits_reading (characters v)
 unfolding digits_reading
 decoding_done {v} {cells} {i} t e h =
     let n : characters (drop i v) ≡ [] = length_zero (characters (drop i v)) (omega (arith, t.count)) in
@@ -94,7 +106,7 @@ decoding_done {v} {cells} {i} t e h =
 
 -- ---- the fields of a row
 
-pub row_blank : (c : Conventions) (n : ℕ) (row : List ℕ) → length (trim_start row) ≡ 0 → Blank ≡ row_of c n row
+pub row_blank : (c : Conventions) (n : ℕ) (row : List ℕ) → length (trim_start row) ≡ 0 → Ok None ≡ row_of c n row
 unfolding row_of
 row_blank c n row h = rw (fields_none row h)
 
@@ -106,7 +118,7 @@ module _ (c : Conventions) (n : ℕ) (row u v w : List ℕ) (eu : u ≡ trim_sta
   second_field h = first_field ∙ rw ev (ap (λ (l : List (List ℕ)). word u ∷ l) (fields_some (past_word u) (rw ev at h)))
 
   -- There is no third field.
-  pub row_short : length w ≡ 0 → Fault (Fields n) ≡ row_of c n row
+  pub row_short : length w ≡ 0 → Err (Fields n) ≡ row_of c n row
   unfolding row_of
   row_short h =
       by_cases (eqb (length v) 0)
@@ -120,47 +132,43 @@ module _ (c : Conventions) (n : ℕ) (row u v w : List ℕ) (eu : u ≡ trim_sta
   third_field h = second_field (not_empty h) ∙ rw ew (ap (λ (l : List (List ℕ)). word u ∷ word v ∷ l) (fields_some (past_word v) (rw ew at h)))
 
   -- There is a fourth.
-  pub row_long : (length w ≡ 0 → ⊥) → 0 < length (trim_start (past_word w)) → Fault (Fields n) ≡ row_of c n row
+  pub row_long : (length w ≡ 0 → ⊥) → (length (trim_start (past_word w)) ≡ 0 → ⊥) → Err (Fields n) ≡ row_of c n row
   unfolding row_of
-  row_long h k = rw (third_field h, fields_some (past_word w) (λ z. omega arith))
+  row_long h k = rw (third_field h, fields_some (past_word w) k)
 
-  pub row_three : (length w ≡ 0 → ⊥) → length (trim_start (past_word w)) ≤ 0 → fields_row c n (word u) (word v) (word w) ≡ row_of c n row
+  pub row_three : (length w ≡ 0 → ⊥) → length (trim_start (past_word w)) ≡ 0 → fields_row c n (word u) (word v) (word w) ≡ row_of c n row
   unfolding row_of
-  row_three h k = rw (third_field h, fields_none (past_word w) (omega arith))
+  row_three h k = rw (third_field h, fields_none (past_word w) k)
 
 -- ---- rows, one at a time
 
 -- What is left of the text, gathered into the cells so far, is what the whole text comes to.
-pub record Gathering (c : Conventions) (text cells : List ℕ) (n at : ℕ) : Type 0 where
-  pub left : gather c (lines (drop at text)) n cells ≡ gather c (lines text) 0 (replicate 20 255)
-  pub few : n ≤ at
-  pub inside : at ≤ length text + 1
+pub record Gathering (c : Conventions) (text rest cells : List ℕ) (n : ℕ) : Type 0 where
+  pub left : gather c (lines rest) n cells ≡ gather c (lines text) 0 (replicate 20 255)
+  pub few : n + length rest ≤ length text
 
-pub gathering : (c : Conventions) (text cells : List ℕ) → cells ≡ replicate 20 255 → Gathering c text cells 0 0
-gathering c text cells e = record { left = rw e; few = omega arith; inside = omega arith }
+pub gathering : (c : Conventions) (text cells : List ℕ) → cells ≡ replicate 20 255 → Gathering c text text cells 0
+gathering c text cells e = record { left = rw e; few = omega arith }
 
-module _ (c : Conventions) (text cells : List ℕ) (n at : ℕ) (t : Gathering c text cells n at) (h : at < length text) (u : List ℕ) (len : ℕ) (row : Row)
-    (eu : u ≡ drop at text) (el : len ≡ length (before 10 u)) (er : row ≡ row_of c n (take len u)) where
-  row_now : gather c (lines (drop at text)) n cells ≡ unless row (gather c (lines (drop (at + len + 1) text)) (n + 1) (stored_row cells row))
+module _ (c : Conventions) (text rest cells : List ℕ) (n : ℕ) (t : Gathering c text rest cells n) (h : length rest ≡ 0 → ⊥) (len : ℕ) (row : Row)
+    (el : len ≡ length (before 10 rest)) (er : row ≡ row_of c n (take len rest)) where
+  row_now : gather c (lines rest) n cells ≡ unless row (gather c (lines (drop (len + 1) rest)) (n + 1) (stored_row cells row))
   row_now =
-      let z : 0 < length (drop at text) = rw length-drop (omega arith) in
-      let e : take len u ≡ before 10 (drop at text) = rw (el, eu) (take_front (differs 10) (drop at text)) in
-      let e' : at + (len + 1) ≡ at + len + 1 = omega arith in
-      let d : drop (len + 1) (drop at text) ≡ drop (at + len + 1) text = drop-drop (len + 1) at text ∙ ap (λ (k : ℕ). drop k text) e' in
-      let r : row ≡ row_of c n (before 10 (drop at text)) = rw e at er in
-      let k : length (before 10 (drop at text)) ≡ len = rw (el, eu) in
-      rw (lines_step (drop at text) z, ← r, k, d)
+      let z : 0 < length rest = omega arith in
+      let e : take len rest ≡ before 10 rest = rw el (take_front (differs 10) rest) in
+      let r : row ≡ row_of c n (before 10 rest) = rw e at er in
+      rw (lines_step rest z, ← r, ← el)
 
-  pub row_fault : (f : Refusal) → row ≡ Fault f → refuses f ≡ gather c (lines text) 0 (replicate 20 255)
+  pub row_fault : (f : Refusal) → row ≡ Err f → Err f ≡ gather c (lines text) 0 (replicate 20 255)
   row_fault f e = sym (sym t.left ∙ row_now ∙ rw e)
 
-  pub row_on : (cells' : List ℕ) → ((r : TableReading) → unless row r ≡ r) → cells' ≡ stored_row cells row → len ≤ length u → Gathering c text cells' (n + 1) (at + len + 1)
-  row_on cells' e ec hl =
+  pub row_on : (given : Option Cell) (cells' rest' : List ℕ) → row ≡ Ok given → cells' ≡ stored_row cells (Ok given) → rest' ≡ drop (len + 1) rest → Gathering c text rest' cells' (n + 1)
+  row_on given cells' rest' e ec er =
+      let now : gather c (lines rest) n cells ≡ gather c (lines (drop (len + 1) rest)) (n + 1) (stored_row cells (Ok given)) = row_now ∙ rw e in
       record {
-        left = rw ec (sym (row_now ∙ e _) ∙ t.left);
-        few = omega (arith, t.few);
-        inside = omega (arith, rw (eu, length-drop) at hl);
+        left = rw (ec, er) (sym now ∙ t.left);
+        few = rw (er, length-drop) (omega (arith, t.few));
       }
 
-pub gathering_done : {c : Conventions} {text cells : List ℕ} {n at : ℕ} → Gathering c text cells n at → length text ≤ at → gathered cells ≡ gather c (lines text) 0 (replicate 20 255)
-gathering_done {c} {text} {cells} {n} {at} t h = rw (stop text at h) at t.left
+pub gathering_done : {c : Conventions} {text rest cells : List ℕ} {n : ℕ} → Gathering c text rest cells n → length rest ≡ 0 → gathered cells ≡ gather c (lines text) 0 (replicate 20 255)
+gathering_done {c} {text} {rest} t h = rw (length_zero rest h) at t.left

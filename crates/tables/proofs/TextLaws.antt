@@ -2,12 +2,15 @@
 use Prim.Native.Nat.{ℕ, zero, suc, ◌+◌, ◌-◌, ◌≤◌, ◌<◌}
 use mathlib.Core.Path.{◌≡◌, refl, sym, ap, ◌∙◌}
 use mathlib.Core.Bool.{Bool, true, false, cond, not}
-use mathlib.Core.List.{List, [], ◌∷◌, ◌++◌}
+use mathlib.Core.List.{List, [], ◌∷◌, ◌++◌, reverse, reverse-cons}
 use native.Mathlib.Omega.{arith}
 use lib.Dec.{eqb}
-use lib.ListN.{length, drop, take, get_or}
+use lib.ListN.{length, drop, take, get_or, length-reverse}
 use lib.Seq.{take-suc}
 use borrow.Author.Tests.{le-leb, lt-leb, eq-eqb, ne_eqb}
+use Rattle.std.specs.List.{prefix_len, take_while, count_by}
+use Rattle.std.proofs.lemmas.List.Folds.{prefix_len-append, length-prefix_len}
+use Rattle.std.proofs.lemmas.List.Recursion.{is_count_by}
 use Rattle.tables.specs.Text.{is_white, front, beyond, trim_start, keep_end, trim_end, prepend, fields, word, past_word, lines, differs, before, is_inside, starts, characters, first_character}
 use Rattle.tables.proofs.Laws.{step, stop, by_cases}
 
@@ -35,6 +38,16 @@ pub front_few : (p : ℕ → Bool) (s : List ℕ) → length (front p s) ≤ len
 front_few p [] = omega arith
 front_few p (b ∷ bs) = by_cases (p b) (λ e. rw e (omega (arith, front_few p bs))) (λ e. rw e (omega arith))
 
+front_length : (p : ℕ → Bool) (s : List ℕ) → prefix_len p s ≡ length (front p s)
+front_length p [] = refl
+front_length p (b ∷ bs) = by_cases (p b) (λ e. rw e (omega (arith, front_length p bs))) (λ e. rw e)
+
+-- How many bytes pass from the front on.
+pub front_counted : (p : ℕ → Bool) (s : List ℕ) {n : ℕ} → n ≡ length (take_while p s) → (n ≡ length (front p s)) × (n ≤ length s)
+front_counted p s e =
+    let h = e ∙ length-prefix_len p s ∙ front_length p s in
+    (h, rw h (front_few p s))
+
 -- A front is the first of the text's bytes, and what follows it are the others.
 pub take_front : (p : ℕ → Bool) (s : List ℕ) → take (length (front p s)) s ≡ front p s
 take_front p [] = refl
@@ -56,31 +69,34 @@ sought_here x s i h e k = sym (k ∙ front_stop (differs x) s i h (ap not (eq-eq
 pub sought_next : {n : ℕ} (x : ℕ) (s : List ℕ) (i j : ℕ) → j ≡ i + 1 → i < length s → (get_or s i 0 ≡ x → ⊥) → Sought n x s i → Sought n x s j
 sought_next x s i j d h m k = rw d (k ∙ front_more (differs x) s i h (ap not (ne_eqb (get_or s i 0) x m)))
 
-pub sought_end : {n : ℕ} (x : ℕ) (s : List ℕ) (i : ℕ) → length s ≤ i → Sought n x s i → i ≡ n
-sought_end x s i h k = sym (k ∙ front_end (differs x) s i h)
-
 -- ---- white space at the end
 
-trim_white : (l : List ℕ) (b : ℕ) → is_white b ≡ true → trim_end (l ++ b ∷ []) ≡ trim_end l
-trim_white [] b e = rw e
-trim_white (x ∷ xs) b e = rw (trim_white xs b e)
+kept_turn : (b : ℕ) (bs ts : List ℕ) → prefix_len is_white (reverse bs) + length ts ≡ length bs
+    → prefix_len is_white (reverse (b ∷ bs)) + length (keep_end b ts) ≡ suc (length bs)
+kept_turn b bs [] h =
+    let e : prefix_len is_white (reverse bs) ≡ length (reverse bs) = omega (arith, h, length-reverse bs) in
+    rw (reverse-cons b bs, prefix_len-append is_white (reverse bs) (b ∷ []), eq-eqb _ _ e)
+    (by_cases (is_white b) (λ w. rw w (omega (arith, length-reverse bs))) (λ w. rw w (omega (arith, length-reverse bs))))
+kept_turn b bs (c ∷ cs) h =
+    rw (reverse-cons b bs, prefix_len-append is_white (reverse bs) (b ∷ []), ne_eqb (prefix_len is_white (reverse bs)) (length (reverse bs)) (λ e. omega (arith, h, e, length-reverse bs)))
+    (omega (arith, h))
 
-trim_last : (l : List ℕ) (b : ℕ) → is_white b ≡ false → trim_end (l ++ b ∷ []) ≡ l ++ b ∷ []
-trim_last [] b e = rw e
-trim_last (x ∷ []) b e = rw e
-trim_last (x ∷ y ∷ ys) b e = rw (trim_last (y ∷ ys) b e)
+kept_length : (s : List ℕ) → prefix_len is_white (reverse s) + length (trim_end s) ≡ length s
+kept_length [] = refl
+kept_length (b ∷ bs) = kept_turn b bs (trim_end bs) (kept_length bs)
 
+-- What is left where n bytes are white from the end back.
+pub kept_counted : (s : List ℕ) {n : ℕ} → n ≡ length (take_while is_white (reverse s)) → (length s - n ≡ length (trim_end s)) × (length s - n ≤ length s)
+kept_counted s e =
+    let h = e ∙ length-prefix_len is_white (reverse s) in
+    (omega (arith, h, kept_length s), omega arith)
+
+-- The first e bytes are those before the last of them, and that one.
 pub last_of : (s : List ℕ) (e : ℕ) → 0 < e → e ≤ length s → take e s ≡ take (e - 1) s ++ get_or s (e - 1) 0 ∷ []
 last_of s zero z h = absurd (omega arith)
 last_of s (suc e) z h =
     let d : suc e - 1 ≡ e = omega arith in
     rw d (take-suc s e 0 (omega arith))
-
-pub kept_less : (s : List ℕ) (e : ℕ) → 0 < e → e ≤ length s → is_white (get_or s (e - 1) 0) ≡ true → trim_end (take e s) ≡ trim_end (take (e - 1) s)
-kept_less s e z h w = rw (last_of s e z h) (trim_white (take (e - 1) s) (get_or s (e - 1) 0) w)
-
-pub kept_stop : (s : List ℕ) (e : ℕ) → 0 < e → e ≤ length s → is_white (get_or s (e - 1) 0) ≡ false → trim_end (take e s) ≡ take e s
-kept_stop s e z h w = rw (last_of s e z h) (trim_last (take (e - 1) s) (get_or s (e - 1) 0) w)
 
 take_kept_more : (b : ℕ) (l bs : List ℕ) → take (length l) bs ≡ l → take (length (keep_end b l)) (b ∷ bs) ≡ keep_end b l
 take_kept_more b [] bs h = by_cases (is_white b) (λ e. rw e) (λ e. rw e)
@@ -92,22 +108,22 @@ take_kept (b ∷ bs) = take_kept_more b (trim_end bs) bs (take_kept bs)
 
 -- ---- characters
 
-pub starts_turn : (s : List ℕ) (i n m : ℕ) → i < length s → m ≡ cond (is_inside (get_or s i 0)) n (n + 1) → n + length (starts (drop i s)) ≡ m + length (starts (drop (i + 1) s))
-starts_turn s i n m h e = by_cases (is_inside (get_or s i 0)) (λ t. rw (step s i h, t) (omega (arith, rw t at e))) (λ t. rw (step s i h, t) (omega (arith, rw t at e)))
+starts_length : (s : List ℕ) → length (starts s) ≡ count_by (λ b. not (is_inside b)) s
+starts_length s = is_count_by (λ l. length (starts l)) (λ b. not (is_inside b)) refl (λ b bs. by_cases (is_inside b) (λ e. rw e) (λ e. rw e (omega arith))) s
+
+starts_few : (s : List ℕ) → length (starts s) ≤ length s
+starts_few [] = omega arith
+starts_few (b ∷ bs) = by_cases (is_inside b) (λ e. rw e (omega (arith, starts_few bs))) (λ e. rw e (omega (arith, starts_few bs)))
+
+-- How many bytes start a character.
+pub starts_counted : (s : List ℕ) {n : ℕ} → n ≡ count_by (λ b. not (is_inside b)) s → (n ≡ length (starts s)) × (n ≤ length s)
+starts_counted s e = let h = e ∙ sym (starts_length s) in (h, rw h (starts_few s))
 
 pub first_is : (s : List ℕ) → first_character s ≡ cond (is_inside (get_or s 1 0)) 0 (get_or s 0 0)
 unfolding is_inside
 first_is [] = refl
 first_is (b ∷ []) = refl
 first_is (b ∷ c ∷ cs) = refl
-
-pub count_none : (s : List ℕ) → length s ≡ 0 → 0 ≡ length (characters s)
-count_none [] e = refl
-count_none (b ∷ bs) e = absurd (omega arith)
-
-pub count_some : (s : List ℕ) → (length s ≡ 0 → ⊥) → length (starts (drop 1 s)) + 1 ≡ length (characters s)
-count_some [] e = absurd (e refl)
-count_some (b ∷ bs) e = omega arith
 
 -- ---- fields
 

@@ -1,8 +1,7 @@
 -- What the inner functions of a page promise.
-use Rattle.std.specs.Prelude.{ℕ, ◌+◌, ◌-◌, ◌≤◌, ◌≡◌, cond, List, ◌++◌, leb, length, replicate, take, drop}
+use Rattle.std.specs.Prelude.{ℕ, ◌+◌, ◌-◌, ◌≤◌, ◌≡◌, cond, List, ◌++◌, leb, length, replicate, take, drop, Result, Ok, Err}
 use Rattle.std.proofs.lemmas.List.Edits.{sets}
-use Rattle.tables.specs.declared.page.Written.{Written}
-use Rattle.tables.specs.declared.page.Written.TheVariants.{Bytes, Refused}
+use Rattle.tables.specs.declared.refusal.Refusal.{Refusal}
 use Rattle.tables.specs.declared.refusal.Refusal.TheVariants.{PageFull}
 use Rattle.tables.specs.Numbers.{decimal}
 
@@ -16,8 +15,8 @@ abbrev pub cleared : List ℕ → ℕ → List ℕ
 cleared page n = take n page ++ replicate (length page - n) 0
 
 -- The end of a page on which n bytes were put.
-pub record PageEnded (n : ℕ) (page page' : List ℕ) (r : Written) : Type 0 where
-  pub told : r ≡ cond (leb n (length page)) (Bytes n) (Refused (PageFull n))
+pub record PageEnded (n : ℕ) (page page' : List ℕ) (r : Result ℕ Refusal) : Type 0 where
+  pub told : r ≡ cond (leb n (length page)) (Ok n) (Err (PageFull n))
   pub page_left : page' ≡ cond (leb n (length page)) (cleared page n) (replicate (length page) 0)
 
 -- The digits of n stand in buf from r on.

@@ -1,29 +1,17 @@
 -- The two PBN forms of a double-dummy table. A table is 20 numbers of tricks, its cells in the order N, S, E, W, each NT, S, H, D, C.
-use Rattle.std.specs.Prelude.{ℕ, suc, ◌+◌, ◌-◌, ◌*◌, ◌/◌, ◌%◌, List, [], ◌∷◌, ◌++◌, map, cond, ltb, eqb, length, set, replicate}
-use Rattle.std.proofs.Math.Option.{Option, none, some}
+use Rattle.std.specs.Prelude.{ℕ, suc, ◌+◌, ◌-◌, ◌*◌, ◌/◌, ◌%◌, List, [], ◌∷◌, ◌++◌, map, cond, ltb, eqb, length, set, replicate, Option, Some, None, Result, Ok, Err}
 use Rattle.tables.specs.declared.refusal.Refusal.{Refusal}
 use Rattle.tables.specs.declared.refusal.Refusal.TheVariants.{Length, Digit, Fields, Declarer, Denomination, Outcome, Over, Missing}
-use Rattle.tables.specs.declared.dd.Decoded.TheVariants.{Table, Refused}
-use Rattle.tables.specs.declared.dd.TableRead.{TableRead}
-use Rattle.tables.specs.declared.dd.Row.{Row}
-use Rattle.tables.specs.declared.dd.Row.TheVariants.{Blank, Cell, Fault}
+use Rattle.tables.specs.declared.dd.Cell.{Cell}
 use Rattle.tables.specs.declared.letters.Conventions.{Conventions}
-use Rattle.tables.specs.declared.numbers.Number.{Number}
-use Rattle.tables.specs.declared.numbers.Number.TheVariants.{Value, Bad}
 use Rattle.tables.specs.Text.{ascii, trimmed, fields, lines, characters, first_character}
-use Rattle.tables.specs.Numbers.{number_of, decimal}
+use Rattle.tables.specs.Numbers.{Number, number_of, decimal}
 use Rattle.tables.specs.Letters.{seat_of, strain_of, seat_letter, suit_letter}
 use Rattle.tables.specs.Page.{right}
 
 -- What reading a table comes to: its cells, or a refusal.
-pub data TableReading : Type 0 where
-  holds : List ℕ → TableReading
-  refuses : Refusal → TableReading
-
--- The same as a function answers it: the table beside the answer, all zero after a refusal.
-abbrev pub table_read : TableReading → TableRead
-table_read (holds cells) = record { answer = Table; table = cells }
-table_read (refuses f) = record { answer = Refused f; table = replicate 20 0 }
+abbrev pub TableReading : Type 0
+TableReading = Result (List ℕ) Refusal
 
 -- ---- DoubleDummyTricks: twenty base-14 digits
 
@@ -46,16 +34,16 @@ digit_of b =
 
 -- The index of the first character that is no digit, counted from i.
 abbrev pub first_bad : List ℕ → ℕ → Option ℕ
-first_bad [] i = none
-first_bad (x ∷ xs) i = cond (ltb 13 (digit_of x)) (some i) (first_bad xs (i + 1))
+first_bad [] i = None
+first_bad (x ∷ xs) i = cond (ltb 13 (digit_of x)) (Some i) (first_bad xs (i + 1))
 
 abbrev pub digits_checked : List ℕ → Option ℕ → TableReading
-digits_checked xs none = holds (map digit_of xs)
-digits_checked xs (some i) = refuses (Digit i)
+digits_checked xs None = Ok (map digit_of xs)
+digits_checked xs (Some i) = Err (Digit i)
 
 -- A value, trimmed, is twenty characters (8), each a digit (9).
 unfoldable pub digits_reading : List ℕ → TableReading
-digits_reading xs = cond (eqb (length xs) 20) (digits_checked xs (first_bad xs 0)) (refuses (Length (length xs)))
+digits_reading xs = cond (eqb (length xs) 20) (digits_checked xs (first_bad xs 0)) (Err (Length (length xs)))
 
 unfoldable pub table_of_digits : List ℕ → TableReading
 table_of_digits value = digits_reading (characters (trimmed value))
@@ -95,37 +83,44 @@ rows_from c w cell (t ∷ ts) = (row_text c w cell t ++ (10 ∷ [])) ++ rows_fro
 unfoldable pub rows_text : Conventions → List ℕ → List ℕ
 rows_text c cells = rows_from c (width_of cells) 0 cells
 
+-- What a row comes to: no cell where it is blank, a cell with its tricks, or a refusal.
+abbrev pub Row : Type 0
+Row = Result (Option Cell) Refusal
+
+abbrev pub gives : ℕ → ℕ → Row
+gives place tricks = Ok (Some (record { place = place; tricks = tricks }))
+
 -- The third field: a number 0 to 255 (13) that is at most 13 (14).
 abbrev pub result_row : ℕ → ℕ → Number → Row
-result_row n cell Bad = Fault (Outcome n)
-result_row n cell (Value v) = cond (ltb 13 v) (Fault (Over n)) (Cell cell v)
+result_row n cell None = Err (Outcome n)
+result_row n cell (Some v) = cond (ltb 13 v) (Err (Over n)) (gives cell v)
 
 -- The second: a strain (12).
 abbrev pub strain_row : ℕ → ℕ → ℕ → List ℕ → Row
-strain_row n seat strain result = cond (ltb 4 strain) (Fault (Denomination n)) (result_row n (cell_of seat strain) (number_of 255 result))
+strain_row n seat strain result = cond (ltb 4 strain) (Err (Denomination n)) (result_row n (cell_of seat strain) (number_of 255 result))
 
 -- The first: its first character is a seat's letter (11).
 unfoldable pub fields_row : Conventions → ℕ → List ℕ → List ℕ → List ℕ → Row
 fields_row c n declarer denomination result =
-    cond (ltb 3 (seat_of c (first_character declarer))) (Fault (Declarer n))
+    cond (ltb 3 (seat_of c (first_character declarer))) (Err (Declarer n))
     (strain_row n (seat_of c (first_character declarer)) (strain_of c denomination) result)
 
 -- Row n: blank, or of three fields (10).
 abbrev pub row_with : Conventions → ℕ → List (List ℕ) → Row
-row_with c n [] = Blank
-row_with c n (d ∷ []) = Fault (Fields n)
-row_with c n (d ∷ s ∷ []) = Fault (Fields n)
+row_with c n [] = Ok None
+row_with c n (d ∷ []) = Err (Fields n)
+row_with c n (d ∷ s ∷ []) = Err (Fields n)
 row_with c n (d ∷ s ∷ t ∷ []) = fields_row c n d s t
-row_with c n (d ∷ s ∷ t ∷ u ∷ us) = Fault (Fields n)
+row_with c n (d ∷ s ∷ t ∷ u ∷ us) = Err (Fields n)
 
 unfoldable pub row_of : Conventions → ℕ → List ℕ → Row
 row_of c n row = row_with c n (fields row)
 
 -- While rows are gathered a cell that was not given yet is 255; the last row for a cell wins.
 abbrev pub stored_row : List ℕ → Row → List ℕ
-stored_row cells Blank = cells
-stored_row cells (Cell k v) = set cells k v
-stored_row cells (Fault f) = cells
+stored_row cells (Ok None) = cells
+stored_row cells (Ok (Some x)) = set cells x.place x.tricks
+stored_row cells (Err f) = cells
 
 abbrev pub missing : List ℕ → ℕ
 missing [] = 0
@@ -133,13 +128,12 @@ missing (t ∷ ts) = cond (eqb t 255) (suc (missing ts)) (missing ts)
 
 -- All rows were read: the table, or how many cells are absent (15).
 unfoldable pub gathered : List ℕ → TableReading
-gathered cells = cond (eqb (missing cells) 0) (holds cells) (refuses (Missing (missing cells)))
+gathered cells = cond (eqb (missing cells) 0) (Ok cells) (Err (Missing (missing cells)))
 
 -- The first row that is refused is the answer.
 abbrev pub unless : Row → TableReading → TableReading
-unless (Fault f) r = refuses f
-unless Blank r = r
-unless (Cell k v) r = r
+unless (Err f) r = Err f
+unless (Ok x) r = r
 
 -- Rows from number n on.
 abbrev pub gather : Conventions → List (List ℕ) → ℕ → List ℕ → TableReading

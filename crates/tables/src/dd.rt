@@ -1,146 +1,122 @@
 // The two PBN forms of a double-dummy table (dd.rs). A table is an array of exactly 20 bytes, its cells in the order N, S, E, W,
 // each NT, S, H, D, C.
-ghost use Rattle.std.specs.Prelude.{◌≡◌, ◌+◌, ◌≤◌, ◌<◌, length, replicate};
+ghost use Rattle.std.specs.Prelude.{◌≡◌, ◌+◌, ◌≤◌, ◌<◌, length, replicate, ltb, Ok, MatchOption};
+ghost use Rattle.std.specs.List.{list_any};
 ghost use Rattle.tables.specs.Letters.{built_in};
 ghost use Rattle.tables.specs.Text.{characters};
 ghost use Rattle.tables.specs.Page.{Wrote};
-ghost use Rattle.tables.specs.PageSteps.{Put};
-ghost use Rattle.tables.specs.Tables.{table_read, digit_byte, digits_text, digit_of, digits_reading, table_of_digits, width_of, header_text, row_order, cell_of, column_text, row_text, rows_from, rows_text, fields_row, row_of, stored_row, missing, gathered, table_of_rows, refuses};
+ghost use Rattle.tables.specs.Puts.{Puts};
+ghost use Rattle.tables.specs.Tables.{digit_byte, digits_text, digit_of, digits_reading, table_of_digits, width_of, header_text, row_order, cell_of, column_text, row_text, rows_from, rows_text, fields_row, row_of, stored_row, missing, gathered, table_of_rows};
 
 use crate::letters::{Conventions, built_in, seat_letter, seat_of, strain_of, suit_letter};
-use crate::numbers::{Number, parse_number};
-use crate::page::{Written, finish, put_byte, put_right, put_text};
+use crate::numbers::parse_number;
+use crate::page::{Page, finish};
 use crate::refusal::Refusal;
 use crate::text::{
-    count_characters, first_character, first_word, from, index_of, next_words, one_more_unless,
-    trim, trim_start, upto,
+    count_characters, first_character, first_word, from, index_of, next_words, trim, trim_start,
+    upto,
 };
-
-// The answer of a reader of tables.
-#[derive(Clone, Copy)]
-pub enum Decoded {
-    Table,
-    Refused(Refusal),
-}
-
-// The answer with the table beside it, all zero after a refusal.
-#[derive(Clone, Copy)]
-pub struct TableRead {
-    pub answer: Decoded,
-    pub table: [u8; 20],
-}
-
-fn refused(f: Refusal) -> TableRead
-    ensures { result ≡ table_read (refuses f) }
-{
-    TableRead {
-        answer: Decoded::Refused(f),
-        table: [0; 20],
-    }
-}
 
 // One trick count as a base-14 digit.
 pub fn encode_tricks(tricks: u8) -> u8
     ensures { result ≡ digit_byte tricks }
 {
     match tricks {
-        0..=9 => 48 + tricks,
-        10..=12 => 87 + tricks,
-        _ => 100,
+        0..=9 => b'0' + tricks,
+        10..=12 => b'a' - 10 + tricks,
+        _ => b'd',
     }
 }
 
-// The inverse of encode_tricks, also of A to D; 14 where the byte is no digit.
-fn decode_tricks(b: u8) -> u8
-    ensures { result ≡ digit_of b }
+// The inverse of encode_tricks, also of A to D.
+#[tactic(auto, unfolding(crate::specs::Tables::digit_of))]
+fn decode_tricks(b: u8) -> Option<u8>
+    ensures { MatchOption result (13 < digit_of b) (λ d. (d ≡ digit_of b) × (d ≤ 13)) }
 {
     match b {
-        0..=47 => 14,
-        48..=57 => b - 48,
-        58..=64 => 14,
-        65..=68 => b - 55,
-        69..=96 => 14,
-        97..=100 => b - 87,
-        _ => 14,
+        b'0'..=b'9' => Some(b - b'0'),
+        b'A'..=b'D' => Some(b - b'A' + 10),
+        b'a'..=b'd' => Some(b - b'a' + 10),
+        _ => None,
     }
 }
 
-fn put_digits(page: &mut [u8], at: usize, table: &[u8]) -> usize
-    requires { at + length table.now ≤ 1099511627776 }
-    ensures { Put page.old at (digits_text table.now) page.new result }
+fn put_digits(page: &mut Page, table: &[u8])
+    ensures { Puts page.old (digits_text table.now) page.new }
 {
-    let mut k = at;
-    let mut i = 0;
-    while i < table.len() {
-        k = put_byte(page, k, encode_tricks(table[i]));
-        i += 1;
+    for tricks in table {
+        page.put_byte(encode_tricks(*tricks));
     }
-    k
 }
 
 // The value of a DoubleDummyTricks tag.
-pub fn dd_table_to_pbn(table: &[u8; 20], page: &mut [u8]) -> Written
+pub fn dd_table_to_pbn(table: &[u8; 20], page: &mut [u8]) -> Result<u64, Refusal>
     ensures { Wrote (digits_text table.now) page.old page.new result }
 {
-    let n = put_digits(page, 0, table);
+    let mut put = Page::new(page);
+    put_digits(&mut put, table);
+    let n = put.at;
     finish(page, n)
 }
 
 // The digits of a text of twenty characters.
-fn digits_read(value: &[u8]) -> TableRead
+fn digits_read(value: &[u8]) -> Result<[u8; 20], Refusal>
     requires { length (characters value.now) ≡ 20 }
-    ensures { result ≡ table_read (digits_reading (characters value.now)) }
+    ensures { result ≡ digits_reading (characters value.now) }
 {
     let mut table = [0; 20];
-    let mut i = 0;
-    while i < 20 {
-        let d = decode_tricks(first_character(from(value, i)));
-        if d > 13 {
-            return refused(Refusal::Digit(i as u64));
-        }
-        table[i] = d;
-        i += 1;
+    for i in 0..20 {
+        let Some(tricks) = decode_tricks(first_character(from(value, i))) else {
+            return Err(Refusal::Digit(i as u64));
+        };
+        table[i] = tricks;
     }
-    TableRead {
-        answer: Decoded::Table,
-        table,
-    }
+    Ok(table)
 }
 
 // Reads the value of a DoubleDummyTricks tag.
-pub fn dd_table_from_pbn(value: &[u8]) -> TableRead
-    ensures { result ≡ table_read (table_of_digits value.now) }
+#[tactic(auto, unfolding(crate::specs::Tables::table_of_digits, crate::specs::Tables::digits_reading))]
+pub fn dd_table_from_pbn(value: &[u8]) -> Result<[u8; 20], Refusal>
+    ensures { result ≡ table_of_digits value.now }
 {
     let v = trim(value);
     let n = count_characters(v);
     if n == 20 {
         return digits_read(v);
     }
-    refused(Refusal::Length(n as u64))
+    Err(Refusal::Length(n as u64))
+}
+
+// Whether a cell reaches ten tricks.
+fn has_ten(table: &[u8]) -> bool
+    ensures { result ≡ list_any (λ t. ltb 9 t) table.now }
+{
+    table.iter().any(|tricks| *tricks > 9)
 }
 
 // The width of the result column: 2 once a cell reaches ten tricks.
+#[tactic(auto, using(crate::proofs::TableLaws::width_any))]
 fn result_width(table: &[u8]) -> usize
     ensures { (result ≡ width_of table.now) × (result ≤ 2) }
 {
-    let mut i = 0;
-    while i < table.len() {
-        if table[i] > 9 {
-            return 2;
-        }
-        i += 1;
-    }
-    1
+    if has_ten(table) { 2 } else { 1 }
+}
+
+fn put_header(page: &mut Page, table: &[u8])
+    ensures { Puts page.old (header_text table.now) page.new }
+{
+    page.put_text(b"Declarer;Denomination\\2R;Result\\");
+    page.put_byte(b'0' + result_width(table) as u8);
+    page.put_byte(b'R');
 }
 
 // The value of an OptimumResultTable tag.
-pub fn optimum_result_table_header(table: &[u8; 20], page: &mut [u8]) -> Written
+pub fn optimum_result_table_header(table: &[u8; 20], page: &mut [u8]) -> Result<u64, Refusal>
     ensures { Wrote (header_text table.now) page.old page.new result }
 {
-    let w = result_width(table);
-    let a = put_text(page, 0, b"Declarer;Denomination\\2R;Result\\");
-    let b = put_byte(page, a, (48 + w) as u8);
-    let n = put_byte(page, b, 82);
+    let mut put = Page::new(page);
+    put_header(&mut put, table);
+    let n = put.at;
     finish(page, n)
 }
 
@@ -155,57 +131,54 @@ fn row_order(k: u8) -> u8
     }
 }
 
-fn put_column(page: &mut [u8], at: usize, c: Conventions, k: u8) -> usize
-    requires { (at + 2 ≤ 1099511627776) × (k < 5) }
-    ensures { Put page.old at (column_text c k) page.new result }
+fn put_column(page: &mut Page, c: Conventions, k: u8)
+    requires { k < 5 }
+    ensures { Puts page.old (column_text c k) page.new }
 {
     if k == 0 {
-        return put_text(page, at, b"NT");
+        page.put_text(b"NT");
+    } else {
+        page.put_byte(b' ');
+        page.put_byte(suit_letter(c, 4 - k));
     }
-    let a = put_byte(page, at, 32);
-    put_byte(page, a, suit_letter(c, 4 - k))
 }
 
-fn put_row(page: &mut [u8], at: usize, c: Conventions, w: usize, cell: u8, tricks: u8) -> usize
-    requires { (at ≤ 65536) × (w ≤ 2) }
-    ensures { Put page.old at (row_text c w cell tricks) page.new result }
+fn put_row(page: &mut Page, c: Conventions, w: usize, cell: u8, tricks: u8)
+    requires { w ≤ 2 }
+    ensures { Puts page.old (row_text c w cell tricks) page.new }
 {
-    let a = put_byte(page, at, seat_letter(c, row_order(cell / 5)));
-    let b = put_byte(page, a, 32);
-    let d = put_column(page, b, c, cell % 5);
-    let e = put_byte(page, d, 32);
-    put_right(page, e, w, tricks as u32)
+    page.put_byte(seat_letter(c, row_order(cell / 5)));
+    page.put_byte(b' ');
+    put_column(page, c, cell % 5);
+    page.put_byte(b' ');
+    page.put_right(w, u32::from(tricks));
 }
 
-fn put_rows(page: &mut [u8], at: usize, c: Conventions, w: usize, table: &[u8]) -> usize
-    requires { (at ≤ 1024) × (w ≤ 2) × (length table.now ≡ 20) }
-    ensures { Put page.old at (rows_from c w 0 table.now) page.new result }
+fn put_rows(page: &mut Page, c: Conventions, table: &[u8; 20])
+    ensures { Puts page.old (rows_text c table.now) page.new }
 {
-    let mut k = at;
-    let mut i = 0;
-    while i < table.len() {
-        let a = put_row(page, k, c, w, i as u8, table[i]);
-        k = put_byte(page, a, 10);
-        i += 1;
+    let w = result_width(table);
+    for (i, tricks) in table.iter().enumerate() {
+        put_row(page, c, w, i as u8, *tricks);
+        page.put_byte(b'\n');
     }
-    k
 }
 
 // The twenty data rows of an OptimumResultTable section, an LF after each.
-pub fn optimum_result_table_rows(table: &[u8; 20], page: &mut [u8]) -> Written
+pub fn optimum_result_table_rows(table: &[u8; 20], page: &mut [u8]) -> Result<u64, Refusal>
     ensures { Wrote (rows_text built_in table.now) page.old page.new result }
 {
-    let w = result_width(table);
-    let n = put_rows(page, 0, built_in(), w, table);
+    let mut put = Page::new(page);
+    put_rows(&mut put, built_in(), table);
+    let n = put.at;
     finish(page, n)
 }
 
-// What a row says.
+// A cell of the table that a row gives, by its place, and its tricks.
 #[derive(Clone, Copy)]
-pub enum Row {
-    Blank,
-    Cell(usize, u8),
-    Fault(Refusal),
+pub struct Cell {
+    pub place: usize,
+    pub tricks: u8,
 }
 
 fn cell_of(seat: u8, strain: u8) -> usize
@@ -215,41 +188,46 @@ fn cell_of(seat: u8, strain: u8) -> usize
     (5 * row_order(seat) + (4 - strain)) as usize
 }
 
-fn read_fields(c: Conventions, declarer: &[u8], denomination: &[u8], outcome: &[u8], n: u64) -> Row
+#[tactic(auto, unfolding(crate::specs::Tables::fields_row))]
+fn read_fields(
+    c: Conventions,
+    declarer: &[u8],
+    denomination: &[u8],
+    outcome: &[u8],
+    n: u64,
+) -> Result<Option<Cell>, Refusal>
     ensures { result ≡ fields_row c n declarer.now denomination.now outcome.now }
 {
     let seat = seat_of(c, first_character(declarer));
     if seat > 3 {
-        return Row::Fault(Refusal::Declarer(n));
+        return Err(Refusal::Declarer(n));
     }
     let strain = strain_of(c, denomination);
     if strain > 4 {
-        return Row::Fault(Refusal::Denomination(n));
+        return Err(Refusal::Denomination(n));
     }
-    let Number::Value(v) = parse_number(outcome, 255) else {
-        return Row::Fault(Refusal::Outcome(n));
-    };
+    let v = parse_number(outcome, 255).ok_or(Refusal::Outcome(n))?;
     if v > 13 {
-        return Row::Fault(Refusal::Over(n));
+        return Err(Refusal::Over(n));
     }
-    Row::Cell(cell_of(seat, strain), v as u8)
+    Ok(Some(Cell {
+        place: cell_of(seat, strain),
+        tricks: v as u8,
+    }))
 }
 
-// Reads one row, number n.
-pub fn read_row(c: Conventions, row: &[u8], n: u64) -> Row
+// Reads one row, number n: a blank one gives no cell.
+pub fn read_row(c: Conventions, row: &[u8], n: u64) -> Result<Option<Cell>, Refusal>
     ensures { result ≡ row_of c n row.now }
 {
     let first = trim_start(row);
-    if first.len() == 0 {
-        return Row::Blank;
+    if first.is_empty() {
+        return Ok(None);
     }
     let second = next_words(first);
     let third = next_words(second);
-    if third.len() == 0 {
-        return Row::Fault(Refusal::Fields(n));
-    }
-    if next_words(third).len() > 0 {
-        return Row::Fault(Refusal::Fields(n));
+    if third.is_empty() || !next_words(third).is_empty() {
+        return Err(Refusal::Fields(n));
     }
     read_fields(
         c,
@@ -260,85 +238,61 @@ pub fn read_row(c: Conventions, row: &[u8], n: u64) -> Row
     )
 }
 
-// The cells that rows have given so far, 255 for one that none has.
-#[derive(Clone, Copy)]
-pub struct Cells {
-    pub tricks: [u8; 20],
+// The cells before any row: 255 for one that none has given. With Options the table would have to be built from them.
+pub fn no_cells() -> [u8; 20]
+    ensures { result ≡ replicate 20 255 }
+{
+    [255; 20]
 }
 
-pub fn no_cells() -> Cells
-    ensures { result.tricks ≡ replicate 20 255 }
+// The cells after a row. The last row for a cell wins.
+pub fn stored_row(mut cells: [u8; 20], given: Option<Cell>) -> [u8; 20]
+    ensures { result ≡ stored_row cells (Ok given) }
 {
-    Cells { tricks: [255; 20] }
-}
-
-// The last row for a cell wins.
-pub fn stored_row(cells: Cells, row: Row) -> Cells
-    ensures { result.tricks ≡ stored_row cells.tricks row }
-{
-    match row {
-        Row::Blank => cells,
-        Row::Fault(_) => cells,
-        Row::Cell(k, v) => {
-            let mut next = cells;
-            if k < 20 {
-                next.tricks[k] = v;
-            }
-            next
+    if let Some(cell) = given {
+        if cell.place < 20 {
+            cells[cell.place] = cell.tricks;
         }
     }
+    cells
 }
 
 fn count_missing(cells: &[u8]) -> usize
     ensures { (result ≡ missing cells.now) × (result ≤ length cells.now) }
 {
-    let mut n = 0;
-    let mut i = 0;
-    while i < cells.len() {
-        n = one_more_unless(n, cells[i] != 255);
-        i += 1;
-    }
-    n
+    cells.iter().filter(|tricks| **tricks == 255).count()
 }
 
 // The table of cells that all rows have given.
-pub fn gathered_table(cells: Cells) -> TableRead
-    ensures { result ≡ table_read (gathered cells.tricks) }
+#[tactic(auto, unfolding(crate::specs::Tables::gathered))]
+pub fn gathered_table(cells: [u8; 20]) -> Result<[u8; 20], Refusal>
+    ensures { result ≡ gathered cells }
 {
-    let tricks = cells.tricks;
-    let n = count_missing(&tricks);
+    let n = count_missing(&cells);
     if n == 0 {
-        return TableRead {
-            answer: Decoded::Table,
-            table: tricks,
-        };
+        return Ok(cells);
     }
-    refused(Refusal::Missing(n as u64))
+    Err(Refusal::Missing(n as u64))
 }
 
-fn table_from_rows(c: Conventions, rows: &[u8]) -> TableRead
-    ensures { result ≡ table_read (table_of_rows c rows.now) }
+fn table_from_rows(c: Conventions, rows: &[u8]) -> Result<[u8; 20], Refusal>
+    ensures { result ≡ table_of_rows c rows.now }
 {
     let mut cells = no_cells();
-    let mut n: u64 = 0;
-    let mut at = 0;
-    while at < rows.len() {
-        let rest = from(rows, at);
-        let len = index_of(rest, 10);
-        let row = read_row(c, upto(rest, len), n);
-        if let Row::Fault(f) = row {
-            return refused(f);
-        }
-        cells = stored_row(cells, row);
+    let mut rest = rows;
+    let mut n = 0;
+    while !rest.is_empty() {
+        let len = index_of(rest, b'\n');
+        cells = stored_row(cells, read_row(c, &rest[..len], n)?);
+        rest = from(rest, len + 1);
         n += 1;
-        at = at + len + 1;
     }
     gathered_table(cells)
 }
 
 // Reads the data rows of an OptimumResultTable section, a text cut at each LF.
-pub fn optimum_result_table_from_rows(rows: &[u8]) -> TableRead
-    ensures { result ≡ table_read (table_of_rows built_in rows.now) }
+pub fn optimum_result_table_from_rows(rows: &[u8]) -> Result<[u8; 20], Refusal>
+    ensures { result ≡ table_of_rows built_in rows.now }
 {
     table_from_rows(built_in(), rows)
 }

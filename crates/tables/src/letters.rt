@@ -2,7 +2,7 @@
 ghost use Rattle.std.specs.Prelude.{◌≡◌, ◌<◌, ◌≤◌, cond, eqb};
 ghost use Rattle.tables.specs.Letters.{built_in, capital, seat_of, suit_of, honour_of, rank_of, suit_strain, strain_of, seat_letter, suit_letter, rank_letter};
 
-use crate::text::{byte_at, from, index_of, upto};
+use crate::text::{byte_at, index_of};
 
 // north, east, south, west, spades, hearts, diamonds, clubs, ace, king, queen, jack, ten
 #[derive(Clone, Copy)]
@@ -11,35 +11,32 @@ pub struct Conventions {
 }
 
 // The built-in letters: NESW, SHDC, AKQJT.
+#[tactic(auto, unfolding(crate::specs::Letters::built_in))]
 pub fn built_in() -> Conventions
     ensures { result ≡ built_in }
 {
     Conventions {
-        letters: [78, 69, 83, 87, 83, 72, 68, 67, 65, 75, 81, 74, 84],
+        letters: *b"NESWSHDCAKQJT",
     }
 }
 
 // A letter a to z as its capital, any other byte as it is.
+#[tactic(auto, unfolding(crate::specs::Letters::capital))]
 pub fn to_capital(b: u8) -> u8
     ensures { result ≡ capital b }
 {
-    if b < 97 {
-        return b;
-    }
-    if b > 122 {
-        return b;
-    }
-    b - 32
+    b.to_ascii_uppercase()
 }
 
+#[tactic(auto, unfolding(crate::specs::Letters::seat_of))]
 pub fn seat_of(c: Conventions, b: u8) -> u8
     ensures { (result ≡ seat_of c b) × (result ≤ 4) }
 {
-    let l = c.letters;
-    index_of(upto(&l, 4), to_capital(b)) as u8
+    index_of(&c.letters[..4], to_capital(b)) as u8
 }
 
-// x or y. Which letter comes next cannot be foreseen, so that a branch on one costs more than a comparison with all of them.
+// x or y. Which letter comes next cannot be foreseen, so that a branch on one costs more than a comparison with all of them:
+// `position` or a branch for each letter takes five times as long.
 fn choose(test: bool, x: u8, y: u8) -> u8
     ensures { result ≡ cond test x y }
 {
@@ -70,61 +67,52 @@ fn honour_of(c: Conventions, b: u8) -> u8
     choose(l[8] == k, 12, king)
 }
 
+#[tactic(auto, unfolding(crate::specs::Letters::rank_of))]
 pub fn rank_of(c: Conventions, b: u8) -> u8
     ensures { (result ≡ rank_of c b) × (result ≤ 13) }
 {
     let honour = honour_of(c, b);
-    if b < 50 {
-        return honour;
+    match b {
+        b'2'..=b'9' => b - b'2',
+        _ => honour,
     }
-    if b > 57 {
-        return honour;
-    }
-    b - 50
 }
 
 // A strain of one letter.
 fn letter_strain(c: Conventions, b: u8) -> u8
     ensures { (result ≡ cond (eqb (capital b) 78) 4 (suit_strain (suit_of c b))) × (result ≤ 5) }
 {
-    if to_capital(b) == 78 {
+    if to_capital(b) == b'N' {
         return 4;
     }
-    let s = suit_of(c, b);
-    if s < 4 {
-        return s;
+    match suit_of(c, b) {
+        4 => 5,
+        suit => suit,
     }
-    5
 }
 
 pub fn strain_of(c: Conventions, token: &[u8]) -> u8
     ensures { (result ≡ strain_of c token.now) × (result ≤ 5) }
 {
-    if token.len() == 1 {
-        return letter_strain(c, byte_at(token, 0));
+    match token {
+        [b] => letter_strain(c, *b),
+        [n, t] if (to_capital(*n) == b'N') & (to_capital(*t) == b'T') => 4,
+        _ => 5,
     }
-    if token.len() == 2 {
-        if (to_capital(byte_at(token, 0)) == 78) & (to_capital(byte_at(token, 1)) == 84) {
-            return 4;
-        }
-    }
-    5
 }
 
 // The letter of a seat 0 to 3. A caller never asks for another; the answer is then another letter, or 0.
 pub fn seat_letter(c: Conventions, seat: u8) -> u8
     ensures { result ≡ seat_letter c seat }
 {
-    let l = c.letters;
-    byte_at(&l, seat as usize)
+    byte_at(&c.letters, seat as usize)
 }
 
 pub fn suit_letter(c: Conventions, suit: u8) -> u8
     requires { suit < 4 }
     ensures { result ≡ suit_letter c suit }
 {
-    let l = c.letters;
-    byte_at(&l, (7 - suit) as usize)
+    c.letters[(7 - suit) as usize]
 }
 
 pub fn rank_letter(c: Conventions, rank: u8) -> u8
@@ -132,8 +120,7 @@ pub fn rank_letter(c: Conventions, rank: u8) -> u8
     ensures { result ≡ rank_letter c rank }
 {
     if rank < 8 {
-        return 50 + rank;
+        return b'2' + rank;
     }
-    let l = c.letters;
-    byte_at(&l, (20 - rank) as usize)
+    c.letters[(20 - rank) as usize]
 }

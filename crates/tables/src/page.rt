@@ -10,13 +10,6 @@ use crate::refusal::Refusal;
 // Places are counted so far; no text here comes near.
 const PLACES: usize = 549755813888;
 
-// The answer of a writer: the bytes written, or a refusal, which leaves the page all zero.
-#[derive(Clone, Copy)]
-pub enum Written {
-    Bytes(u64),
-    Refused(Refusal),
-}
-
 // Puts b at the place at, where the page reaches so far.
 pub fn put_byte(page: &mut [u8], at: usize, b: u8) -> usize
     requires { at < 1099511627776 }
@@ -190,14 +183,14 @@ fn zero_from(page: &mut [u8], n: usize)
     }
 }
 
-// After n bytes were put: zeros behind them, or nothing but zeros where they did not fit.
-pub fn finish(page: &mut [u8], n: usize) -> Written
+// After n bytes were put: how many they are, with zeros behind them; a refusal where they did not fit, with nothing but zeros.
+pub fn finish(page: &mut [u8], n: usize) -> Result<u64, Refusal>
     ensures { PageEnded n page.old page.new result }
 {
     if n <= page.len() {
         zero_from(page, n);
-        return Written::Bytes(n as u64);
+        return Ok(n as u64);
     }
     zero_from(page, 0);
-    Written::Refused(Refusal::PageFull(n as u64))
+    Err(Refusal::PageFull(n as u64))
 }

@@ -15,34 +15,36 @@ pub enum Refusal {
     Missing(u64),
 }
 
-pub fn number(r: Refusal) -> u64
-    ensures { result ≡ refusal_number r }
-{
-    match r {
-        Refusal::PageFull(_) => 7,
-        Refusal::Length(_) => 8,
-        Refusal::Digit(_) => 9,
-        Refusal::Fields(_) => 10,
-        Refusal::Declarer(_) => 11,
-        Refusal::Denomination(_) => 12,
-        Refusal::Outcome(_) => 13,
-        Refusal::Over(_) => 14,
-        Refusal::Missing(_) => 15,
+impl Refusal {
+    pub fn number(self) -> u64
+        ensures { result ≡ refusal_number self }
+    {
+        match self {
+            Refusal::PageFull(_) => 7,
+            Refusal::Length(_) => 8,
+            Refusal::Digit(_) => 9,
+            Refusal::Fields(_) => 10,
+            Refusal::Declarer(_) => 11,
+            Refusal::Denomination(_) => 12,
+            Refusal::Outcome(_) => 13,
+            Refusal::Over(_) => 14,
+            Refusal::Missing(_) => 15,
+        }
     }
-}
 
-pub fn carried(r: Refusal) -> u64
-    ensures { result ≡ refusal_carries r }
-{
-    match r {
-        Refusal::PageFull(n) => n,
-        Refusal::Length(n) => n,
-        Refusal::Digit(n) => n,
-        Refusal::Fields(n) => n,
-        Refusal::Declarer(n) => n,
-        Refusal::Denomination(n) => n,
-        Refusal::Outcome(n) => n,
-        Refusal::Over(n) => n,
-        Refusal::Missing(n) => n,
+    pub fn carried(self) -> u64
+        ensures { result ≡ refusal_carries self }
+    {
+        match self {
+            Refusal::PageFull(n)
+            | Refusal::Length(n)
+            | Refusal::Digit(n)
+            | Refusal::Fields(n)
+            | Refusal::Declarer(n)
+            | Refusal::Denomination(n)
+            | Refusal::Outcome(n)
+            | Refusal::Over(n)
+            | Refusal::Missing(n) => n,
+        }
     }
 }

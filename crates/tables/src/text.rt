@@ -6,81 +6,54 @@ ghost use Rattle.tables.specs.Text.{is_white, lead, trim_start, trim_end, trimme
 pub fn byte_at(s: &[u8], i: usize) -> u8
     ensures { result ≡ get_or s.now i 0 }
 {
-    if i < s.len() {
-        return s[i];
-    }
-    0
+    s.get(i).copied().unwrap_or(0)
 }
 
 // All from `a`, and nothing where `a` is past the end.
 pub fn from(s: &[u8], a: usize) -> &[u8]
     ensures { result.now ≡ drop a s.now }
 {
-    if a <= s.len() {
-        return &s[a..];
-    }
-    &s[..0]
+    &s[a.min(s.len())..]
 }
 
 // The first `n` bytes, or all where there are fewer.
 pub fn upto(s: &[u8], n: usize) -> &[u8]
     ensures { result.now ≡ take n s.now }
 {
-    if n <= s.len() {
-        return &s[..n];
-    }
-    s
+    &s[..n.min(s.len())]
 }
 
+#[tactic(auto, unfolding(crate::specs::Text::is_white))]
 pub fn is_white(b: u8) -> bool
     ensures { result ≡ is_white b }
 {
-    (9 <= b) & (b <= 13) | (b == 32)
+    matches!(b, b'\t'..=b'\r' | b' ')
 }
 
 // The number of white bytes that `s` begins with.
 pub fn lead_len(s: &[u8]) -> usize
     ensures { (result ≡ length (lead s.now)) × (result ≤ length s.now) }
 {
-    let mut i = 0;
-    while i < s.len() {
-        if is_white(s[i]) {
-            i += 1;
-        } else {
-            return i;
-        }
-    }
-    i
+    s.iter().take_while(|b| is_white(**b)).count()
 }
 
 // The length of `s` without the white space at its end.
 pub fn kept_len(s: &[u8]) -> usize
     ensures { (result ≡ length (trim_end s.now)) × (result ≤ length s.now) }
 {
-    let mut e = s.len();
-    while e > 0 {
-        let last = e - 1;
-        if is_white(s[last]) {
-            e = last;
-        } else {
-            return e;
-        }
-    }
-    0
+    s.len() - s.iter().rev().take_while(|b| is_white(**b)).count()
 }
 
 pub(crate) fn trim_start(s: &[u8]) -> &[u8]
     ensures { result.now ≡ trim_start s.now }
 {
-    let a = lead_len(s);
-    &s[a..]
+    &s[lead_len(s)..]
 }
 
 pub fn trim_end(s: &[u8]) -> &[u8]
     ensures { result.now ≡ trim_end s.now }
 {
-    let e = kept_len(s);
-    &s[..e]
+    &s[..kept_len(s)]
 }
 
 pub fn trim(s: &[u8]) -> &[u8]
@@ -93,48 +66,32 @@ pub fn trim(s: &[u8]) -> &[u8]
 pub fn word_len(s: &[u8]) -> usize
     ensures { (result ≡ length (word s.now)) × (result ≤ length s.now) }
 {
-    let mut i = 0;
-    while i < s.len() {
-        if is_white(s[i]) {
-            return i;
-        }
-        i += 1;
-    }
-    i
+    s.iter().take_while(|b| !is_white(**b)).count()
 }
 
 // The first field of a text that begins with one.
 pub(crate) fn first_word(s: &[u8]) -> &[u8]
     ensures { result.now ≡ word s.now }
 {
-    let n = word_len(s);
-    &s[..n]
+    &s[..word_len(s)]
 }
 
 // What follows the first field, from the next field on.
 pub fn next_words(s: &[u8]) -> &[u8]
     ensures { result.now ≡ trim_start (past_word s.now) }
 {
-    let n = word_len(s);
-    trim_start(&s[n..])
+    trim_start(&s[word_len(s)..])
 }
 
-// The place of the first `x` from the place `start` on, the end where there is none.
-fn index_from(s: &[u8], x: u8, start: usize) -> usize
-    requires { start ≤ length s.now }
-    ensures { (result ≡ start + length (before x (drop start s.now))) × (result ≤ length s.now) }
+// The number of bytes before the first `x`, one byte a turn.
+fn bytes_before(s: &[u8], x: u8) -> usize
+    ensures { (result ≡ length (before x s.now)) × (result ≤ length s.now) }
 {
-    let mut i = start;
-    while i < s.len() {
-        if s[i] == x {
-            return i;
-        }
-        i += 1;
-    }
-    i
+    s.iter().take_while(|b| **b != x).count()
 }
 
-// The number of bytes before the first `x`, all of them where there is none. Four bytes a turn.
+// The number of bytes before the first `x`, all of them where there is none. Four bytes a turn: one a turn, as `position` takes, is a
+// quarter slower.
 pub fn index_of(s: &[u8], x: u8) -> usize
     ensures { (result ≡ length (before x s.now)) × (result ≤ length s.now) }
 {
@@ -154,51 +111,39 @@ pub fn index_of(s: &[u8], x: u8) -> usize
         }
         i += 4;
     }
-    index_from(s, x, i)
+    i + bytes_before(&s[i..], x)
 }
 
+#[tactic(auto, unfolding(crate::specs::Text::is_inside))]
 pub fn is_inside(b: u8) -> bool
     ensures { result ≡ is_inside b }
 {
-    (128 <= b) & (b <= 191)
-}
-
-// One more than `n`, or `n` where it is not to be counted.
-pub(crate) fn one_more_unless(n: usize, not_counted: bool) -> usize
-    requires { n < 2 ^ 63 }
-    ensures { (result ≡ cond not_counted n (n + 1)) × (result ≤ n + 1) }
-{
-    if not_counted { n } else { n + 1 }
+    matches!(b, 128..=191)
 }
 
 // The number of characters that start after the first byte.
 fn count_starts(s: &[u8]) -> usize
     ensures { (result ≡ length (starts s.now)) × (result ≤ length s.now) }
 {
-    let mut n = 0;
-    let mut i = 0;
-    while i < s.len() {
-        n = one_more_unless(n, is_inside(s[i]));
-        i += 1;
-    }
-    n
+    s.iter().filter(|b| !is_inside(**b)).count()
 }
 
 pub(crate) fn count_characters(s: &[u8]) -> usize
     ensures { result ≡ length (characters s.now) }
 {
-    if s.len() == 0 {
-        return 0;
+    match s {
+        [] => 0,
+        [_, rest @ ..] => count_starts(rest) + 1,
     }
-    count_starts(&s[1..]) + 1
 }
 
 // The first character, 0 where it has more than one byte or there is none.
 pub fn first_character(s: &[u8]) -> u8
     ensures { result ≡ first_character s.now }
 {
-    if is_inside(byte_at(s, 1)) {
-        return 0;
+    match s {
+        [] => 0,
+        [_, next, ..] if is_inside(*next) => 0,
+        [first, ..] => *first,
     }
-    byte_at(s, 0)
 }

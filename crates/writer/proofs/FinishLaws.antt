@@ -8,35 +8,31 @@ use lib.Dec.{ltb}
 use lib.ListN.{length, get_or, take, drop, replicate, length-append, length-map, get_or-append}
 use lib.Seq.{drop_at, get_or-take, get_or-drop, get_or-append-add, drop-append-add, length-take-le}
 use borrow.Author.Tests.{lt-ltb}
+use Rattle.std.specs.Prelude.{Result, Ok, Err, is_ok}
 use Rattle.tables.specs.declared.letters.Conventions.{Conventions}
 use Rattle.tables.proofs.Laws.{clash}
 use Rattle.reader.specs.declared.board.TableCard.{TableCard}
-use Rattle.reader.specs.declared.edition.Reading.{Reading}
-use Rattle.reader.specs.declared.edition.Reading.TheVariants.{Taken}
-use Rattle.reader.specs.declared.edition.Reading.TheVariants as reading
+use Rattle.reader.specs.declared.edition.Counts.{Counts}
+use Rattle.reader.specs.declared.edition.ReadRefusal.{ReadRefusal}
 use Rattle.reader.specs.Store.{flat, padded, zeros}
-use Rattle.reader.specs.Editions.{is_taken, reading_of, cards_of, entries_of}
+use Rattle.reader.specs.Editions.{reading_of, cards_of, entries_of}
 use Rattle.reader.specs.EditionSteps.{FullCards}
 use Rattle.reader.specs.EditionSteps as whole
 use Rattle.reader.proofs.StoreLaws.{length_flat}
 use Rattle.reader.proofs.EditionLaws.{card_blocks}
 use Rattle.reader.proofs.CardLength.{CardsWhole}
 use Rattle.planning.specs.declared.editions.EditionsRefusal.{EditionsRefusal}
-use Rattle.planning.specs.declared.editions.Editions.{Editions}
-use Rattle.planning.specs.declared.editions.Editions.TheVariants.{Both}
-use Rattle.planning.specs.declared.editions.Editions.TheVariants as editions
 use Rattle.planning.specs.States.{BoardPlan, board_plans}
-use Rattle.planning.specs.Plans.{Boxes, old_reading, new_reading, both_after, editions_of, are_both, plans_of, BoxesAfter, BothRead}
+use Rattle.planning.specs.Plans.{Boxes, old_reading, new_reading, both_after, editions_of, plans_of, BoxesAfter, BothRead, Editions}
 use Rattle.planning.specs.PlanSteps.{BoxesKept}
 use Rattle.planning.proofs.BothLaws.{both_are_taken}
 use Rattle.planning.proofs.AnswerLaws.{SameRoom, boxes_kept, there, boards_are}
 use Rattle.writer.specs.declared.finish.FinishRefusal.TheVariants.{Edition}
-use Rattle.writer.specs.declared.finish.Finishing.{Finishing}
-use Rattle.writer.specs.declared.finish.Finishing.TheVariants.{Refused}
+use Rattle.writer.specs.declared.finish.FinishRefusal.{FinishRefusal}
 use Rattle.writer.specs.Held.{card_word}
 use Rattle.writer.specs.Given.{tables_of, finished_boards, finished_text}
 use Rattle.writer.specs.GivenCards.{given_cards, marked, given_cleared, changed_all, given_box, tabled_page, BoardsFinished}
-use Rattle.writer.specs.Finishings.{finishing_of, is_finished, IsFinished}
+use Rattle.writer.specs.Finishings.{finishing_of, IsFinished}
 use Rattle.writer.proofs.HeldBoards.{Holds, taken_holds}
 use Rattle.writer.proofs.ChangedCards.{marked_long, changed_flat, changed_whole}
 use Rattle.writer.proofs.GiveCells.{part_here_lem}
@@ -200,23 +196,23 @@ module _ {xs : List (List ℕ)} {ts : List TableCard} {gs : List (List ℕ)} (a 
 
 -- ---- an edition that was read
 
-read_holds : {c : Conventions} {text : List ℕ} (cards entries : List ℕ) {cards' entries' : List ℕ} (q : Reading)
-    → q ≡ reading_of c text (length cards) (length entries) → is_taken q ≡ true
+read_holds : {c : Conventions} {text : List ℕ} (cards entries : List ℕ) {cards' entries' : List ℕ} (q : Result Counts ReadRefusal)
+    → q ≡ reading_of c text (length cards) (length entries) → is_ok q ≡ true
     → cards' ≡ padded (length cards) (flat (cards_of c text)) → entries' ≡ padded (length entries) (flat (entries_of c text))
     → Holds c text cards' entries'
-read_holds cards entries (Taken b e) a t ec ee =
+read_holds cards entries (Ok n) a t ec ee =
     taken_holds {cards = cards} {entries = entries} (record { answer = a; cards_after = ec; entries_after = ee })
-read_holds cards entries (reading.Refused f) a t ec ee = clash t
+read_holds cards entries (Err f) a t ec ee = clash t
 
 module _ {c : Conventions} {old new : List ℕ} {boxes boxes₁ : Boxes} {q : Editions} {m n : ℕ}
     (b : BothRead c old new boxes boxes₁ q) (e : q ≡ Both m n) where
   filled : BoxesAfter c true old new boxes boxes₁
-  filled = rw (ap are_both e) at b.boxes_left
+  filled = rw (ap is_ok e) at b.boxes_left
 
   new_holds : Holds c new boxes₁.new_cards boxes₁.new_entries
   unfolding editions_of
   new_holds =
-      let t : are_both (both_after (old_reading c old boxes) (new_reading c new boxes)) ≡ true = sym (ap are_both b.answer) ∙ ap are_both e in
+      let t : is_ok (both_after (old_reading c old boxes) (new_reading c new boxes)) ≡ true = sym (ap is_ok b.answer) ∙ ap is_ok e in
       let taken = (both_are_taken (old_reading c old boxes) (new_reading c new boxes) t).1 in
       read_holds boxes.new_cards boxes.new_entries (new_reading c new boxes) refl taken filled.new_cards filled.new_entries
 
@@ -277,7 +273,7 @@ module _ {c : Conventions} {old new : List ℕ} {boxes boxes₁ : Boxes} {q : Ed
         rw (box_marked, count_is) (PageWith c new boxes₁.new_cards tabled boxes₁.new_entries ts new_holds other count)
 
   -- Both editions were read, and the new one finished.
-  pub finish_done : {answers page page' : List ℕ} {r : Finishing} {boxes' : Boxes} → SameRoom boxes boxes₁
+  pub finish_done : {answers page page' : List ℕ} {r : Result ℕ FinishRefusal} {boxes' : Boxes} → SameRoom boxes boxes₁
       → BoardsFinished c new m n boxes₁ answers page r boxes' page'
       → IsFinished c old new boxes answers page r boxes' page'
   unfolding finishing_of
@@ -287,19 +283,19 @@ module _ {c : Conventions} {old new : List ℕ} {boxes boxes₁ : Boxes} {q : Ed
       let few : length (tabled_page c new m n boxes₁ answers) ≤ 549755813888 =
       rw same (omega (arith, FinishedFew c old new answers new_holds.short)) in
       let a : editions_of c old new boxes ≡ Both m n = sym b.answer ∙ e in
-      let kept : BoxesKept (is_finished r) boxes₁ boxes' = rw (box_back answers) at d.boxes_left in
+      let kept : BoxesKept (is_ok r) boxes₁ boxes' = rw (box_back answers) at d.boxes_left in
       record {
         answer = d.answer few ∙ rw (a, same, boards_are b e);
-        boxes_left = boxes_kept (is_finished r) filled room kept;
+        boxes_left = boxes_kept (is_ok r) filled room kept;
         page_left = d.page_left few ∙ rw same;
       }
 
 -- An edition was refused.
 pub finish_refused : {c : Conventions} {old new : List ℕ} {boxes boxes' : Boxes} {q : Editions} {f : EditionsRefusal}
-    {answers page page' : List ℕ} → BothRead c old new boxes boxes' q → q ≡ editions.Refused f → page' ≡ zeros page
-    → IsFinished c old new boxes answers page (Refused (Edition f)) boxes' page'
+    {answers page page' : List ℕ} → BothRead c old new boxes boxes' q → q ≡ Err f → page' ≡ zeros page
+    → IsFinished c old new boxes answers page (Err (Edition f)) boxes' page'
 unfolding finishing_of
 finish_refused {c} {old} {new} {boxes} {q = q} {f = f} b e z =
-    let well : are_both q ≡ false = ap are_both e in
-    let a : editions_of c old new boxes ≡ editions.Refused f = sym b.answer ∙ e in
+    let well : is_ok q ≡ false = ap is_ok e in
+    let a : editions_of c old new boxes ≡ Err f = sym b.answer ∙ e in
     record { answer = rw a; boxes_left = rw well at b.boxes_left; page_left = z }

@@ -10,15 +10,16 @@ use lib.Dec.{eqb, ltb}
 use lib.ListN.{length, take, drop, get_or, replicate, length-append, length-map, length-replicate, get_or-append}
 use lib.Seq.{take_at, drop_at, get_or-append-add}
 use borrow.Author.Tests.{eqb-true, eqb-false, ne_eqb, lt-ltb, ltb-false}
+use Rattle.std.specs.Prelude.{Ok, is_ok}
 use Rattle.tables.specs.declared.letters.Conventions.{Conventions}
 use Rattle.tables.proofs.Laws.{by_cases, clash}
 use Rattle.reader.specs.declared.store.Entry.{Entry}
 use Rattle.reader.specs.declared.board.Section.{Section}
-use Rattle.reader.specs.declared.edition.Reading.TheVariants.{Taken}
+use Rattle.reader.specs.declared.edition.Counts.{Counts}
 use Rattle.reader.specs.Store.{low_word, flat, padded, entry_words}
 use Rattle.reader.specs.Boards.{record_out}
 use Rattle.reader.specs.Records.{records_of}
-use Rattle.reader.specs.Editions.{entry_place, head_words, back_words, card_words, card_of, cards_of, entries_of, is_taken, reading_of, IsRead}
+use Rattle.reader.specs.Editions.{entry_place, head_words, back_words, card_words, card_of, cards_of, entries_of, reading_of, IsRead}
 use Rattle.reader.specs.Fellows.{Stands, BoardAt}
 use Rattle.reader.specs.Plain.{Item, item_of, items_of, value_at, plain_by, plain_of, plain_boards}
 use Rattle.reader.proofs.EntryLaws.{All, none, one}
@@ -56,14 +57,14 @@ pub record Holds (c : Conventions) (text cards entries : List ℕ) : Type 0 wher
   pub entries_are : entries ≡ padded lent_entries (flat (entries_of c text))
 
 -- So do words after a reading that was taken.
-pub taken_holds : {c : Conventions} {text cards entries cards' entries' : List ℕ} {b e : ℕ} → IsRead c text cards entries (Taken b e) cards' entries' → Holds c text cards' entries'
+pub taken_holds : {c : Conventions} {text cards entries cards' entries' : List ℕ} {n : Counts} → IsRead c text cards entries (Ok n) cards' entries' → Holds c text cards' entries'
 unfolding reading_of
 taken_holds {c} {text} {cards} {entries} i =
     let lc = length cards in
     let le = length entries in
     let boards = length (cards_of c text) in
     let n = length (entries_of c text) in
-    let h = ap is_taken i.answer in
+    let h = ap is_ok i.answer in
     by_cases (ltb 16777215 (length text))
     (λ t. clash (sym (rw t at h)))
     (λ t.

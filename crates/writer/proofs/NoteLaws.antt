@@ -10,11 +10,9 @@ use lib.Dec.{eqb, ltb}
 use lib.ListN.{length, take, drop, length-append}
 use lib.Seq.{take_at, drop_at, sets-eq}
 use borrow.Author.Tests.{ne_eqb, eqb-true, eqb-false, ltb-true, ltb-false, lt-ltb, le-ltb}
-use Rattle.tables.specs.declared.numbers.Number.{Number}
-use Rattle.tables.specs.declared.numbers.Number.TheVariants.{Value, Bad}
 use Rattle.tables.specs.Text.{ascii, is_white, trimmed, differs, before}
 use Rattle.tables.specs.Letters.{every}
-use Rattle.tables.specs.Numbers.{digits, number_of, decimal}
+use Rattle.tables.specs.Numbers.{Number, digits, number_of, decimal}
 use Rattle.tables.proofs.PageLaws.{decimal_few}
 use Rattle.tables.proofs.TextLaws.{take_front}
 use Rattle.tables.proofs.Laws.{by_cases, clash}
@@ -28,6 +26,7 @@ use Rattle.writer.specs.Held.{entry_word, place_bytes}
 use Rattle.writer.specs.Items.{has_value, or_none, note_number, note_number_at, note_text}
 use Rattle.tables.specs.declared.page.Page.{Page}
 use Rattle.tables.specs.Puts.{Puts}
+use Rattle.std.specs.Prelude.{Some, None}
 
 -- ---- what a note's value holds
 
@@ -53,8 +52,8 @@ colon_none (b ∷ bs) h =
 
 -- A number that was read is n exactly where it is given as n.
 number_is : (x : Number) (n : ℕ) → n < 256 → is_number n x ≡ eqb (or_none x) n
-number_is Bad n h = sym (ne_eqb 256 n (λ w. omega (arith, w)))
-number_is (Value v) n h = refl
+number_is None n h = sym (ne_eqb 256 n (λ w. omega (arith, w)))
+number_is (Some v) n h = refl
 
 -- Note has the number 17.
 pub note_name_lem : (name : List ℕ) → eqb (tag_number name) 17 ≡ same (ascii "Note") name

@@ -1,7 +1,7 @@
 -- The notes of an auction by their places: that they are all its notes by rising number, and which directives each takes.
 use Prim.Native.Nat.{ℕ, zero, suc, ◌+◌, ◌-◌, ◌≤◌, ◌<◌}
 use mathlib.Core.Path.{◌≡◌, refl, sym, ap, ◌∙◌}
-use mathlib.Core.Bool.{Bool, true, false, cond, ◌&&◌, ◌||◌, not, and-false, and-true, or-false}
+use mathlib.Core.Bool.{Bool, true, false, cond, ◌&&◌, ◌||◌, not, and-false, and-true, or-false, or-true}
 use mathlib.Core.List.{List, [], ◌∷◌, ◌++◌, append-nil, append_assoc}
 use mathlib.Core.Option.{Option, none, some}
 use native.Mathlib.Nat.{zero-add}
@@ -302,13 +302,13 @@ module _ (text entries : List ℕ) where
         either true = rw (ne_eqb 256 n (λ z. omega (arith, z)), and-true)
         either false = rw (ne_eqb 256 n (λ z. omega (arith, z)), and-true)
 
-    pub taken_own : (v : List ℕ) (n m : ℕ) (first w : Bool) → n < 256 → note_number v ≡ m → w ≡ has_value v (placed_note text entries places m) → m ≡ n → (w || first) ≡ takes_value text entries places n first v
+    pub taken_own : (v : List ℕ) (n m : ℕ) (first w : Bool) → n < 256 → note_number v ≡ m → w ≡ has_value v (placed_note text entries places m) → m ≡ n → (first || w) ≡ takes_value text entries places n first v
     unfolding takes_value note_of
     taken_own v n m first w h e q d = rw (e, ← q, d) (either w)
       where
-        either : (b : Bool) → (b || first) ≡ (eqb (cond b n 256) n || (first && leb 256 (cond b n 256)))
-        either true = rw (eq-eqb n n refl)
-        either false = rw (ne_eqb 256 n (λ z. omega (arith, z)), and-true)
+        either : (b : Bool) → (first || b) ≡ (eqb (cond b n 256) n || (first && leb 256 (cond b n 256)))
+        either true = rw (eq-eqb n n refl, or-true)
+        either false = rw (ne_eqb 256 n (λ z. omega (arith, z)), and-true, or-false)
 
     pub taken_other : (v : List ℕ) (n m : ℕ) (first w : Bool) → n < 256 → m < 256 → note_number v ≡ m → w ≡ has_value v (placed_note text entries places m) → (m ≡ n → ⊥)
         → (first && not w) ≡ takes_value text entries places n first v

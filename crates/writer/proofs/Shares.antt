@@ -16,16 +16,13 @@ use Rattle.tables.proofs.Laws.{by_cases, clash}
 use Rattle.reader.specs.declared.store.Entry.{Entry}
 use Rattle.reader.specs.declared.tag.Span.{Span}
 use Rattle.reader.specs.declared.tag.Tag.{Tag as TagPlaces}
-use Rattle.reader.specs.declared.tag.TagLine.{TagLine}
-use Rattle.reader.specs.declared.tag.TagLine.TheVariants.{NoTag, Plain as PlainTag, WithComment as CommentTag}
-use Rattle.reader.specs.declared.tag.Split.{Split}
-use Rattle.reader.specs.declared.tag.Split.TheVariants.{Data as DataTag, NoData}
+use Rattle.std.specs.Prelude.{Some, None}
 use Rattle.reader.specs.declared.line.Line.{Line}
 use Rattle.reader.specs.declared.line.Line.TheVariants.{Blank, Brace, Directive, Tag as TagOn, Bracket, Data}
 use Rattle.reader.specs.declared.line.TagReading.{TagReading}
 use Rattle.reader.specs.declared.line.TagReading.TheVariants.{Plain, WithComment, WithData}
 use Rattle.reader.specs.declared.board.State.{State}
-use Rattle.reader.specs.Tag.{cut, trim_span, is_comment, with_comment, tag_line, split_of}
+use Rattle.reader.specs.Tag.{TagLine, Split, cut, trim_span, is_comment, tag_line, split_of}
 use Rattle.reader.specs.TagSteps.{SplitPlaced}
 use Rattle.reader.specs.TagBytes.{Cut, past, close, unquote, filled, TagBytes, read_tag, tag_bytes, SplitBytes, read_split, split_bytes}
 use Rattle.reader.specs.Lines.{last_brace, is_blank, split_as, split_line, bracket_as, bracket_line, kind_by, line_kind, opens_board}
@@ -35,7 +32,7 @@ use Rattle.reader.specs.Boards.{closed, no_span, at, tagged, directed, data_adde
 use Rattle.reader.specs.Plain.{Item, item_of, items_of, Remark, tags_in, remarks_in, starts_line, without_returns, block_value, plain_by, plain_of}
 use Rattle.reader.proofs.EntryLaws.{All, none, one}
 use Rattle.reader.proofs.SectionLaws.{LineAt, line_at_lem}
-use Rattle.reader.proofs.Tags.{trim_whole, front_whole, close_at_lem, unquote_is, comment_as, place_value, place_name, place_tag, line_by_lem, tag_placed, no_tag_lem, never, some_inj, bind_some, past_at, TagStands, SplitStands}
+use Rattle.reader.proofs.Tags.{with_comment, trim_whole, front_whole, close_at_lem, unquote_is, comment_as, place_value, place_name, place_tag, line_by_lem, tag_placed, no_tag_lem, never, some_inj, bind_some, past_at, TagStands, SplitStands}
 use Rattle.reader.proofs.Inside.{SplitInsideLine}
 use Rattle.reader.proofs.Counts.{chosen, cut_len}
 use Rattle.reader.proofs.PlainSteps.{Late, closed_late, closed_keeps, HoldsOfRecord}
@@ -53,9 +50,9 @@ abbrev IsFitting : TagPlaces → ℕ → ℕ → Type 0
 IsFitting t more n = t.name.len + t.value.len + more + 5 ≤ n
 
 abbrev TagFits : TagLine → ℕ → Type 0
-TagFits NoTag n = Unit {0}
-TagFits (PlainTag t) n = IsFitting t 0 n
-TagFits (CommentTag t d) n = IsFitting t d.len n
+TagFits None n = Unit {0}
+TagFits (Some (t, None)) n = IsFitting t 0 n
+TagFits (Some (t, Some d)) n = IsFitting t d.len n
 
 fits_comment : (t : List ℕ) (g : TagPlaces) (n d : ℕ) → IsFitting g (length t) n → TagFits (with_comment (comment_as t d) g) n
 fits_comment [] g n d h = h
@@ -108,9 +105,9 @@ fits_bytes f {b} e = by (tag_line f) (tag_fits f) (TagStands f ∙ e)
     cuts t n v h = omega (arith, ap length n, ap length v, cut_len t.name f, cut_len t.value f)
 
     by : (k : TagLine) → TagFits k (length f) → tag_bytes k f ≡ some b → length b.name + length b.value + 5 ≤ length f
-    by NoTag h e = never e
-    by (PlainTag t) h e = cuts t (ap (λ (x : TagBytes). x.name) (some_inj e)) (ap (λ (x : TagBytes). x.value) (some_inj e)) h
-    by (CommentTag t d) h e = cuts t (ap (λ (x : TagBytes). x.name) (some_inj e)) (ap (λ (x : TagBytes). x.value) (some_inj e)) (omega arith)
+    by None h e = never e
+    by (Some (t, None)) h e = cuts t (ap (λ (x : TagBytes). x.name) (some_inj e)) (ap (λ (x : TagBytes). x.value) (some_inj e)) h
+    by (Some (t, Some d)) h e = cuts t (ap (λ (x : TagBytes). x.name) (some_inj e)) (ap (λ (x : TagBytes). x.value) (some_inj e)) (omega arith)
 
 fits_split : (line : List ℕ) {b : SplitBytes} → read_split line ≡ some b → length b.name + length b.value + 5 ≤ length line
 unfolding read_split
@@ -157,16 +154,16 @@ LineFits Bracket n = Unit {0}
 LineFits (Data d) n = Unit {0}
 
 split_fits : (line : List ℕ) (d : Split) → SplitPlaced d (length line) → split_bytes d line ≡ read_split line → LineFits (split_as d) (length line)
-split_fits line NoData i e = tt
-split_fits line (DataTag t d) i e =
+split_fits line None i e = tt
+split_fits line (Some (t, d)) i e =
     let h = fits_split line (sym e) in
     omega (arith, cut_whole t.name line i.0.name_inside, cut_whole t.value line i.0.value_inside)
 
 bracket_fits : (line : List ℕ) (t : TagLine) → TagFits t (length line) → LineFits (bracket_as t line) (length line)
 unfolding split_line
-bracket_fits line NoTag h = split_fits line (split_of line) (SplitInsideLine line) (SplitStands line)
-bracket_fits line (PlainTag t) h = h
-bracket_fits line (CommentTag t d) h = h
+bracket_fits line None h = split_fits line (split_of line) (SplitInsideLine line) (SplitStands line)
+bracket_fits line (Some (t, None)) h = h
+bracket_fits line (Some (t, Some d)) h = h
 
 line_fits : (line : List ℕ) → LineFits (line_kind line) (length line)
 unfolding line_kind bracket_line
@@ -359,13 +356,13 @@ unfolding line_kind bracket_line split_line trim_span
 directive_trims l d e = go (is_blank l) e
   where
     split : (k : Split) → split_as k ≡ Directive d → d.len ≡ length (trimmed l)
-    split NoData e = let z : ◌≡◌ {A = ℕ} 0 1 = cc in absurd (omega arith)
-    split (DataTag t s) e = let z : ◌≡◌ {A = ℕ} 0 1 = cc in absurd (omega arith)
+    split None e = let z : ◌≡◌ {A = ℕ} 0 1 = cc in absurd (omega arith)
+    split (Some (t, s)) e = let z : ◌≡◌ {A = ℕ} 0 1 = cc in absurd (omega arith)
 
     tag : (k : TagLine) → bracket_as k l ≡ Directive d → d.len ≡ length (trimmed l)
-    tag NoTag e = split (split_of l) e
-    tag (PlainTag t) e = let z : ◌≡◌ {A = ℕ} 0 1 = cc in absurd (omega arith)
-    tag (CommentTag t s) e = let z : ◌≡◌ {A = ℕ} 0 1 = cc in absurd (omega arith)
+    tag None e = split (split_of l) e
+    tag (Some (t, None)) e = let z : ◌≡◌ {A = ℕ} 0 1 = cc in absurd (omega arith)
+    tag (Some (t, Some s)) e = let z : ◌≡◌ {A = ℕ} 0 1 = cc in absurd (omega arith)
 
     bracket : (b : Bool) → cond b (bracket_line l) (Data (trim_span l)) ≡ Directive d → d.len ≡ length (trimmed l)
     bracket true e = tag (tag_line l) e

@@ -11,10 +11,8 @@ use lib.Dec.{eqb, ltb}
 use lib.ListN.{length, drop, replicate, length-append, length-map, length-replicate}
 use borrow.Author.Tests.{eqb-true, ne_eqb}
 use Rattle.tables.specs.declared.letters.Conventions.{Conventions}
-use Rattle.tables.specs.declared.numbers.Number.{Number}
-use Rattle.tables.specs.declared.numbers.Number.TheVariants.{Value, Bad}
 use Rattle.tables.specs.Text.{ascii, trimmed, before}
-use Rattle.tables.specs.Numbers.{number_of, decimal}
+use Rattle.tables.specs.Numbers.{Number, number_of, decimal}
 use Rattle.tables.specs.Letters.{strain_token}
 use Rattle.tables.specs.Tables.{digit_byte}
 use Rattle.tables.proofs.Laws.{by_cases}
@@ -35,6 +33,7 @@ use Rattle.writer.specs.Sections.{spaced, end_lines, call_text, rounds, ends_con
 use Rattle.writer.specs.Tags.{WrittenTag, tag_of, or_empty, if_there, seat_text, vulnerability, result_text, first_seat, deal_value, is_named, named, first_value, is_extra, extras_from, until_deal, since_deal, before_deal, from_deal, early_extras, late_extras, dealer_tags, head_tags, table_tags, deal_tags, note_tag, auction_tags, play_tags, written_tags}
 use Rattle.writer.specs.Pages.{own_play}
 use Rattle.writer.proofs.RemarkSizes.{data_size, written_size}
+use Rattle.std.specs.Prelude.{Some, None}
 
 written_append : (ws vs : List WrittenTag) → written_size (ws ++ vs) ≡ written_size ws + written_size vs
 written_append [] vs = omega arith
@@ -146,20 +145,20 @@ abbrev tag_cost : Bool → Number → Option (List ℕ) → ℕ → ℕ → ℕ
 tag_cost a m o zero n = 0
 tag_cost a m o (suc k) n = note_cost (cond (a && is_number n m) o none) + tag_cost a m o k (n + 1)
 
-past_cost : (a : Bool) (v : ℕ) (o : Option (List ℕ)) (k n : ℕ) → v < n → tag_cost a (Value v) o k n ≡ 0
+past_cost : (a : Bool) (v : ℕ) (o : Option (List ℕ)) (k n : ℕ) → v < n → tag_cost a (Some v) o k n ≡ 0
 past_cost a v o zero n h = refl
 past_cost a v o (suc k) n h = rw (ne_eqb v n (λ e. omega (arith, e)), and-false) (omega (arith, past_cost a v o k (n + 1) (omega arith)))
 
 tag_cost_lem : (a : Bool) (m : Number) (o : Option (List ℕ)) (k n : ℕ) → tag_cost a m o k n ≤ note_cost o
 tag_cost_lem a m o zero n = omega arith
-tag_cost_lem a Bad o (suc k) n = rw and-false (omega (arith, tag_cost_lem a Bad o k (n + 1)))
-tag_cost_lem a (Value v) o (suc k) n =
+tag_cost_lem a None o (suc k) n = rw and-false (omega (arith, tag_cost_lem a None o k (n + 1)))
+tag_cost_lem a (Some v) o (suc k) n =
     by_cases (eqb v n)
     (λ e.
     let p = past_cost a v o k (n + 1) (omega (arith, eqb-true v n e)) in
     let f : note_cost (cond (a && eqb v n) o none) ≤ note_cost o = chosen (λ x. note_cost x ≤ note_cost o) (a && eqb v n) o none (λ t. omega arith) (λ t. omega arith) in
     omega arith)
-    (λ e. rw (e, and-false) (omega (arith, tag_cost_lem a (Value v) o k (n + 1))))
+    (λ e. rw (e, and-false) (omega (arith, tag_cost_lem a (Some v) o k (n + 1))))
 
 later_cost : (x y : Option (List ℕ)) → note_cost (later x y) ≤ note_cost x + note_cost y
 later_cost none y = omega arith

@@ -8,79 +8,80 @@ use lib.Dec.{ltb, leb}
 use lib.ListN.{length, replicate}
 use borrow.Author.Tests.{le-leb, lt-leb}
 use native.Mathlib.Nat.{sub-zero}
+use Rattle.std.specs.Prelude.{Ok, Err, is_ok, Result}
 use Rattle.tables.specs.declared.letters.Conventions.{Conventions}
 use Rattle.tables.specs.declared.page.Page.{Page}
-use Rattle.tables.specs.declared.page.Written.{Written as PageWritten}
-use Rattle.tables.specs.declared.page.Written.TheVariants.{Bytes}
-use Rattle.tables.specs.declared.page.Written.TheVariants as paged
 use Rattle.tables.specs.declared.refusal.Refusal.TheVariants as refusal
 use Rattle.tables.specs.Page.{page_of}
 use Rattle.tables.specs.PageSteps.{PageEnded}
 use Rattle.tables.specs.Puts.{Puts}
 use Rattle.tables.proofs.PageLaws.{finished}
 use Rattle.tables.proofs.Laws.{by_cases, clash}
-use Rattle.reader.specs.declared.edition.Reading.TheVariants.{Taken}
-use Rattle.reader.specs.declared.edition.Reading.TheVariants as reading
+use Rattle.reader.specs.declared.edition.Counts.{Counts}
 use Rattle.reader.specs.declared.edition.ReadRefusal.{ReadRefusal}
 use Rattle.reader.specs.Store.{zeros}
-use Rattle.reader.specs.Editions.{reading_of, cards_of, entries_of, is_taken, IsRead}
+use Rattle.reader.specs.Editions.{reading_of, cards_of, entries_of, IsRead}
+use Rattle.writer.specs.declared.write.WriteRefusal.{WriteRefusal}
 use Rattle.writer.specs.declared.write.WriteRefusal.TheVariants.{Edition, PageFull}
-use Rattle.writer.specs.declared.write.Writing.{Writing}
-use Rattle.writer.specs.declared.write.Writing.TheVariants.{Written, Refused}
 use Rattle.writer.specs.Pages.{written_text}
 use Rattle.writer.specs.BoardTexts.{page_held}
-use Rattle.writer.specs.Writings.{page_answer, written_by, writing_of, is_written, page_after, IsWritten}
+use Rattle.writer.specs.Writings.{page_answer, written_by, writing_of, page_after, IsWritten}
 use Rattle.writer.specs.WritingSteps.{PagePut, WritingEnded}
 use Rattle.writer.proofs.HeldBoards.{taken_holds}
 use Rattle.writer.proofs.HeldPages.{PageHeld}
 use Rattle.writer.proofs.Sizes.{BytesFew}
+use Rattle.tables.specs.declared.refusal.Refusal.{Refusal}
+
+abbrev boards_in : Result Counts ReadRefusal → ℕ
+boards_in (Ok n) = n.boards
+boards_in (Err f) = 0
 
 -- A text that is taken: as many boards as cards.
-taken_boards : (c : Conventions) (text : List ℕ) (lc le b e : ℕ) → Taken b e ≡ reading_of c text lc le → b ≡ length (cards_of c text)
+taken_boards : (c : Conventions) (text : List ℕ) (lc le : ℕ) (n : Counts) → Ok n ≡ reading_of c text lc le → n.boards ≡ length (cards_of c text)
 unfolding reading_of
-taken_boards c text lc le b e i =
+taken_boards c text lc le n i =
     by_cases (ltb 16777215 (length text))
-    (λ t. clash (sym (ap is_taken (rw t at i))))
+    (λ t. clash (sym (ap is_ok (rw t at i))))
     (λ t.
     by_cases (ltb (lc / 64) (length (cards_of c text)))
-    (λ u. clash (sym (ap is_taken (rw (t, u) at i))))
+    (λ u. clash (sym (ap is_ok (rw (t, u) at i))))
     (λ u.
     by_cases (ltb (le / 4) (length (entries_of c text)))
-    (λ v. clash (sym (ap is_taken (rw (t, u, v) at i))))
-    (λ v. let w = rw (t, u, v) at i in cc)))
+    (λ v. clash (sym (ap is_ok (rw (t, u, v) at i))))
+    (λ v. ap boards_in (rw (t, u, v) at i))))
 
 -- What was put from the start of lent bytes is put on them.
 pub page_put : {p q : Page} {bytes bytes' bs : List ℕ} → Puts p bs q → p.at ≡ 0 → p.bytes.now ≡ bytes → bytes' ≡ q.bytes.now → PagePut bytes bs bytes' q.at
 page_put a z e f = rw (← e, f) (record { put = λ h. rw z at (a.put (omega (arith, z))); kept = a.kept })
 
 -- What a page of bs comes to, by the answer.
-page_out : (bs : List ℕ) (m : ℕ) → page_of bs m ≡ page_after (is_written (page_answer (length bs) m)) bs m
+page_out : (bs : List ℕ) (m : ℕ) → page_of bs m ≡ page_after (is_ok (page_answer (length bs) m)) bs m
 unfolding page_of
 page_out bs m = by_cases (leb (length bs) m) (λ q. rw q) (λ q. rw q)
 
-out_is : (n m : ℕ) → is_written (page_answer n m) ≡ leb n m
+out_is : (n m : ℕ) → is_ok (page_answer n m) ≡ leb n m
 out_is n m = by_cases (leb n m) (λ q. rw q) (λ q. rw q)
 
 -- The edition was taken, its text put and the page ended.
-pub written_taken : {c : Conventions} {text cards entries page cards₁ entries₁ page₁ cards₂ entries₂ page₂ : List ℕ} {b e n : ℕ} {r : Writing}
-    → IsRead c text cards entries (Taken b e) cards₁ entries₁
-    → PagePut page (page_held c text cards₁ entries₁ b) page₁ n
+pub written_taken : {c : Conventions} {text cards entries page cards₁ entries₁ page₁ cards₂ entries₂ page₂ : List ℕ} {k : Counts} {n : ℕ} {r : Result ℕ WriteRefusal}
+    → IsRead c text cards entries (Ok k) cards₁ entries₁
+    → PagePut page (page_held c text cards₁ entries₁ k.boards) page₁ n
     → WritingEnded n cards₁ entries₁ page₁ r cards₂ entries₂ page₂
     → length cards₁ ≡ length cards → length entries₁ ≡ length entries
     → IsWritten c text cards entries page r cards₂ entries₂ page₂
 unfolding writing_of
-written_taken {c} {text} {cards} {entries} {page} {cards₁} {entries₁} {page₁} {cards₂} {entries₂} {page₂} {b} {e} {n} {r} i p d kc ke =
+written_taken {c} {text} {cards} {entries} {page} {cards₁} {entries₁} {page₁} {cards₂} {entries₂} {page₂} {k} {n} {r} i p d kc ke =
     let t = taken_holds i in
-    let nb = taken_boards c text (length cards) (length entries) b e i.answer in
+    let nb = taken_boards c text (length cards) (length entries) k i.answer in
     let w = rw nb at p in
     let text_put : PagePut page (written_text c text) page₁ n = rw (PageHeld c text cards₁ entries₁ t) at w in
     let few = BytesFew c text t.short in
     let put = text_put.put (omega arith) in
     let en : n ≡ length (written_text c text) = omega (arith, put.next) in
     let el = text_put.kept in
-    let ended : PageEnded n page₁ page₂ (cond (leb n (length page₁)) (Bytes n) (paged.Refused (refusal.PageFull n))) = record { told = refl; page_left = d.page_left } in
+    let ended : PageEnded n page₁ page₂ (cond (leb n (length page₁)) (Ok n) (Err (refusal.PageFull n))) = record { told = refl; page_left = d.page_left } in
     let out : r ≡ page_answer (length (written_text c text)) (length page) = rw (← en, ← el) d.answer in
-    let lent : is_written r ≡ leb n (length page₁) = ap is_written d.answer ∙ out_is n (length page₁) in
+    let lent : is_ok r ≡ leb n (length page₁) = ap is_ok d.answer ∙ out_is n (length page₁) in
     record {
       answer = out ∙ ap (written_by (written_text c text) (length page)) i.answer;
       page_left = (finished put ended).page_left ∙ (page_out (written_text c text) (length page) ∙ rw out);
@@ -90,9 +91,9 @@ written_taken {c} {text} {cards} {entries} {page} {cards₁} {entries₁} {page�
 
 -- The edition was refused.
 pub written_refused : {c : Conventions} {text cards entries page cards₁ entries₁ page₁ : List ℕ} {f : ReadRefusal}
-    → IsRead c text cards entries (reading.Refused f) cards₁ entries₁
+    → IsRead c text cards entries (Err f) cards₁ entries₁
     → page₁ ≡ zeros page
-    → IsWritten c text cards entries page (Refused (Edition f)) cards₁ entries₁ page₁
+    → IsWritten c text cards entries page (Err (Edition f)) cards₁ entries₁ page₁
 unfolding writing_of
 written_refused {c} {text} {cards} {entries} {page} i z =
     record {
@@ -103,19 +104,19 @@ written_refused {c} {text} {cards} {entries} {page} i z =
     }
 
 -- A page of which nothing is kept.
-pub cleared_none : (page page' : List ℕ) (r : PageWritten) → PageEnded 0 page page' r → page' ≡ zeros page
+pub cleared_none : (page page' : List ℕ) (r : Result ℕ Refusal) → PageEnded 0 page page' r → page' ≡ zeros page
 cleared_none page page' r f =
     let z : leb 0 (length page) ≡ true = le-leb 0 (length page) (omega arith) in
     rw z at f.page_left ∙ ap (λ (k : ℕ). replicate k 0) (sub-zero (length page))
 
 -- The answer for n bytes that fit, and for more.
-pub ended_in : {n : ℕ} {cards entries page page' : List ℕ} {w : PageWritten} → n ≤ length page → PageEnded n page page' w → WritingEnded n cards entries page (Written n) cards entries page'
+pub ended_in : {n : ℕ} {cards entries page page' : List ℕ} {w : Result ℕ Refusal} → n ≤ length page → PageEnded n page page' w → WritingEnded n cards entries page (Ok n) cards entries page'
 ended_in {n} {cards} {entries} {page} h f =
     let q = le-leb n (length page) h in
     record { answer = rw q; page_left = f.page_left; cards_after = rw q; entries_after = rw q }
 
 pub ended_out : {n : ℕ} {cards entries page cards' entries' page' : List ℕ} → length page < n → page' ≡ zeros page → cards' ≡ zeros cards → entries' ≡ zeros entries
-    → WritingEnded n cards entries page (Refused (PageFull n)) cards' entries' page'
+    → WritingEnded n cards entries page (Err (PageFull n)) cards' entries' page'
 ended_out {n} {cards} {entries} {page} h x y z =
     let q = lt-leb n (length page) h in
     record { answer = rw q; page_left = rw q x; cards_after = rw q y; entries_after = rw q z }

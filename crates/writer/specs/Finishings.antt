@@ -1,15 +1,11 @@
 -- The answers of finishing, and its contract.
-use Rattle.std.specs.Prelude.{ℕ, ◌+◌, ◌*◌, ◌≡◌, Bool, true, false, cond, List, [], ◌∷◌, eqb, leb, ltb, length}
+use Rattle.std.specs.Result.{result_and}
+use Rattle.std.specs.Prelude.{ℕ, ◌+◌, ◌*◌, ◌≡◌, cond, List, [], ◌∷◌, eqb, leb, ltb, length, Result, Ok, Err, is_ok}
 use Rattle.tables.specs.declared.letters.Conventions.{Conventions}
-use Rattle.planning.specs.declared.editions.Editions.{Editions}
-use Rattle.planning.specs.declared.editions.Editions.TheVariants.{Both}
-use Rattle.planning.specs.declared.editions.Editions.TheVariants as editions
 use Rattle.planning.specs.Slips.{totals_of}
-use Rattle.planning.specs.Plans.{editions_number, editions_carries, edition_refused, Boxes, editions_of, plans_of, BoxesAfter}
+use Rattle.planning.specs.Plans.{editions_number, editions_carries, edition_refused, Boxes, editions_of, plans_of, BoxesAfter, Editions}
 use Rattle.writer.specs.declared.finish.FinishRefusal.{FinishRefusal}
 use Rattle.writer.specs.declared.finish.FinishRefusal.TheVariants.{Edition, Answers, Impossible, PageFull}
-use Rattle.writer.specs.declared.finish.Finishing.{Finishing}
-use Rattle.writer.specs.declared.finish.Finishing.TheVariants.{Finished, Refused}
 use Rattle.writer.specs.Writings.{page_after}
 use Rattle.writer.specs.Given.{finished_text}
 
@@ -43,33 +39,32 @@ first_above [] = 0
 first_above (b ∷ bs) = cond (ltb 13 b) 0 (first_above bs + 1)
 
 -- For n bytes to write on a page of m, the answers let through.
-abbrev pub finished_on : ℕ → ℕ → Finishing
-finished_on n m = cond (leb n m) (Finished n) (Refused (PageFull n))
+abbrev pub finished_on : ℕ → ℕ → Result ℕ FinishRefusal
+finished_on n m = cond (leb n m) (Ok n) (Err (PageFull n))
 
--- For answers, where solve boards are to be solved: 20 bytes a slip, none above 13.
-abbrev pub answered_by : ℕ → List ℕ → Finishing → Finishing
-answered_by solve answers done =
+-- Whether answers are let through, where solve boards are to be solved: 20 bytes a slip, none above 13.
+abbrev pub checked_of : ℕ → List ℕ → Result (Unit {0}) FinishRefusal
+checked_of solve answers =
     cond (eqb (length answers) (20 * solve))
-    (cond (eqb (first_above answers) (length answers)) done (Refused (Impossible (first_above answers))))
-    (Refused (Answers solve))
+    (cond (eqb (first_above answers) (length answers)) (Ok tt) (Err (Impossible (first_above answers))))
+    (Err (Answers solve))
 
-abbrev pub finished_by : Editions → ℕ → List ℕ → Finishing → Finishing
-finished_by (Both m n) solve answers done = answered_by solve answers done
-finished_by (editions.Refused f) solve answers done = Refused (Edition f)
+abbrev pub answered_by : ℕ → List ℕ → Result ℕ FinishRefusal → Result ℕ FinishRefusal
+answered_by solve answers done = result_and (checked_of solve answers) done
+
+abbrev pub finished_by : Editions → ℕ → List ℕ → Result ℕ FinishRefusal → Result ℕ FinishRefusal
+finished_by (Ok n) solve answers done = answered_by solve answers done
+finished_by (Err f) solve answers done = Err (Edition f)
 
 -- For both texts, with these boxes, answers and a page of m bytes lent.
-unfoldable pub finishing_of : Conventions → List ℕ → List ℕ → Boxes → List ℕ → ℕ → Finishing
+unfoldable pub finishing_of : Conventions → List ℕ → List ℕ → Boxes → List ℕ → ℕ → Result ℕ FinishRefusal
 finishing_of c old new boxes answers m =
     finished_by (editions_of c old new boxes) (totals_of (plans_of c old new)).solve answers (finished_on (length (finished_text c old new answers)) m)
-
-abbrev pub is_finished : Finishing → Bool
-is_finished (Finished n) = true
-is_finished (Refused f) = false
 
 -- ---- the contract
 
 -- The contract of finish: the answer, every byte of the page and every word of the boxes. What is not used is zero; after a refusal all is.
-pub record IsFinished (c : Conventions) (old new : List ℕ) (boxes : Boxes) (answers page : List ℕ) (r : Finishing) (boxes' : Boxes) (page' : List ℕ) : Type 0 where
+pub record IsFinished (c : Conventions) (old new : List ℕ) (boxes : Boxes) (answers page : List ℕ) (r : Result ℕ FinishRefusal) (boxes' : Boxes) (page' : List ℕ) : Type 0 where
   pub answer : r ≡ finishing_of c old new boxes answers (length page)
-  pub boxes_left : BoxesAfter c (is_finished r) old new boxes boxes'
-  pub page_left : page' ≡ page_after (is_finished r) (finished_text c old new answers) (length page)
+  pub boxes_left : BoxesAfter c (is_ok r) old new boxes boxes'
+  pub page_left : page' ≡ page_after (is_ok r) (finished_text c old new answers) (length page)

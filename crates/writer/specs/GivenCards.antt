@@ -1,6 +1,6 @@
 -- The cards of the new edition while it is being finished: given cells stand in the words of their board, which are zero where there is no
 -- table, and then the table's kind.
-use Rattle.std.specs.Prelude.{ℕ, ◌+◌, ◌-◌, ◌*◌, ◌≤◌, ◌≡◌, cond, ◌&&◌, not, List, ◌∷◌, ◌++◌, map, eqb, leb, length, get_or, take, drop, replicate}
+use Rattle.std.specs.Prelude.{ℕ, ◌+◌, ◌-◌, ◌*◌, ◌≤◌, ◌≡◌, cond, ◌&&◌, not, List, ◌∷◌, ◌++◌, map, eqb, leb, length, get_or, take, drop, replicate, Result, is_ok}
 use Rattle.tables.specs.declared.letters.Conventions.{Conventions}
 use Rattle.tables.specs.PageSteps.{cleared as ended}
 use Rattle.reader.specs.Store.{flat, zeros}
@@ -11,16 +11,13 @@ use Rattle.planning.specs.PlanSteps.{cards_in, BoxesKept}
 use Rattle.planning.specs.States.{BoardPlan, board_plans}
 use Rattle.planning.specs.Slips.{totals_of}
 use Rattle.planning.specs.Plans.{Boxes}
-use Rattle.writer.specs.declared.finish.FinishRefusal.TheVariants.{Answers, Impossible}
-use Rattle.writer.specs.declared.finish.Checked.{Checked}
-use Rattle.writer.specs.declared.finish.Checked.TheVariants.{Right, Wrong}
-use Rattle.writer.specs.declared.finish.Finishing.{Finishing}
+use Rattle.writer.specs.declared.finish.FinishRefusal.{FinishRefusal}
 use Rattle.writer.specs.Held.{card_part}
 use Rattle.writer.specs.BoardTexts.{page_held}
 use Rattle.writer.specs.Given.{answer_at, table_of}
 use Rattle.writer.specs.Writings.{page_after}
 use Rattle.writer.specs.WritingSteps.{PagePut}
-use Rattle.writer.specs.Finishings.{first_above, finished_on, answered_by, is_finished}
+use Rattle.writer.specs.Finishings.{finished_on, answered_by}
 
 -- A card with other cells, words 18 to 37; with another kind of table, word 38.
 unfoldable pub with_cells : List ℕ → List ℕ → List ℕ
@@ -75,15 +72,8 @@ changed_at f k box = take (64 * k) box ++ (f (card_here k box) ++ drop (64 * k +
 abbrev pub changed_all : (List ℕ → List ℕ) → ℕ → List ℕ → List ℕ
 changed_all f n box = flat (map f (cards_in n box)) ++ drop (64 * n) box
 
--- Whether answers are let through, where solve boards are to be solved.
-unfoldable pub checked_of : ℕ → List ℕ → Checked
-checked_of solve answers =
-    cond (eqb (length answers) (20 * solve))
-    (cond (eqb (first_above answers) (length answers)) Right (Wrong (Impossible (first_above answers))))
-    (Wrong (Answers solve))
-
 -- n bytes were put on the page: zeros behind them, or nothing but zeros, in the boxes too, where they did not fit.
-pub record FinishEnded (n : ℕ) (boxes : Boxes) (page : List ℕ) (r : Finishing) (boxes' : Boxes) (page' : List ℕ) : Type 0 where
+pub record FinishEnded (n : ℕ) (boxes : Boxes) (page : List ℕ) (r : Result ℕ FinishRefusal) (boxes' : Boxes) (page' : List ℕ) : Type 0 where
   pub answer : r ≡ finished_on n (length page)
   pub boxes_left : BoxesKept (leb n (length page)) boxes boxes'
   pub page_left : page' ≡ cond (leb n (length page)) (ended page n) (zeros page)
@@ -119,11 +109,11 @@ cleared_boxes m n boxes answers =
 
 -- The new edition, of n boards, is finished, the old one having m: the answer, the boxes and the page. A page is counted no further than 2 ^ 39
 -- bytes, so that the answer and the page are promised up to there.
-pub record BoardsFinished (c : Conventions) (new : List ℕ) (m n : ℕ) (boxes : Boxes) (answers page : List ℕ) (r : Finishing)
+pub record BoardsFinished (c : Conventions) (new : List ℕ) (m n : ℕ) (boxes : Boxes) (answers page : List ℕ) (r : Result ℕ FinishRefusal)
     (boxes' : Boxes) (page' : List ℕ) : Type 0 where
   pub answer : length (tabled_page c new m n boxes answers) ≤ 549755813888
       → r ≡ answered_by (totals_of (plans_in m n boxes)).solve answers
       (finished_on (length (tabled_page c new m n boxes answers)) (length page))
-  pub boxes_left : BoxesKept (is_finished r) (cleared_boxes m n boxes answers) boxes'
+  pub boxes_left : BoxesKept (is_ok r) (cleared_boxes m n boxes answers) boxes'
   pub page_left : length (tabled_page c new m n boxes answers) ≤ 549755813888
-      → page' ≡ page_after (is_finished r) (tabled_page c new m n boxes answers) (length page)
+      → page' ≡ page_after (is_ok r) (tabled_page c new m n boxes answers) (length page)

@@ -1,7 +1,5 @@
 -- What the functions of writing put, said of the entries of a board as they stand in a row.
-use Rattle.std.specs.Prelude.{ℕ, zero, suc, ◌+◌, ◌-◌, ◌/◌, ◌%◌, ◌≡◌, Bool, true, false, cond, ◌&&◌, ◌||◌, not, List, [], ◌∷◌, ◌++◌, eqb, ltb, leb, length, drop, set, get_or}
-use Rattle.tables.specs.declared.numbers.Number.{Number}
-use Rattle.tables.specs.declared.numbers.Number.TheVariants.{Value, Bad}
+use Rattle.std.specs.Prelude.{ℕ, zero, suc, ◌+◌, ◌-◌, ◌/◌, ◌%◌, ◌≡◌, Bool, true, false, cond, ◌&&◌, ◌||◌, not, List, [], ◌∷◌, ◌++◌, eqb, ltb, leb, length, drop, set, get_or, Some, None}
 use Rattle.tables.specs.declared.letters.Conventions.{Conventions}
 use Rattle.reader.specs.declared.board.Identity.{Identity}
 use Rattle.reader.specs.Words.{same, call_token, card_token}
@@ -9,10 +7,11 @@ use Rattle.reader.specs.Names.{tag_number, note_name}
 use Rattle.reader.specs.Plain.{Item, TagPair, first_bytes, without_returns}
 use Rattle.writer.specs.declared.present.Present.{Present}
 use Rattle.tables.specs.Text.{ascii, trimmed, before}
-use Rattle.tables.specs.Numbers.{number_of, decimal}
+use Rattle.tables.specs.Numbers.{Number, number_of, decimal}
 use Rattle.writer.specs.Tags.{WrittenTag}
 use Rattle.writer.specs.PresentSteps.{is_tag_written, is_any}
 use Rattle.writer.specs.declared.items.Items.{Items}
+use Rattle.writer.specs.declared.notes.Notes.{Notes}
 use Rattle.writer.specs.Held.{entry_word, place_bytes, items_at}
 
 -- ---- entries in a row
@@ -230,10 +229,14 @@ deal_place text entries first count =
 
 -- ---- notes
 
+-- What is said of the notes of an auction: the text and the entries, and the places of their values.
+abbrev pub of_notes : {A : Type 0} → (List ℕ → List ℕ → List ℕ → A) → Notes → A
+of_notes f ns = f ns.items.text.now ns.items.entries.now ns.places
+
 -- A number that was read, 256 where it is none.
 abbrev pub or_none : Number → ℕ
-or_none Bad = 256
-or_none (Value v) = v
+or_none None = 256
+or_none (Some v) = v
 
 -- The number of a note's value, 256 where it has no colon (58) or no number before it.
 unfoldable pub note_number : List ℕ → ℕ

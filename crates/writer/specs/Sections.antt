@@ -1,11 +1,9 @@
 -- The data lines of written sections, and notes. Auctions are PBN 2.1 section 3.5, plays 3.6.
-use Rattle.std.specs.Prelude.{ℕ, zero, suc, ◌+◌, Bool, false, cond, ◌&&◌, List, [], ◌∷◌, ◌++◌, map, eqb, ltb}
+use Rattle.std.specs.Prelude.{ℕ, zero, suc, ◌+◌, Bool, false, cond, ◌&&◌, List, [], ◌∷◌, ◌++◌, map, eqb, ltb, Some, None}
 use Rattle.std.proofs.Math.Option.{Option, none, some}
 use Rattle.tables.specs.declared.letters.Conventions.{Conventions}
-use Rattle.tables.specs.declared.numbers.Number.{Number}
-use Rattle.tables.specs.declared.numbers.Number.TheVariants.{Value, Bad}
 use Rattle.tables.specs.Text.{ascii, trimmed, before}
-use Rattle.tables.specs.Numbers.{number_of, decimal}
+use Rattle.tables.specs.Numbers.{Number, number_of, decimal}
 use Rattle.reader.specs.declared.play.Slots.{Slots}
 use Rattle.reader.specs.Words.{same, call_token, card_token}
 use Rattle.reader.specs.Plain.{TagPair, PlainCall, PlainAuction, PlainTrick, PlainPlay}
@@ -52,8 +50,8 @@ after_colon [] = none
 after_colon (b ∷ bs) = cond (eqb b 58) (some bs) (after_colon bs)
 
 abbrev pub is_number : ℕ → Number → Bool
-is_number n Bad = false
-is_number n (Value v) = eqb v n
+is_number n None = false
+is_number n (Some v) = eqb v n
 
 -- The text of the note n that a tag gives: a Note tag whose bytes before its first colon (58), trimmed, are the number n, from 0 to 255. The
 -- text is all that follows the colon.

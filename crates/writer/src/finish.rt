@@ -3,12 +3,12 @@ ghost use Rattle.std.specs.Prelude.{◌≡◌, false, ◌+◌, ◌*◌, ◌≤�
 ghost use Rattle.tables.specs.Letters.{built_in};
 ghost use Rattle.reader.specs.Store.{zeros};
 ghost use Rattle.planning.specs.PlanSteps.{BoxesKept};
-ghost use Rattle.writer.specs.GivenCards.{marked, given_cleared, changed_at, changed_all, checked_of, FinishEnded, FinishPut, BoardsFinished};
-ghost use Rattle.writer.specs.Finishings.{finish_number, finish_carries, finish_edition, first_above, IsFinished};
+ghost use Rattle.writer.specs.GivenCards.{marked, given_cleared, changed_at, changed_all, FinishEnded, FinishPut, BoardsFinished};
+ghost use Rattle.writer.specs.Finishings.{finish_number, finish_carries, finish_edition, first_above, checked_of, IsFinished};
 
 use crate::give::give_tables;
 use crate::write::{clear, put_edition};
-use planning::cards::{has_table, is_whole};
+use planning::cards::{card_here, has_table, is_whole};
 use planning::editions::{
     Editions, EditionsRefusal, edition_refused, editions_carried, editions_number, read_both,
 };
@@ -24,20 +24,6 @@ pub enum FinishRefusal {
     Answers(u64),
     Impossible(u64),
     PageFull(u64),
-}
-
-// The bytes written, or a refusal, which leaves all that was lent zero.
-#[derive(Clone, Copy)]
-pub enum Finishing {
-    Finished(u64),
-    Refused(FinishRefusal),
-}
-
-// Answers that are let through, or refusal 5 or 6.
-#[derive(Clone, Copy)]
-pub enum Checked {
-    Right,
-    Wrong(FinishRefusal),
 }
 
 pub fn finish_number(f: FinishRefusal) -> u64
@@ -78,8 +64,9 @@ fn mark_card(cards: &mut [u32], k: usize)
     requires { 64 * k + 64 ≤ length cards.old }
     ensures { cards.new ≡ changed_at marked k cards.old }
 {
-    let whole = is_whole(cards, k);
-    let tabled = has_table(cards, k);
+    let card = card_here(cards, k);
+    let whole = is_whole(card);
+    let tabled = has_table(card);
     if whole & !tabled {
         cards[64 * k + 38] = 3;
     }
@@ -126,21 +113,21 @@ fn first_above(answers: &[u8]) -> usize
     }
 }
 
-// Whether the answers are 20 bytes for each board to solve, none above 13.
-fn check_answers(answers: &[u8], solve: usize) -> Checked
+// Lets answers through that are 20 bytes for each board to solve, none above 13.
+fn check_answers(answers: &[u8], solve: usize) -> Result<(), FinishRefusal>
     ensures { result ≡ checked_of solve answers.now }
 {
     if answers.len() % 20 != 0 {
-        return Checked::Wrong(FinishRefusal::Answers(solve as u64));
+        return Err(FinishRefusal::Answers(solve as u64));
     }
     if answers.len() / 20 != solve {
-        return Checked::Wrong(FinishRefusal::Answers(solve as u64));
+        return Err(FinishRefusal::Answers(solve as u64));
     }
     let k = first_above(answers);
     if k != answers.len() {
-        return Checked::Wrong(FinishRefusal::Impossible(k as u64));
+        return Err(FinishRefusal::Impossible(k as u64));
     }
-    Checked::Right
+    Ok(())
 }
 
 // Sets all that was lent to 0.
@@ -160,7 +147,7 @@ fn zero_all(
     clear(page);
 }
 
-// The answer for n bytes; all that was lent is set to 0 where they do not fit.
+// The n bytes put on a page; all that was lent is set to 0 where they do not fit.
 fn end_finishing(
     n: usize,
     old_cards: &mut [u32],
@@ -168,7 +155,7 @@ fn end_finishing(
     new_cards: &mut [u32],
     new_entries: &mut [u32],
     page: &mut [u8],
-) -> Finishing
+) -> Result<u64, FinishRefusal>
     ensures { FinishEnded n
         (record { old_cards = old_cards.old; old_entries = old_entries.old; new_cards = new_cards.old; new_entries = new_entries.old })
         page.old result
@@ -176,11 +163,11 @@ fn end_finishing(
         page.new }
 {
     if n <= page.len() {
-        tables::page::finish(page, n);
-        return Finishing::Finished(n as u64);
+        let _ = tables::page::finish(page, n);
+        return Ok(n as u64);
     }
     zero_all(old_cards, old_entries, new_cards, new_entries, page);
-    Finishing::Refused(FinishRefusal::PageFull(n as u64))
+    Err(FinishRefusal::PageFull(n as u64))
 }
 
 // Puts the page of boards whose cells were given, and takes the given tables away again.
@@ -213,7 +200,7 @@ fn finish_boards(
     news: usize,
     answers: &[u8],
     page: &mut [u8],
-) -> Finishing
+) -> Result<u64, FinishRefusal>
     requires { (64 * olds ≤ length old_cards.old) × (64 * news ≤ length new_cards.old) }
     ensures { BoardsFinished c new.now olds news
         (record { old_cards = old_cards.old; old_entries = old_entries.old; new_cards = new_cards.old; new_entries = new_entries.old })
@@ -223,18 +210,18 @@ fn finish_boards(
 {
     let solve = give_tables(old_cards, olds, new_cards, news, answers);
     match check_answers(answers, solve) {
-        Checked::Right => {
+        Ok(()) => {
             let n = put_finished(new, new_cards, new_entries, c, news, page);
             end_finishing(n, old_cards, old_entries, new_cards, new_entries, page)
         }
-        Checked::Wrong(f) => {
+        Err(f) => {
             zero_all(old_cards, old_entries, new_cards, new_entries, page);
-            Finishing::Refused(f)
+            Err(f)
         }
     }
 }
 
-// Finishes by the given conventions.
+// Finishes by the given conventions. How many bytes; a refusal leaves all that was lent zero.
 pub fn finish_with(
     c: Conventions,
     old: &[u8],
@@ -245,7 +232,7 @@ pub fn finish_with(
     new_entries: &mut [u32],
     answers: &[u8],
     page: &mut [u8],
-) -> Finishing
+) -> Result<u64, FinishRefusal>
     ensures { IsFinished c old.now new.now
         (record { old_cards = old_cards.old; old_entries = old_entries.old; new_cards = new_cards.old; new_entries = new_entries.old })
         answers.now page.old result
@@ -255,7 +242,7 @@ pub fn finish_with(
     match read_both(c, old, new, old_cards, old_entries, new_cards, new_entries) {
         Editions::Refused(f) => {
             clear(page);
-            Finishing::Refused(FinishRefusal::Edition(f))
+            Err(FinishRefusal::Edition(f))
         }
         Editions::Both(olds, news) => finish_boards(
             c,
@@ -282,7 +269,7 @@ pub fn finish(
     new_entries: &mut [u32],
     answers: &[u8],
     page: &mut [u8],
-) -> Finishing
+) -> Result<u64, FinishRefusal>
     ensures { IsFinished built_in old.now new.now
         (record { old_cards = old_cards.old; old_entries = old_entries.old; new_cards = new_cards.old; new_entries = new_entries.old })
         answers.now page.old result

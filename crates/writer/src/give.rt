@@ -1,11 +1,14 @@
 // The cells that each board of the new edition gets: its own, its source board's, or an answer.
 ghost use Rattle.std.specs.Prelude.{◌≡◌, ◌+◌, ◌*◌, ◌≤◌, ◌<◌, ◌^◌, length};
 ghost use Rattle.std.proofs.lemmas.List.Edits.{sets};
+ghost use Rattle.planning.specs.Cards.{card_here};
 ghost use Rattle.planning.specs.PlanSteps.{cards_in, tally};
+ghost use Rattle.planning.specs.States.{state_of};
 ghost use Rattle.writer.specs.Given.{answer_at};
 ghost use Rattle.writer.specs.GivenCards.{cells_at, source_cells, Gave};
 
-use planning::state::{BoardState, state_number, state_of};
+use planning::cards::cards_in;
+use planning::state::{BoardState, state_of};
 use reader::store::copy_in;
 
 // The cells of the card at index k; zeros where there is no such card.
@@ -71,10 +74,24 @@ fn slip_after(slip: usize, s: BoardState) -> usize
     requires { slip ≤ 2 ^ 60 }
     ensures { result ≡ tally 5 s slip }
 {
-    if state_number(s) == 5 {
+    if s.is_solve() {
         return slip + 1;
     }
     slip
+}
+
+// The state of the board at index k of the new edition.
+fn state_here(
+    old_cards: &[u32],
+    olds: usize,
+    new_cards: &[u32],
+    news: usize,
+    k: usize,
+) -> BoardState
+    requires { (64 * olds ≤ length old_cards.now) × (64 * news ≤ length new_cards.now) × (k < news) }
+    ensures { result ≡ state_of (cards_in olds old_cards.now) (cards_in news new_cards.now) (cards_in k new_cards.now) (card_here k new_cards.now) }
+{
+    state_of(cards_in(old_cards, olds), cards_in(new_cards, news), k)
 }
 
 // Gives every board of the new edition its cells, and answers how many are to be solved.
@@ -90,7 +107,7 @@ pub(crate) fn give_tables(
 {
     let mut slip = 0;
     for k in 0..news {
-        let s = state_of(old_cards, olds, new_cards, news, k);
+        let s = state_here(old_cards, olds, new_cards, news, k);
         let cells = source_cells(old_cards, new_cards, k, s, answers, slip);
         put_cells(new_cards, k, cells);
         slip = slip_after(slip, s);

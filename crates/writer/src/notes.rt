@@ -6,14 +6,14 @@ ghost use Rattle.tables.specs.Puts.{Puts};
 ghost use Rattle.reader.specs.Words.{same};
 ghost use Rattle.writer.specs.Sections.{note_values};
 ghost use Rattle.writer.specs.PresentSteps.{is_any};
-ghost use Rattle.writer.specs.Items.{items_of, tag_at, remarks_text, tag_line_text, notes_text, tags_at, note_number, note_number_at, note_places, note_text, has_value, placed_note, takes_value, takes_tag, full_note, all_notes};
+ghost use Rattle.writer.specs.Items.{items_of, of_notes, tag_at, remarks_text, tag_line_text, notes_text, tags_at, note_number, note_number_at, note_places, note_text, has_value, placed_note, takes_value, takes_tag, full_note, all_notes};
 
 use crate::items::{BLOCK, DIRECTIVE, Items, TAG};
 use crate::remarks::{put_remarks, put_under};
 use crate::tags::{put_close, put_open};
-use reader::names::{NOTE, tag_number};
+use reader::names::{TagName, tag_name};
 use reader::words::same;
-use tables::numbers::{Number, parse_number};
+use tables::numbers::parse_number;
 use tables::page::Page;
 use tables::text::{from, index_of, trim, upto};
 
@@ -31,7 +31,7 @@ fn note_number(value: &[u8]) -> Option<u8>
 {
     let k = index_of(value, 58);
     if k < value.len() {
-        let Number::Value(n) = parse_number(trim(upto(value, k)), 255) else {
+        let Some(n) = parse_number(trim(upto(value, k)), 255) else {
             return None;
         };
         return Some(n as u8);
@@ -40,6 +40,7 @@ fn note_number(value: &[u8]) -> Option<u8>
 }
 
 // The number of the note that the entry e names.
+#[tactic(auto, unfolding(crate::specs::Items::note_number_at))]
 fn note_at(items: &Items, e: usize) -> Option<u8>
     requires { e ≤ 8589934592 }
     ensures { MatchOption result
@@ -49,10 +50,10 @@ fn note_at(items: &Items, e: usize) -> Option<u8>
     if items.kind_at(e) != TAG {
         return None;
     }
-    if tag_number(items.bytes_at(e)) != NOTE {
-        return None;
+    match tag_name(items.bytes_at(e)) {
+        Some(TagName::Note) => note_number(items.bytes_at(e + 1)),
+        _ => None,
     }
-    note_number(items.bytes_at(e + 1))
 }
 
 // Whether an auction has notes, given the entries from its calls on.
@@ -117,7 +118,7 @@ fn is_note(items: &Items, n: u8, place: usize, value: &[u8]) -> bool
 
 // Whether the note n is written, and with this value.
 fn is_written_as(notes: &Notes, n: u8, value: &[u8]) -> bool
-    ensures { result ≡ has_value value.now (placed_note notes.now.items.text.now notes.now.items.entries.now notes.now.places n) }
+    ensures { result ≡ has_value value.now (of_notes placed_note notes.now n) }
 {
     let place = notes.places[n as usize];
     if place == 0 {
@@ -128,21 +129,20 @@ fn is_written_as(notes: &Notes, n: u8, value: &[u8]) -> bool
 
 // Whether the note n takes the directives of a Note of this value; fresh says that it is the first.
 fn takes_value(notes: &Notes, n: u8, fresh: bool, value: &[u8]) -> bool
-    ensures { result ≡ takes_value notes.now.items.text.now notes.now.items.entries.now notes.now.places n fresh value.now }
+    ensures { result ≡ of_notes takes_value notes.now n fresh value.now }
 {
     let Some(m) = note_number(value) else {
         return fresh;
     };
-    let written = is_written_as(notes, m, value);
     if m == n {
-        return written | fresh;
+        return fresh || is_written_as(notes, m, value);
     }
-    fresh & !written
+    fresh && !is_written_as(notes, m, value)
 }
 
 // Whether the note n takes the directives of the tag at the entry e.
 fn takes_tag(notes: &Notes, n: u8, fresh: bool, items: &Items, e: usize) -> bool
-    ensures { result ≡ takes_tag notes.now.items.text.now notes.now.items.entries.now notes.now.places n fresh (tag_at items.now e) }
+    ensures { result ≡ of_notes takes_tag notes.now n fresh (tag_at items.now e) }
 {
     if same(b"Note", items.bytes_at(e)) {
         return takes_value(notes, n, fresh, items.value_behind(e));
@@ -152,7 +152,7 @@ fn takes_tag(notes: &Notes, n: u8, fresh: bool, items: &Items, e: usize) -> bool
 
 // The directives that the note n takes.
 fn put_taken(page: &mut Page, notes: &Notes, n: u8, fresh: bool, remarks: &Items)
-    ensures { Puts page.old (remarks_text (takes_tag notes.now.items.text.now notes.now.items.entries.now notes.now.places n fresh) false 3 (items_of remarks.now)) page.new }
+    ensures { Puts page.old (remarks_text (of_notes takes_tag notes.now n fresh) false 3 (items_of remarks.now)) page.new }
 {
     put_remarks(page, remarks, false, DIRECTIVE, |e| {
         takes_tag(notes, n, fresh, remarks, e)
@@ -161,7 +161,7 @@ fn put_taken(page: &mut Page, notes: &Notes, n: u8, fresh: bool, remarks: &Items
 
 // A note, the directives that it takes and, after the first, the blocks.
 fn put_full_note(page: &mut Page, notes: &Notes, n: u8, fresh: bool, remarks: &Items)
-    ensures { Puts page.old (full_note notes.now.items.text.now notes.now.items.entries.now notes.now.places n fresh (items_of remarks.now)) page.new }
+    ensures { Puts page.old (of_notes full_note notes.now n fresh (items_of remarks.now)) page.new }
 {
     put_note(page, &notes.items, n, notes.places[n as usize]);
     put_taken(page, notes, n, fresh, remarks);
@@ -172,7 +172,7 @@ fn put_full_note(page: &mut Page, notes: &Notes, n: u8, fresh: bool, remarks: &I
 
 // The notes that have a place, by rising number, each with what follows it.
 fn put_placed(page: &mut Page, notes: &Notes, remarks: &Items)
-    ensures { Puts page.old (all_notes notes.now.items.text.now notes.now.items.entries.now notes.now.places (items_of remarks.now)) page.new }
+    ensures { Puts page.old (of_notes all_notes notes.now (items_of remarks.now)) page.new }
 {
     let mut fresh = true;
     for n in 0..256 {

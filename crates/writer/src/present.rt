@@ -1,8 +1,9 @@
-// Which tags of a board are written, decided by the numbers of their names.
+// Which tags of a board are written, decided by their names.
 ghost use Rattle.std.specs.Prelude.{◌≡◌};
+ghost use Rattle.reader.specs.Names.{number_of};
 ghost use Rattle.writer.specs.PresentSteps.{is_tag_written};
 
-use reader::names;
+use reader::names::TagName;
 
 // What of a board there is: an id, a dealer, a table, an optimum score, a par contract, an auction, notes of it, a play.
 #[derive(Clone, Copy)]
@@ -17,20 +18,21 @@ pub struct Present {
     pub play: bool,
 }
 
-// Whether a tag is written whose name has the number k.
-pub(crate) fn is_written(p: Present, k: u8) -> bool
-    ensures { result ≡ is_tag_written p k }
+// Whether a tag is written whose name is k.
+#[tactic(auto, unfolding(crate::specs::PresentSteps::is_tag_written))]
+pub(crate) fn is_written(p: Present, k: Option<TagName>) -> bool
+    ensures { result ≡ is_tag_written p (number_of k) }
 {
     match k {
-        names::BOARD => p.board,
-        names::DEALER => p.dealer,
-        names::AUCTION => p.auction,
-        names::PLAY => p.play,
-        names::NOTE => p.notes,
-        names::DOUBLE_DUMMY_TRICKS => p.table,
-        names::OPTIMUM_RESULT_TABLE => false,
-        names::OPTIMUM_SCORE => p.score,
-        names::PAR_CONTRACT => p.par,
+        Some(TagName::Board) => p.board,
+        Some(TagName::Dealer) => p.dealer,
+        Some(TagName::Auction) => p.auction,
+        Some(TagName::Play) => p.play,
+        Some(TagName::Note) => p.notes,
+        Some(TagName::DoubleDummyTricks) => p.table,
+        Some(TagName::OptimumResultTable) => false,
+        Some(TagName::OptimumScore) => p.score,
+        Some(TagName::ParContract) => p.par,
         _ => true,
     }
 }

@@ -6,7 +6,7 @@ ghost use Rattle.writer.specs.Items.{Leading, Under, Unwritten, items_of, tag_at
 
 use crate::items::{BLOCK, DIRECTIVE, Items, TAG};
 use crate::present::{Present, is_written};
-use reader::names::tag_number;
+use reader::names::tag_name;
 use reader::words::same;
 use tables::page::Page;
 use tables::text::byte_at;
@@ -92,7 +92,7 @@ pub(crate) fn put_lost(page: &mut Page, items: &Items, kind: usize, present: Pre
     ensures { Puts page.old (sought_text (Unwritten present) [] kind (items_of items.now)) page.new }
 {
     put_remarks(page, items, false, kind, |e| {
-        !is_written(present, tag_number(items.bytes_at(e)))
+        !is_written(present, tag_name(items.bytes_at(e)))
     });
 }
 

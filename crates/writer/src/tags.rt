@@ -6,7 +6,7 @@ ghost use Rattle.writer.specs.Items.{items_of, tag_line_text, tagged_text, is_ex
 use crate::items::{Items, TAG};
 use crate::names::find_name;
 use crate::remarks::put_after;
-use reader::names::tag_number;
+use reader::names::tag_name;
 use reader::words::same;
 use tables::page::Page;
 
@@ -44,6 +44,7 @@ pub(crate) fn put_tagged(page: &mut Page, remarks: &Items, name: &[u8], value: &
 }
 
 // Whether the entry e names a supplemental tag, other than Scoring, that no entry of the board names before.
+#[tactic(auto, unfolding(crate::specs::Items::is_extra_at))]
 fn is_extra(items: &Items, e: usize) -> bool
     requires { (items.now.first ≤ e) × (e ≤ 8589934592) }
     ensures { result ≡ is_extra_at items.now.text.now items.now.entries.now items.now.first e }
@@ -52,7 +53,7 @@ fn is_extra(items: &Items, e: usize) -> bool
         return false;
     }
     let name = items.bytes_at(e);
-    if tag_number(name) != 0 {
+    if tag_name(name).is_some() {
         return false;
     }
     if same(b"Scoring", name) {

@@ -7,23 +7,16 @@ ghost use Rattle.writer.specs.Writings.{write_number, write_carries, IsWritten};
 ghost use Rattle.writer.specs.WritingSteps.{PagePut, WritingEnded};
 
 use crate::page::put_page;
-use reader::edition::{ReadRefusal, Reading, read_carried, read_number, read_pbn_with};
+use reader::edition::{ReadRefusal, read_carried, read_number, read_pbn_with};
 use reader::store::zero;
 use tables::letters::{Conventions, built_in};
 use tables::page::{Page, finish};
 
 // Refusals 1 to 3 of the edition, and 7 with the bytes needed; specs/Writings.antt gives the numbers.
-#[derive(Clone, Copy)]
+#[derive(Clone, Copy, Debug, PartialEq, Eq)]
 pub enum WriteRefusal {
     Edition(ReadRefusal),
     PageFull(u64),
-}
-
-// The bytes written, or a refusal, which leaves all that was lent zero.
-#[derive(Clone, Copy)]
-pub enum Writing {
-    Written(u64),
-    Refused(WriteRefusal),
 }
 
 pub fn write_number(f: WriteRefusal) -> u64
@@ -48,7 +41,7 @@ pub fn write_carried(f: WriteRefusal) -> u64
 pub fn clear(page: &mut [u8])
     ensures { page.new ≡ zeros page.old }
 {
-    finish(page, 0);
+    let _ = finish(page, 0);
 }
 
 // Puts the page of boards that were just read on lent bytes, and says how many bytes it has.
@@ -67,45 +60,55 @@ pub(crate) fn put_edition(
     page.at
 }
 
-// The answer for n bytes; all that was lent is set to 0 where they do not fit.
-fn end_writing(n: usize, cards: &mut [u32], entries: &mut [u32], page: &mut [u8]) -> Writing
+// The n bytes put on a page; all that was lent is set to 0 where they do not fit.
+fn end_writing(
+    n: usize,
+    cards: &mut [u32],
+    entries: &mut [u32],
+    page: &mut [u8],
+) -> Result<u64, WriteRefusal>
     ensures { WritingEnded n cards.old entries.old page.old result cards.new entries.new page.new }
 {
     if n <= page.len() {
-        finish(page, n);
-        return Writing::Written(n as u64);
+        let _ = finish(page, n);
+        return Ok(n as u64);
     }
     clear(page);
     zero(cards);
     zero(entries);
-    Writing::Refused(WriteRefusal::PageFull(n as u64))
+    Err(WriteRefusal::PageFull(n as u64))
 }
 
-// Reads a text into the lent words and writes it on the page, by the given conventions.
+// Reads a text into the lent words and writes it on the page, by the given conventions. How many bytes; a refusal leaves all that was lent
+// zero.
 pub fn write_pbn_with(
     c: Conventions,
     text: &[u8],
     cards: &mut [u32],
     entries: &mut [u32],
     page: &mut [u8],
-) -> Writing
+) -> Result<u64, WriteRefusal>
     ensures { IsWritten c text.now cards.old entries.old page.old result cards.new entries.new page.new }
 {
-    let reading = read_pbn_with(c, text, cards, entries);
-    match reading {
-        Reading::Taken(boards, _) => {
-            let n = put_edition(text, cards, entries, c, boards as usize, page);
+    match read_pbn_with(c, text, cards, entries) {
+        Ok(counts) => {
+            let n = put_edition(text, cards, entries, c, counts.boards, page);
             end_writing(n, cards, entries, page)
         }
-        Reading::Refused(f) => {
+        Err(f) => {
             clear(page);
-            Writing::Refused(WriteRefusal::Edition(f))
+            Err(WriteRefusal::Edition(f))
         }
     }
 }
 
 // Reads a text into the lent words and writes it on the page.
-pub fn write_pbn(text: &[u8], cards: &mut [u32], entries: &mut [u32], page: &mut [u8]) -> Writing
+pub fn write_pbn(
+    text: &[u8],
+    cards: &mut [u32],
+    entries: &mut [u32],
+    page: &mut [u8],
+) -> Result<u64, WriteRefusal>
     ensures { IsWritten built_in text.now cards.old entries.old page.old result cards.new entries.new page.new }
 {
     write_pbn_with(built_in(), text, cards, entries, page)

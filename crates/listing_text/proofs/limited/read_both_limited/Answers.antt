@@ -1,14 +1,18 @@
 use Rattle.listing_text.proofs.LimitedLaws.{old_long, new_long, both_within}
 use Rattle.listing_text.proofs.limited.read_both_limited.Goals as goal
 
-pub returns-then-limit-old : goal.returns-then-limit-old
-returns-then-limit-old c = old_long c.if-limit-old.true c.zero_boxes.ensures
+pub returns-then-limit-old-clause-read : goal.returns-then-limit-old-clause-read
+returns-then-limit-old-clause-read c = old_long c.if-limit-old.true c.zero.ensures.zeros
 
-pub returns-in_default : goal.returns-in_default
-returns-in_default c = let r = c.read_pbn_with-first in new_long c.if-limit-old.false c.if-limit-new.true r.ensures r.auto.cards r.auto.entries c.zero_boxes-then-limit-new.ensures c.in_default.is
+pub returns-in_default-clause-read : goal.returns-in_default-clause-read
+returns-in_default-clause-read c =
+    let r = c.read_pbn_with-first in
+    new_long c.if-limit-old.false c.if-limit-new.true r.ensures r.auto.cards r.auto.entries c.zero-then-limit-new.ensures.zeros c.in_default.is
 
-pub returns-then-limit-new : goal.returns-then-limit-new
-returns-then-limit-new c = let r = c.read_pbn_with-first in new_long c.if-limit-old.false c.if-limit-new.true r.ensures r.auto.cards r.auto.entries c.zero_boxes-then-limit-new.ensures c.in-Refused.is
+pub returns-then-limit-new-clause-read : goal.returns-then-limit-new-clause-read
+returns-then-limit-new-clause-read c =
+    let r = c.read_pbn_with-first in
+    new_long c.if-limit-old.false c.if-limit-new.true r.ensures r.auto.cards r.auto.entries c.zero-then-limit-new.ensures.zeros c.in-Err.is
 
-pub returns : goal.returns
-returns c = both_within c.if-limit-old.false c.if-limit-new.false c.read_both.ensures
+pub returns-clause-read : goal.returns-clause-read
+returns-clause-read c = both_within c.if-limit-old.false c.if-limit-new.false c.read_both.ensures.read

@@ -1,7 +1,6 @@
 use Prim.Native.Nat.{◌+◌, ◌-◌}
-use native.Mathlib.Omega.{arith}
 use mathlib.Core.Path.{◌≡◌}
-use Rattle.planning.specs.PlanSteps.{cards_in}
+use native.Mathlib.Omega.{arith}
 use Rattle.planning.proofs.BoardLaws.{behind_here, behind_past}
 use Rattle.planning.proofs.behind.behind_at.Goals as goal
 
@@ -10,8 +9,8 @@ returns-then-p-eq0 c = rw c.if-p-eq0.true
 
 pub returns-then-k-news : goal.returns-then-k-news
 returns-then-k-news c = let e : c.args.p ≡ (c.args.p - 1) + 1 = omega (arith, c.if-p-eq0.false) in
-    behind_here (cards_in c.args.olds c.args.old_cards.now) c.args.news (c.args.p - 1) c.args.new_cards.now e c.if-k-news.true c.state_of-s.ensures.0 c.behind_state.ensures
+    behind_here c.args.olds.now c.args.news.now (c.args.p - 1) e c.if-k-news.true c.state_of-s.ensures.0 c.behind_state.ensures
 
 pub returns : goal.returns
 returns c = let e : c.args.p ≡ (c.args.p - 1) + 1 = omega (arith, c.if-p-eq0.false) in
-    behind_past (cards_in c.args.olds c.args.old_cards.now) c.args.news (c.args.p - 1) c.args.new_cards.now e c.if-k-news.false
+    behind_past c.args.olds.now c.args.news.now (c.args.p - 1) e c.if-k-news.false

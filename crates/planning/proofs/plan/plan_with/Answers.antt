@@ -1,14 +1,16 @@
-use Rattle.planning.proofs.AnswerLaws.{there, plan_refused, plan_listed}
+use mathlib.Core.Path.{refl}
+use Rattle.planning.specs.declared.plan.PlanRefusal.TheVariants.{Edition}
+use Rattle.planning.proofs.AnswerLaws.{same_room, passed_on, there, plan_refused, plan_listed}
 use Rattle.planning.proofs.plan.plan_with.Goals as goal
 
-pub put_slips-t-requires : goal.put_slips-t-requires
-put_slips-t-requires c = ((there c.read_both.ensures c.in-Both.is).0.room, (there c.read_both.ensures c.in-Both.is).1.room)
+pub cards-requires : goal.cards-requires
+cards-requires c = let t = there c.read_both.ensures.read c.in_ok-both.was in (t.0.room, t.1.room)
 
-pub returns-in-Refused : goal.returns-in-Refused
-returns-in-Refused c = plan_refused c.read_both.ensures c.in-Refused.is c.zero_numbers.ensures
+pub returns-in_err-both-clause-planned : goal.returns-in_err-both-clause-planned
+returns-in_err-both-clause-planned c =
+    rw (passed_on c.from_residual.result {f = Edition c.in_err-both.field-0.0} c.from_residual.ensures.1) (plan_refused c.read_both.ensures.read c.in_err-both.was refl c.zero_numbers.ensures)
 
-pub returns-in-Both : goal.returns-in-Both
-returns-in-Both c = let b = c.read_both in
-    let p = c.put_slips-t in
-    plan_listed b.ensures c.in-Both.is (record { old_cards = b.auto.old_cards; old_entries = b.auto.old_entries; new_cards = b.auto.new_cards; new_entries = b.auto.new_entries })
-    c.zero_numbers.ensures p.auto.slips p.ensures c.finish_plan.ensures
+pub returns-clause-planned : goal.returns-clause-planned
+returns-clause-planned c =
+    plan_listed c.read_both.ensures.read c.in_ok-both.was c.cards.ensures.0 c.cards.ensures.1 (same_room c.read_both.ensures.same)
+    c.zero_numbers.ensures c.put_slips-t.auto.slips c.put_slips-t.ensures c.finish_plan.ensures.ended

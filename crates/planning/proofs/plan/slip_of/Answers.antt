@@ -1,11 +1,7 @@
-use native.Mathlib.Omega.{arith}
 use mathlib.Core.Path.{ap, ◌∙◌}
 use Rattle.reader.specs.Deals.{hands_of_words}
 use Rattle.planning.specs.Slips.{slip_of}
 use Rattle.planning.proofs.plan.slip_of.Goals as goal
-
-pub overflow_add-result : goal.overflow_add-result
-overflow_add-result c = omega (arith, c.requires)
 
 pub returns : goal.returns
 unfolding slip_of

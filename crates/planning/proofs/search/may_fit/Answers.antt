@@ -1,7 +1,5 @@
-use Rattle.planning.proofs.CardWords.{word_here}
 use Rattle.planning.proofs.SearchLaws.{there_sought}
 use Rattle.planning.specs.PlanSteps.{may_fit}
-use native.Mathlib.Omega.{arith}
 use Rattle.planning.proofs.search.may_fit.Goals as goal
 
 pub returns-then-tabled-has_table : goal.returns-then-tabled-has_table
@@ -13,6 +11,5 @@ returns-then-tabled-has_table c =
 pub returns : goal.returns
 unfolding may_fit
 returns c =
-    let a = c.args in
     let h = c.has_table in
-    rw (← h.ensures, there_sought a.tabled h.result, c.if-tabled-has_table.false, word_here a.k 9 a.cards.now (omega arith))
+    rw (← h.ensures, there_sought c.args.tabled h.result, c.if-tabled-has_table.false)

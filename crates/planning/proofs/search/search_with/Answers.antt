@@ -6,33 +6,24 @@ use Rattle.planning.proofs.search.search_with.Goals as goal
 pub loop-k-init : goal.loop-k-init
 loop-k-init c =
     let a = c.args in
-    (search_first a.tabled a.d.words a.n a.cards.now, omega arith, omega arith)
-
-pub overflow_add-words : goal.overflow_add-words
-overflow_add-words c = omega arith
-
-pub overflow_add-k : goal.overflow_add-k
-overflow_add-k c = omega arith
+    (search_first a.tabled a.d a.cards.now, omega arith)
 
 pub returns-then-tried : goal.returns-then-tried
 returns-then-tried c =
     let l = c.loop-k in
     let a = c.args in
     let t = c.try_board-tried.ensures in
-    (search_found a.tabled a.d.words a.n a.cards.now l.k l.words c.loop-k-test.true t.0 t.1 c.if-tried.true ∙ l.invariant.0, omega arith, omega (arith, t.2, l.invariant.2))
-
-pub loop-k-smaller : goal.loop-k-smaller
-loop-k-smaller c = omega arith
+    (search_found a.tabled a.d a.cards.now l.k l.words c.loop-k-test.true t.0 t.1 c.if-tried.true ∙ l.invariant.0, omega arith, omega (arith, t.2, l.invariant.1))
 
 pub loop-k-preserved : goal.loop-k-preserved
 loop-k-preserved c =
     let l = c.loop-k in
     let a = c.args in
     let t = c.try_board-tried.ensures in
-    (search_past a.tabled a.d.words a.n a.cards.now l.k l.words c.loop-k-test.true t.0 t.1 c.if-tried.false ∙ l.invariant.0, omega arith, omega (arith, t.2, l.invariant.2))
+    (search_past a.tabled a.d a.cards.now l.k l.words c.loop-k-test.true t.0 t.1 c.if-tried.false ∙ l.invariant.0, omega (arith, t.2, l.invariant.1))
 
 pub returns : goal.returns
 returns c =
     let l = c.loop-k in
     let a = c.args in
-    (search_stop a.tabled a.d.words a.n a.cards.now l.k l.words (omega arith) ∙ l.invariant.0, omega arith, omega (arith, l.invariant.2))
+    (search_stop a.tabled a.d a.cards.now l.k l.words (omega arith) ∙ l.invariant.0, omega arith, omega (arith, l.invariant.1))

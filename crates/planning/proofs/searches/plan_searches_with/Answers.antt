@@ -1,16 +1,14 @@
-use Rattle.planning.proofs.AnswerLaws.{there, boards_low, searches_told, searches_none}
+use Rattle.planning.proofs.BoxLaws.{cards_count}
+use Rattle.planning.proofs.AnswerLaws.{there, boards_low, searches_told}
 use Rattle.planning.proofs.searches.plan_searches_with.Goals as goal
+
+pub cards-requires : goal.cards-requires
+cards-requires c = let t = there c.read_both.ensures.read c.in_ok-both.was in (t.0.room, t.1.room)
 
 pub put_searches-words-requires : goal.put_searches-words-requires
 put_searches-words-requires c =
-    let both = c.read_both-editions.ensures in
-    let e = c.in-Both.is in
-    let t = there both e in
-    let l = boards_low both e in
-    (t.0.room, t.1.room, l.0, l.1)
+    let low = boards_low c.read_both.ensures.read c.in_ok-both.was in
+    (rw (c.cards.ensures.0, cards_count) low.0, rw (c.cards.ensures.1, cards_count) low.1)
 
-pub returns-in-Refused : goal.returns-in-Refused
-returns-in-Refused c = searches_none c.read_both-editions.ensures c.in-Refused.is c.zero_numbers.ensures
-
-pub returns-in-Both : goal.returns-in-Both
-returns-in-Both c = searches_told c.read_both-editions.ensures c.in-Both.is c.zero_numbers.ensures c.put_searches-words.ensures
+pub returns-clause-told : goal.returns-clause-told
+returns-clause-told c = searches_told c.read_both.ensures.read c.in_ok-both.was c.cards.ensures.0 c.cards.ensures.1 c.zero_numbers.ensures c.put_searches-words.ensures

@@ -1,4 +1,4 @@
-use Prim.Native.Nat.{◌≤◌, ◌-◌}
+use Prim.Native.Nat.{◌-◌, ◌≤◌}
 use mathlib.Core.Path.{◌≡◌}
 use lib.ListN.{length}
 use Rattle.planning.specs.SlipSteps.{next_of, filled_from}
@@ -8,9 +8,6 @@ use Rattle.planning.proofs.slips.fill_slips.Given as goal
 -- The stores that are left give what all of them are to give.
 abbrev pub invariant-loop-i : goal.invariant-loop-i
 invariant-loop-i l =
-    let next = next_of l.olds l.old_cards l.news l.new_cards in
-    let n = length l.initial.slips in
-    (l.i ≤ n) × (filled_at next l.slips l.i l.k (n - l.i) ≡ filled_from next 0 n)
-
-abbrev pub decreases-loop-i : goal.decreases-loop-i
-decreases-loop-i l = length l.initial.slips - l.i
+    let next = next_of l.olds l.news in
+    let n = length l.fn.slips in
+    (filled_at next l.slips l.i l.k (n - l.i) ≡ filled_from next 0 n) × (l.k ≤ length l.news)

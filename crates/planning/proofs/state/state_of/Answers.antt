@@ -1,6 +1,7 @@
 use Rattle.planning.proofs.StateLaws.{deal_whole, state_blank, state_own, state_old, state_near, state_twin, state_solve}
-use Rattle.planning.specs.Cards.{card_here}
-use Rattle.planning.specs.PlanSteps.{cards_in}
+use lib.ListN.{take}
+use lib.Seq.{length-take-le}
+use Rattle.planning.specs.Slips.{card_from}
 use native.Mathlib.Omega.{arith}
 use mathlib.Core.Path.{sym, ◌∙◌}
 use Rattle.planning.proofs.state.state_of.Goals as goal
@@ -8,53 +9,53 @@ use Rattle.planning.proofs.state.state_of.Goals as goal
 pub returns-then-not-is_whole : goal.returns-then-not-is_whole
 returns-then-not-is_whole c =
     let a = c.args in
-    let card = card_here a.k a.new.now in
-    (state_blank (cards_in a.olds a.old.now) (cards_in a.news a.new.now) (cards_in a.k a.new.now) card (sym c.is_whole.ensures ∙ c.if-not-is_whole.true), omega arith)
+    let card = card_from a.news.now a.k in
+    (state_blank a.olds.now a.news.now (take a.k a.news.now) card (sym c.is_whole.ensures ∙ c.if-not-is_whole.true), omega arith)
 
 pub returns-then-has_table : goal.returns-then-has_table
 returns-then-has_table c =
     let a = c.args in
-    let card = card_here a.k a.new.now in
-    (state_own (cards_in a.olds a.old.now) (cards_in a.news a.new.now) (cards_in a.k a.new.now) card (sym c.is_whole.ensures ∙ c.if-not-is_whole.false) (sym c.has_table.ensures ∙ c.if-has_table.true), omega arith)
+    let card = card_from a.news.now a.k in
+    (state_own a.olds.now a.news.now (take a.k a.news.now) card (sym c.is_whole.ensures ∙ c.if-not-is_whole.false) (sym c.has_table.ensures ∙ c.if-has_table.true), omega arith)
 
 pub first_with-in_old-requires : goal.first_with-in_old-requires
 first_with-in_old-requires c =
     let a = c.args in
-    let card = card_here a.k a.new.now in
-    (omega arith, deal_whole _ card (sym c.is_whole.ensures ∙ c.if-not-is_whole.false) c.deal_at-d.ensures)
+    let card = card_from a.news.now a.k in
+    deal_whole _ card (sym c.is_whole.ensures ∙ c.if-not-is_whole.false) c.deal_at-d.ensures
 
 pub returns-then-in_old-ne0 : goal.returns-then-in_old-ne0
 returns-then-in_old-ne0 c =
     let a = c.args in
-    let card = card_here a.k a.new.now in
-    (state_old (cards_in a.olds a.old.now) (cards_in a.news a.new.now) (cards_in a.k a.new.now) card (sym c.is_whole.ensures ∙ c.if-not-is_whole.false) (sym c.has_table.ensures ∙ c.if-has_table.false) c.deal_at-d.ensures c.first_with-in_old.result c.first_with-in_old.ensures.0 c.if-in_old-ne0.true, omega arith)
+    let card = card_from a.news.now a.k in
+    (state_old a.olds.now a.news.now (take a.k a.news.now) card (sym c.is_whole.ensures ∙ c.if-not-is_whole.false) (sym c.has_table.ensures ∙ c.if-has_table.false) c.deal_at-d.ensures c.first_with-in_old.result c.first_with-in_old.ensures.0 c.if-in_old-ne0.true, omega arith)
 
 pub first_with-in_new-requires : goal.first_with-in_new-requires
 first_with-in_new-requires c =
     let a = c.args in
-    let card = card_here a.k a.new.now in
-    (omega arith, deal_whole _ card (sym c.is_whole.ensures ∙ c.if-not-is_whole.false) c.deal_at-d.ensures)
+    let card = card_from a.news.now a.k in
+    deal_whole _ card (sym c.is_whole.ensures ∙ c.if-not-is_whole.false) c.deal_at-d.ensures
 
 pub returns-then-in_new-ne0 : goal.returns-then-in_new-ne0
 returns-then-in_new-ne0 c =
     let a = c.args in
-    let card = card_here a.k a.new.now in
-    (state_near (cards_in a.olds a.old.now) (cards_in a.news a.new.now) (cards_in a.k a.new.now) card (sym c.is_whole.ensures ∙ c.if-not-is_whole.false) (sym c.has_table.ensures ∙ c.if-has_table.false) c.deal_at-d.ensures c.first_with-in_old.result c.first_with-in_new.result c.first_with-in_old.ensures.0 c.if-in_old-ne0.false c.first_with-in_new.ensures.0 c.if-in_new-ne0.true, omega arith)
+    let card = card_from a.news.now a.k in
+    (state_near a.olds.now a.news.now (take a.k a.news.now) card (sym c.is_whole.ensures ∙ c.if-not-is_whole.false) (sym c.has_table.ensures ∙ c.if-has_table.false) c.deal_at-d.ensures c.first_with-in_old.result c.first_with-in_new.result c.first_with-in_old.ensures.0 c.if-in_old-ne0.false c.first_with-in_new.ensures.0 c.if-in_new-ne0.true, omega arith)
 
 pub first_with-earlier-requires : goal.first_with-earlier-requires
 first_with-earlier-requires c =
     let a = c.args in
-    let card = card_here a.k a.new.now in
-    (omega arith, deal_whole _ card (sym c.is_whole.ensures ∙ c.if-not-is_whole.false) c.deal_at-d.ensures)
+    let card = card_from a.news.now a.k in
+    deal_whole _ card (sym c.is_whole.ensures ∙ c.if-not-is_whole.false) c.deal_at-d.ensures
 
 pub returns-then-earlier-ne0 : goal.returns-then-earlier-ne0
 returns-then-earlier-ne0 c =
     let a = c.args in
-    let card = card_here a.k a.new.now in
-    (state_twin (cards_in a.olds a.old.now) (cards_in a.news a.new.now) (cards_in a.k a.new.now) card (sym c.is_whole.ensures ∙ c.if-not-is_whole.false) (sym c.has_table.ensures ∙ c.if-has_table.false) c.deal_at-d.ensures c.first_with-in_old.result c.first_with-in_new.result c.first_with-earlier.result c.first_with-in_old.ensures.0 c.if-in_old-ne0.false c.first_with-in_new.ensures.0 c.if-in_new-ne0.false c.first_with-earlier.ensures.0 c.if-earlier-ne0.true, omega arith)
+    let card = card_from a.news.now a.k in
+    (state_twin a.olds.now a.news.now (take a.k a.news.now) card (sym c.is_whole.ensures ∙ c.if-not-is_whole.false) (sym c.has_table.ensures ∙ c.if-has_table.false) c.deal_at-d.ensures c.first_with-in_old.result c.first_with-in_new.result c.first_with-earlier.result c.first_with-in_old.ensures.0 c.if-in_old-ne0.false c.first_with-in_new.ensures.0 c.if-in_new-ne0.false c.first_with-earlier.ensures.0 c.if-earlier-ne0.true, omega (arith, length-take-le a.k a.news.now (omega arith)))
 
 pub returns : goal.returns
 returns c =
     let a = c.args in
-    let card = card_here a.k a.new.now in
-    (state_solve (cards_in a.olds a.old.now) (cards_in a.news a.new.now) (cards_in a.k a.new.now) card (sym c.is_whole.ensures ∙ c.if-not-is_whole.false) (sym c.has_table.ensures ∙ c.if-has_table.false) c.deal_at-d.ensures c.first_with-in_old.result c.first_with-in_new.result c.first_with-earlier.result c.first_with-in_old.ensures.0 c.if-in_old-ne0.false c.first_with-in_new.ensures.0 c.if-in_new-ne0.false c.first_with-earlier.ensures.0 c.if-earlier-ne0.false, omega arith)
+    let card = card_from a.news.now a.k in
+    (state_solve a.olds.now a.news.now (take a.k a.news.now) card (sym c.is_whole.ensures ∙ c.if-not-is_whole.false) (sym c.has_table.ensures ∙ c.if-has_table.false) c.deal_at-d.ensures c.first_with-in_old.result c.first_with-in_new.result c.first_with-earlier.result c.first_with-in_old.ensures.0 c.if-in_old-ne0.false c.first_with-in_new.ensures.0 c.if-in_new-ne0.false c.first_with-earlier.ensures.0 c.if-earlier-ne0.false, omega arith)

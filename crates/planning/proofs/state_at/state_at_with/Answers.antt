@@ -1,11 +1,8 @@
-use Rattle.planning.proofs.AnswerLaws.{there, state_told, state_none}
+use Rattle.planning.proofs.AnswerLaws.{there, state_told}
 use Rattle.planning.proofs.state_at.state_at_with.Goals as goal
 
-pub state_in-state-requires : goal.state_in-state-requires
-state_in-state-requires c = ((there c.read_both-editions.ensures c.in-Both.is).0.room, (there c.read_both-editions.ensures c.in-Both.is).1.room)
+pub cards-requires : goal.cards-requires
+cards-requires c = let t = there c.read_both.ensures.read c.in_ok-both.was in (t.0.room, t.1.room)
 
-pub returns-in-Refused : goal.returns-in-Refused
-returns-in-Refused c = state_none c.read_both-editions.ensures c.in-Refused.is
-
-pub returns-in-Both : goal.returns-in-Both
-returns-in-Both c = state_told c.read_both-editions.ensures c.in-Both.is c.state_in-state.ensures
+pub returns-clause-told : goal.returns-clause-told
+returns-clause-told c = state_told c.read_both.ensures.read c.in_ok-both.was c.cards.ensures.0 c.cards.ensures.1 c.state_in.ensures

@@ -18,5 +18,5 @@ returns-in_default c =
 pub returns : goal.returns
 returns c =
     let a = c.args in
-    let e = sym c.read_deal.ensures.0 ∙ c.in-Dealt.is in
-    rw (applied_dealt a.c a.value.now a.place a.b _ e, ← c.parsed_deal-d.ensures)
+    let e = sym c.read_deal.ensures.0 ∙ c.in-Some.is in
+    rw (applied_dealt a.c a.value.now a.place a.b _ e, ← c.parsed_deal-b.ensures)

@@ -1,9 +1,7 @@
-use Prim.Native.Nat.{ℕ, ◌+◌, ◌*◌, ◌≤◌, ◌<◌}
+use Prim.Native.Nat.{◌+◌, ◌*◌, ◌≤◌, ◌<◌}
 use native.Mathlib.Omega.{arith}
 use mathlib.Core.Path.{◌≡◌, refl}
-use mathlib.Core.List.{List}
 use lib.ListN.{length}
-use Rattle.reader.specs.declared.board.Board.{Board}
 use borrow.Author.Tests.{le-leb, lt-leb}
 use Rattle.reader.specs.Store.{put}
 use Rattle.reader.specs.Editions.{card_words, back_words}
@@ -11,21 +9,18 @@ use Rattle.reader.proofs.EditionLaws.{card_put, card_length}
 use borrow.Author.Rules.{rules}
 use Rattle.reader.proofs.edition.put_card.Goals as goal
 
--- The words of the hands are eight, and the cells twenty.
-lengths : (b : Board) (hands cells : List ℕ) → hands ≡ b.deal.words → cells ≡ b.table.cells → length hands ≡ 8 → length cells ≡ 20 → (length b.deal.words ≡ 8) × (length b.table.cells ≡ 20)
-lengths b hands cells e d h k = (rw e at h, rw d at k)
-
 pub returns-then-k-cards : goal.returns-then-k-cards
 unfolding put card_words
 returns-then-k-cards c =
     let a = c.args in
     let h : 64 * a.k + 64 ≤ length a.cards.now = omega (arith, c.if-k-cards.true) in
-    let n = lengths a.b c.hand_words-hands.result c.cell_words-cells.result c.hand_words-hands.ensures c.cell_words-cells.ensures (search rules) (search rules) in (
+    let n : length a.b.deal.words ≡ 8 = search rules in
+    let m : length a.b.table.cells ≡ 20 = search rules in (
       rw (le-leb _ _ h)
           (card_put a.cards.now (64 * a.k) (back_words a.start a.end a.n a.b)
           c.copy_in.ensures c.copy_in-then-k-cards.ensures c.copy_in-then-k-cards-2.ensures c.put_back.ensures
-          c.head_words-head.ensures c.hand_words-hands.ensures c.cell_words-cells.ensures refl n.0 n.1),
-      card_length a.start a.end a.n a.count a.b n.0 n.1,
+          c.head_words-head.ensures refl c.cell_words-cells.ensures refl n m),
+      card_length a.start a.end a.n a.count a.b n m,
     )
 
 pub returns-else-k-cards : goal.returns-else-k-cards
@@ -33,5 +28,4 @@ unfolding put
 returns-else-k-cards c =
     let a = c.args in
     let h : length a.cards.now < 64 * a.k + 64 = omega (arith, c.if-k-cards.false) in
-    let n = lengths a.b c.hand_words-hands.result c.cell_words-cells.result c.hand_words-hands.ensures c.cell_words-cells.ensures (search rules) (search rules) in
-    (rw (lt-leb _ _ h), card_length a.start a.end a.n a.count a.b n.0 n.1)
+    (rw (lt-leb _ _ h), card_length a.start a.end a.n a.count a.b (search rules) (search rules))

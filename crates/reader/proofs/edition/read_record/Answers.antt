@@ -1,26 +1,13 @@
+use borrow.Author.Rules.{rules}
 use Prim.Native.Nat.{◌-◌}
-use native.Mathlib.Omega.{arith}
 use mathlib.Core.Path.{◌≡◌, refl, sym, ◌∙◌}
 use lib.ListN.{take, drop}
-use Rattle.reader.proofs.EditionLaws.{own_length, record_few, record_in}
+use Rattle.reader.proofs.EditionLaws.{own_length, record_in}
 use Rattle.reader.proofs.edition.read_record.Goals as goal
-
-pub read_board-s-requires : goal.read_board-s-requires
-read_board-s-requires c =
-    let o : c.upto-own.result.now ≡ take (c.args.e - c.args.a) (drop c.args.a c.args.text.now) = c.upto-own.ensures ∙ rw c.from.ensures in
-    let l = own_length c.args.text.now c.args.a c.args.e c.requires.0 c.requires.1 in
-    (rw o (omega (arith, l, c.requires.1, c.requires.2)), c.requires.3)
-
-pub overflow_add-result : goal.overflow_add-result
-overflow_add-result c =
-    let o : c.upto-own.result.now ≡ take (c.args.e - c.args.a) (drop c.args.a c.args.text.now) = c.upto-own.ensures ∙ rw c.from.ensures in
-    let l = own_length c.args.text.now c.args.a c.args.e c.requires.0 c.requires.1 in
-    let few = rw o at (record_few c.args.c _ c.read_board-s.ensures.answer) in
-    omega (arith, l, few, c.requires.1, c.requires.2, c.requires.3)
 
 pub returns : goal.returns
 returns c =
     let o : c.upto-own.result.now ≡ take (c.args.e - c.args.a) (drop c.args.a c.args.text.now) = c.upto-own.ensures ∙ rw c.from.ensures in
     let r = c.read_board-s in
-    record_in _ _ _ (sym (own_length c.args.text.now c.args.a c.args.e c.requires.0 c.requires.1))
-    (rw o at r.ensures) c.put_card.ensures refl
+    record_in {l' = r.new.entries} c.args.a c.args.n refl refl refl (search rules) (sym (own_length c.args.text.now c.args.a c.args.e c.requires.0 c.requires.1))
+    (rw o at r.ensures) c.put_card.ensures

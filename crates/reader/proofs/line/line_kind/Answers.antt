@@ -1,37 +1,30 @@
-use Rattle.reader.proofs.LineLaws.{blank_span, kind_by_lem}
-use borrow.Author.Rules.{rules}
-use borrow.Author.Tests.{eq-eqb, ne_eqb}
-use Rattle.reader.specs.Lines.{line_kind}
+use mathlib.Core.Logic.{inl, inr}
+use native.Mathlib.Omega.{arith}
+use borrow.Author.Tests.{ne_eqb}
+use Rattle.std.proofs.Common.{rules}
+use Rattle.reader.proofs.LineLaws.{kind_of_byte}
 use Rattle.reader.proofs.line.line_kind.Goals as goal
 
-pub returns-then-t-eq0 : goal.returns-then-t-eq0
-unfolding line_kind
-returns-then-t-eq0 c =
-    (rw (blank_span, ← c.trim_span-t.ensures.0, eq-eqb _ _ c.if-t-eq0.true), search rules)
-
-pub returns-then-b-eq123 : goal.returns-then-b-eq123
-returns-then-b-eq123 c =
+pub returns-in-123 : goal.returns-in-123
+returns-in-123 c =
     let t = c.trim_span-t in
-    let s = c.args.line.now in
-    (rw (kind_by_lem s c.byte_at-b.result (rw t.ensures.0 at c.byte_at-b.ensures), ← t.ensures.0, ne_eqb _ _ c.if-t-eq0.false, eq-eqb _ _ c.if-b-eq123.true), search rules)
+    (rw (kind_of_byte c.args.line.now _ _ t.ensures.0 c.if-t-eq0.false c.byte_at.ensures, c.in-123.is), search rules)
 
-pub returns-then-b : goal.returns-then-b
-returns-then-b c =
+pub returns-in-59 : goal.returns-in-59
+returns-in-59 c =
     let t = c.trim_span-t in
-    let b = c.byte_at-b in
-    let s = c.args.line.now in
-    (rw (kind_by_lem s b.result (rw t.ensures.0 at b.ensures), ← t.ensures.0, ne_eqb _ _ c.if-t-eq0.false, ne_eqb _ _ c.if-b-eq123.false, c.if-b.true), search rules)
+    elim c.in-59.is [
+      | inl e ↦ (rw (kind_of_byte c.args.line.now _ _ t.ensures.0 c.if-t-eq0.false c.byte_at.ensures, e, ← t.ensures.0), search rules)
+      | inr e ↦ (rw (kind_of_byte c.args.line.now _ _ t.ensures.0 c.if-t-eq0.false c.byte_at.ensures, e, ← t.ensures.0), search rules)
+    ]
 
-pub returns-then-b-eq91 : goal.returns-then-b-eq91
-returns-then-b-eq91 c =
+pub returns-in-91 : goal.returns-in-91
+returns-in-91 c =
     let t = c.trim_span-t in
-    let b = c.byte_at-b in
-    let s = c.args.line.now in
-    (rw (kind_by_lem s b.result (rw t.ensures.0 at b.ensures), ← t.ensures.0, ne_eqb _ _ c.if-t-eq0.false, ne_eqb _ _ c.if-b-eq123.false, c.if-b.false, eq-eqb _ _ c.if-b-eq91.true) c.bracket_line.ensures.0, search rules)
+    (rw (kind_of_byte c.args.line.now _ _ t.ensures.0 c.if-t-eq0.false c.byte_at.ensures, c.in-91.is) c.bracket_line.ensures.0, search rules)
 
-pub returns : goal.returns
-returns c =
+pub returns-in_default : goal.returns-in_default
+returns-in_default c =
     let t = c.trim_span-t in
-    let b = c.byte_at-b in
-    let s = c.args.line.now in
-    (rw (kind_by_lem s b.result (rw t.ensures.0 at b.ensures), ← t.ensures.0, ne_eqb _ _ c.if-t-eq0.false, ne_eqb _ _ c.if-b-eq123.false, c.if-b.false, ne_eqb _ _ c.if-b-eq91.false), search rules)
+    let b = c.byte_at.result in
+    (rw (kind_of_byte c.args.line.now _ _ t.ensures.0 c.if-t-eq0.false c.byte_at.ensures, ne_eqb b 123 (omega arith), ne_eqb b 59 (grind arith), ne_eqb b 37 (grind arith), ne_eqb b 91 (omega arith), ← t.ensures.0), search rules)

@@ -1,13 +1,12 @@
-use Prim.Native.Nat.{◌+◌}
 use Rattle.reader.proofs.PlayLaws.{last_stored, last_none}
 use Rattle.reader.proofs.play.last_trick.Goals as goal
 
-pub returns-then-any : goal.returns-then-any
-returns-then-any c =
+pub returns-then-t : goal.returns-then-t
+returns-then-t c =
     let x = c.args in
-    last_stored x.t x.a (x.base + x.t.count) c.if-any.true c.trick_entry.ensures.0 c.put_entry.ensures c.one_more.ensures
+    last_stored x.t c.if-t.true c.trick_entry.ensures.0 c.push.ensures c.one_more.ensures
 
 pub returns : goal.returns
 returns c =
     let x = c.args in
-    last_none x.t x.a (x.base + x.t.count) c.if-any.false
+    last_none x.t c.if-t.false

@@ -1,26 +1,19 @@
 use native.Mathlib.Omega.{arith}
-use Prim.Native.Nat.{◌+◌}
-use Rattle.reader.proofs.PlayLaws.{open_full, open_same, open_first, next_low}
+use Rattle.reader.proofs.PlayLaws.{open_full, open_same, open_first}
 use Rattle.reader.proofs.play.open_trick.Goals as goal
-
-pub new_trick-requires : goal.new_trick-requires
-new_trick-requires c =
-    let x = c.args in
-    let s = c.requires.1 in
-    next_low x.t.winner x.t.leader c.next_leader.ensures s.leader_low s.winner_low
 
 pub returns-then-t-eq4 : goal.returns-then-t-eq4
 returns-then-t-eq4 c =
     let x = c.args in
-    (open_full x.lead x.t x.a (x.base + x.t.count) c.if-any.true c.if-t-eq4.true c.trick_entry.ensures.0 c.put_entry.ensures c.next_leader.ensures c.new_trick.ensures.0, c.new_trick.ensures.1)
+    (open_full x.lead x.t c.if-t.true c.if-t-eq4.true c.trick_entry.ensures.0 c.push.ensures c.next_leader.ensures c.new_trick.ensures.0, c.new_trick.ensures.1)
 
-pub returns-then-any : goal.returns-then-any
-returns-then-any c =
+pub returns-then-t : goal.returns-then-t
+returns-then-t c =
     let x = c.args in
     let s = c.requires.1 in
-    (open_same x.lead x.t x.a (x.base + x.t.count) c.if-any.true c.if-t-eq4.false, record { seated = s; seat_left = omega (arith, s.seat_low, c.if-t-eq4.false) })
+    (open_same x.lead x.t c.if-t.true c.if-t-eq4.false, record { seated = s; seat_left = omega (arith, s.seat_low, c.if-t-eq4.false) })
 
 pub returns : goal.returns
 returns c =
     let x = c.args in
-    (open_first x.lead x.t x.a (x.base + x.t.count) c.if-any.false c.new_trick-2.ensures.0, c.new_trick-2.ensures.1)
+    (open_first x.lead x.t c.if-t.false c.new_trick-2.ensures.0, c.new_trick-2.ensures.1)

@@ -1,5 +1,4 @@
 use Prim.Native.Nat.{◌+◌, ◌-◌, ◌≤◌}
-use mathlib.Core.Path.{◌≡◌}
 use lib.ListN.{length}
 use Rattle.reader.specs.PieceSteps.{piece}
 use Rattle.reader.specs.Play.{played_token, played_piece}
@@ -9,10 +8,10 @@ use Rattle.reader.proofs.play.play_piece.Given as goal
 
 abbrev pub invariant-loop-i : goal.invariant-loop-i
 invariant-loop-i l = (l.i ≤ length l.s)
-    × AtToken (played_token l.c l.lead l.trump) l.a (l.base + l.initial.w.count) l.initial.entries (played_piece l.c l.lead l.trump l.initial.w (piece l.at l.s)) l.at l.s l.entries l.w (l.base + l.w.count) l.i
+    × AtToken (played_token l.by.c l.by.lead l.by.trump) l.initial.entries (played_piece l.by.c l.by.lead l.by.trump l.initial.w (piece l.at l.s)) l.at l.s l.entries l.w l.i
     × (l.w.count ≤ l.initial.w.count + l.i)
     × Seated l.w
-    × (length l.entries ≡ length l.initial.entries)
+    × (l.entries.count ≤ l.initial.entries.count + l.i)
 
 abbrev pub decreases-loop-i : goal.decreases-loop-i
 decreases-loop-i l = length l.s - l.i

@@ -1,13 +1,12 @@
-use Prim.Native.Nat.{◌+◌}
 use Rattle.reader.proofs.PlayLaws.{play_stopped, play_on}
 use Rattle.reader.proofs.play.play_step.Goals as goal
 
-pub returns-then-stopped : goal.returns-then-stopped
-returns-then-stopped c =
+pub returns-then-t : goal.returns-then-t
+returns-then-t c =
     let x = c.args in
-    (play_stopped x.c x.lead x.trump x.t x.token.now x.a (x.base + x.t.count) c.if-stopped.true, c.requires.1)
+    (play_stopped x.by.c x.by.lead x.by.trump x.t x.token.now c.if-t.true, c.requires.1)
 
 pub returns : goal.returns
 returns c =
     let x = c.args in
-    (play_on x.c x.lead x.trump x.t x.token.now x.a (x.base + x.t.count) c.if-stopped.false c.open_trick.ensures.0 c.play_token.ensures.0, c.play_token.ensures.1)
+    (play_on x.by.c x.by.lead x.by.trump x.t x.token.now c.if-t.false c.open_trick.ensures.0 c.play_token.ensures.0, c.play_token.ensures.1)

@@ -1,25 +1,17 @@
 use Rattle.reader.proofs.ReadingLaws.{block_none, block_some}
-use Rattle.reader.specs.declared.board.State.{State}
 use Rattle.reader.specs.Boards.{is_all_white}
-use native.Mathlib.Omega.{arith}
-use mathlib.Core.Path.{◌≡◌, ap}
+use mathlib.Core.Path.{◌≡◌}
 use mathlib.Core.Bool.{true, false}
 use Rattle.reader.proofs.reading.block_step.Goals as goal
-
-pub counted-requires : goal.counted-requires
-counted-requires c = omega (arith, ap (λ (x : State). x.n) c.with_commentary-next.ensures, c.requires.1)
 
 pub returns-then-all_white : goal.returns-then-all_white
 returns-then-all_white c =
     let a = c.args in
-    let e : is_all_white a.r.now a.i a.j ≡ true = rw (← c.from.ensures, ← c.less-len.ensures, ← c.upto.ensures, ← c.all_white.ensures) c.if-all_white.true in
-    block_none a.r.now a.s _ _ a.i a.j _ _ _ e c.with_commentary-next.ensures c.counted.ensures
-
-pub counted-requires-2 : goal.counted-requires-2
-counted-requires-2 c = omega (arith, ap (λ (x : State). x.n) c.with_commentary-next.ensures, c.requires.1)
+    let e : is_all_white a.r.now a.i a.j ≡ true = rw (← c.from.ensures, ← c.saturating_sub-len.ensures, ← c.upto.ensures, ← c.all_white.ensures) c.if-all_white.true in
+    block_none a.r.now a.s _ _ a.i a.j _ e c.with_commentary-next.ensures c.counted.ensures
 
 pub returns : goal.returns
 returns c =
     let a = c.args in
-    let e : is_all_white a.r.now a.i a.j ≡ false = rw (← c.from.ensures, ← c.less-len.ensures, ← c.upto.ensures, ← c.all_white.ensures) c.if-all_white.false in
-    block_some a.r.now a.s _ _ a.i a.j _ _ _ _ e c.with_commentary-next.ensures c.counted-2.ensures (rw c.less-len.ensures at c.put_entry.ensures)
+    let e : is_all_white a.r.now a.i a.j ≡ false = rw (← c.from.ensures, ← c.saturating_sub-len.ensures, ← c.upto.ensures, ← c.all_white.ensures) c.if-all_white.false in
+    block_some a.r.now a.s _ _ a.i a.j _ _ e c.with_commentary-next.ensures c.counted-2.ensures (rw c.saturating_sub-len.ensures at c.push.ensures)

@@ -7,14 +7,4 @@ pub returns-then-has_brace : goal.returns-then-has_brace
 unfolding in_commentary
 returns-then-has_brace c =
     let e = c.block_step.ensures in
-    (rw (← c.has_brace.ensures, c.if-has_brace.true, ← c.last_brace.ensures.0) e, omega (arith, block_zero _ _ _ _ _ _ _ e))
-
-pub returns : goal.returns
-unfolding in_commentary
-returns c = (
-  record {
-    answer = rw (← c.has_brace.ensures, c.if-has_brace.false);
-    words = rw (← c.has_brace.ensures, c.if-has_brace.false);
-  },
-  c.requires.2,
-)
+    (rw (← c.has_brace.ensures, c.if-has_brace.true, ← c.last_brace.ensures.0) e, omega (arith, block_zero _ _ _ _ _ e))

@@ -1,13 +1,8 @@
-use Rattle.reader.proofs.ReadingLaws.{last_stored, last_kept_lem}
-use borrow.Author.Tests.{eq-eqb, ne_eqb}
+use Rattle.reader.proofs.ReadingLaws.{last_stored}
+use borrow.Author.Tests.{eq-eqb}
 use Rattle.reader.proofs.reading.last_entries.Goals as goal
 
-pub returns-then-kind-eq2 : goal.returns-then-kind-eq2
-returns-then-kind-eq2 c =
+pub returns-then-kind-eq-PLAY : goal.returns-then-kind-eq-PLAY
+returns-then-kind-eq-PLAY c =
     let a = c.args in
-    last_stored a.a a.base a.w a.kind _ _ _ (eq-eqb _ _ c.if-kind-eq2.true) c.last_trick-last.ensures.0 c.last_trick-last.ensures.1
-
-pub returns : goal.returns
-returns c =
-    let a = c.args in
-    last_kept_lem a.a a.base a.w a.kind _ (ne_eqb _ _ c.if-kind-eq2.false)
+    last_stored a.w a.kind _ _ _ (eq-eqb _ _ c.if-kind-eq-PLAY.true) c.last_trick-last.ensures.0 c.last_trick-last.ensures.1

@@ -1,42 +1,32 @@
-use Rattle.reader.proofs.TagStepLaws.{tag_inside, read_plain, read_comment, read_data}
+use Rattle.reader.proofs.TagStepLaws.{read_comment, read_data}
 use Rattle.reader.specs.declared.board.State.{State}
 use Rattle.reader.specs.Boards.{tagged}
 use mathlib.Core.Path.{ap}
-use lib.ListN.{length}
 use native.Mathlib.Omega.{arith}
 use Rattle.reader.proofs.reading.tag_read.Goals as goal
-
-pub tag_step-next-requires : goal.tag_step-next-requires
-tag_step-next-requires c =
-    let a = c.args in
-    let s = c.requires in
-    (s.0, s.1, s.2, s.3, tag_inside a.t (length a.l.now) c.tag_of-tag.ensures s.4, c.split_of-split.ensures.1)
 
 pub directive_step-requires : goal.directive_step-requires
 unfolding tagged
 directive_step-requires c =
     let s = c.requires in
-    let k = rw c.in-WithComment.is at s.4 in
-    (omega (arith, s.0, k.1), omega (arith, s.1, ap (λ (x : State). x.n) c.tag_step-next.ensures.emits.answer))
+    let k = rw c.in-WithComment.is at s.5 in
+    let e = c.tag_step-next.ensures.emits in
+    (omega (arith, s.0, k.1, e.adds.start), omega (arith, s.1, e.adds.count), omega (arith, s.2, ap (λ (x : State). x.n) e.answer))
 
 pub data_step-requires : goal.data_step-requires
 unfolding tagged
 data_step-requires c =
     let s = c.requires in
-    let k = rw c.in-WithData.is at s.4 in
-    (omega (arith, s.0, k.1), omega (arith, s.1, ap (λ (x : State). x.n) c.tag_step-next.ensures.emits.answer))
-
-pub returns-in-Plain : goal.returns-in-Plain
-returns-in-Plain c =
-    let a = c.args in
-    read_plain a.c a.s a.p a.l.now c.in-Plain.is c.tag_of-tag.ensures c.split_of-split.ensures.0 c.tag_step-next.ensures
+    let k = rw c.in-WithData.is at s.5 in
+    let e = c.tag_step-next.ensures.emits in
+    (omega (arith, s.0, k.1, e.adds.start), omega (arith, s.1, e.adds.count), omega (arith, s.2, ap (λ (x : State). x.n) e.answer))
 
 pub returns-in-WithComment : goal.returns-in-WithComment
 returns-in-WithComment c =
     let a = c.args in
-    read_comment a.c a.base a.s a.p a.l.now c.in-WithComment.is c.tag_of-tag.ensures c.split_of-split.ensures.0 c.tag_step-next.ensures c.directive_step.ensures
+    read_comment a.c a.s a.p a.l.now c.in-WithComment.is c.tag_of-tag.ensures c.split_of-split.ensures.0 c.tag_step-next.ensures c.directive_step.ensures
 
 pub returns-in-WithData : goal.returns-in-WithData
 returns-in-WithData c =
     let a = c.args in
-    read_data a.c a.base a.s a.p a.l.now c.in-WithData.is c.tag_of-tag.ensures c.split_of-split.ensures.0 c.tag_step-next.ensures c.data_step.ensures
+    read_data a.c a.s a.p a.l.now c.in-WithData.is c.tag_of-tag.ensures c.split_of-split.ensures.0 c.tag_step-next.ensures c.data_step.ensures

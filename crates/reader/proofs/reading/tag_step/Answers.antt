@@ -2,16 +2,7 @@ use native.Mathlib.Omega.{arith}
 use Rattle.reader.proofs.TagStepLaws.{tag_stepped}
 use Rattle.reader.proofs.reading.tag_step.Goals as goal
 
-pub overflow_add-s : goal.overflow_add-s
-overflow_add-s c = omega (arith, c.requires.1)
-
-pub overflow_add-p : goal.overflow_add-p
-overflow_add-p c = omega (arith, c.requires.0)
-
-pub overflow_add-result : goal.overflow_add-result
-overflow_add-result c = omega (arith, c.requires.1)
-
 pub returns : goal.returns
 returns c =
-    tag_stepped c.args.c c.args.l.now c.args.tag c.args.split c.requires.2 (omega arith) c.requires.5
-    c.put_part.ensures c.put_part-2.ensures c.cut_span.ensures c.tag_number-k.ensures.0 c.cut_span-v.ensures c.apply_tag.ensures c.open_by.ensures.0
+    tag_stepped c.args.c c.args.l.now c.args.tag c.args.split c.requires.3 (omega arith) c.requires.6
+    c.put_part.ensures c.put_part-2.ensures c.cut_span.ensures c.tag_name-k.ensures c.cut_span-v.ensures c.apply_tag.ensures c.open_by.ensures.0

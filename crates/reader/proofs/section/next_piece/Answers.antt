@@ -1,22 +1,13 @@
 use native.Mathlib.Omega.{arith}
 use Rattle.reader.proofs.SectionLaws.{line_at_lem}
-use Rattle.reader.proofs.NextLaws.{seeking, piece_placed, seek_pass, seek_stop, seek_end, seek_piece}
+use Rattle.reader.proofs.NextLaws.{piece_placed, seek_pass, seek_stop, seek_piece}
 use Rattle.reader.proofs.section.next_piece.Goals as goal
-
-pub loop-e-init : goal.loop-e-init
-loop-e-init c = seeking c.args.r.now c.args.at c.requires.0
 
 pub returns-in-Stop : goal.returns-in-Stop
 returns-in-Stop c =
     let a = c.args in
     let v = c.loop-e in
-    rw c.no_piece.ensures (seek_stop a.r.now a.at v.commentary v.e _ v.invariant (line_at_lem c.args.r.now c.loop-e.e c.line_at-l.result.now c.loop-e-test.true c.line_at-l.ensures) (rw (← c.visit_line.ensures) c.in-Stop.is))
-
-pub overflow_add-e : goal.overflow_add-e
-overflow_add-e c = omega (arith, (line_at_lem c.args.r.now c.loop-e.e c.line_at-l.result.now c.loop-e-test.true c.line_at-l.ensures).inside, c.requires.1)
-
-pub loop-e-smaller : goal.loop-e-smaller
-loop-e-smaller c = let l = line_at_lem c.args.r.now c.loop-e.e c.line_at-l.result.now c.loop-e-test.true c.line_at-l.ensures in omega (arith, l.filled, l.inside)
+    seek_stop a.r.now a.at v.commentary v.e _ v.invariant (line_at_lem c.args.r.now c.loop-e.e c.line_at-l.result.now c.loop-e-test.true c.line_at-l.ensures) (rw (← c.visit_line.ensures) c.in-Stop.is)
 
 pub loop-e-preserved : goal.loop-e-preserved
 loop-e-preserved c =
@@ -24,23 +15,14 @@ loop-e-preserved c =
     let v = c.loop-e in
     rw c.commentary_after-commentary.ensures (seek_pass a.r.now a.at v.commentary v.e _ v.invariant (line_at_lem c.args.r.now c.loop-e.e c.line_at-l.result.now c.loop-e-test.true c.line_at-l.ensures) (rw (← c.visit_line.ensures) c.in-Pass.is))
 
-pub overflow_add-result : goal.overflow_add-result
-overflow_add-result c =
+pub overflow_add-piece : goal.overflow_add-piece
+overflow_add-piece c =
     let v = c.loop-e in
     let h = piece_placed v.commentary c.line_at-l.result.now c.in-Piece.s (rw (← c.visit_line.ensures) c.in-Piece.is) in
     omega (arith, (line_at_lem c.args.r.now c.loop-e.e c.line_at-l.result.now c.loop-e-test.true c.line_at-l.ensures).inside, c.requires.1, h)
-
-pub overflow_add-result-in-Piece : goal.overflow_add-result-in-Piece
-overflow_add-result-in-Piece c = omega (arith, (line_at_lem c.args.r.now c.loop-e.e c.line_at-l.result.now c.loop-e-test.true c.line_at-l.ensures).inside, c.requires.1)
 
 pub returns-in-Piece : goal.returns-in-Piece
 returns-in-Piece c =
     let a = c.args in
     let v = c.loop-e in
     seek_piece a.r.now a.at v.commentary v.e _ c.in-Piece.s v.invariant (line_at_lem c.args.r.now c.loop-e.e c.line_at-l.result.now c.loop-e-test.true c.line_at-l.ensures) (rw (← c.visit_line.ensures) c.in-Piece.is)
-
-pub returns : goal.returns
-returns c =
-    let a = c.args in
-    let v = c.loop-e in
-    rw c.no_piece-2.ensures (seek_end a.r.now a.at v.commentary v.e v.invariant c.loop-e-test.false)

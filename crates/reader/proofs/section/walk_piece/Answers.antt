@@ -1,28 +1,21 @@
-use Prim.Native.Nat.{◌+◌}
 use lib.ListN.{length}
-use native.Mathlib.Omega.{arith}
 use Rattle.reader.specs.PieceSteps.{piece}
-use Rattle.reader.specs.SectionSteps.{walk_count}
 use Rattle.reader.proofs.WalkLaws.{piece_called, piece_played, piece_row}
 use Rattle.reader.proofs.section.walk_piece.Goals as goal
 
-pub returns-then-o-eq1 : goal.returns-then-o-eq1
-returns-then-o-eq1 c =
+pub returns-then-o-eq-AUCTION : goal.returns-then-o-eq-AUCTION
+returns-then-o-eq-AUCTION c =
     let a = c.args in
     let e = c.call_piece-bid.ensures in
-    piece_called a.c a.o a.trump a.w (piece a.at a.s.now) a.a a.base (length a.s.now) _ _ _ c.if-o-eq1.true e.0 e.1 c.requires.0
+    piece_called a.c a.o a.trump a.w (piece a.at a.s.now) (length a.s.now) _ _ _ c.if-o-eq-AUCTION.true e.0 e.1 c.requires.0
 
-pub play_piece-played-requires : goal.play_piece-played-requires
-play_piece-played-requires c =
-    (c.requires.3 c.if-o-eq2.true, c.requires.0, c.requires.1, omega (arith, c.requires.2))
-
-pub returns-then-o-eq2 : goal.returns-then-o-eq2
-returns-then-o-eq2 c =
+pub returns-then-o-eq-PLAY : goal.returns-then-o-eq-PLAY
+returns-then-o-eq-PLAY c =
     let a = c.args in
     let e = c.play_piece-played.ensures in
-    piece_played a.c a.o a.trump a.w (piece a.at a.s.now) a.a a.base (length a.s.now) _ _ _ c.if-o-eq1.false c.if-o-eq2.true e.0 e.2 e.1
+    piece_played a.c a.o a.trump a.w (piece a.at a.s.now) (length a.s.now) _ _ _ c.if-o-eq-AUCTION.false c.if-o-eq-PLAY.true e.0 e.2 e.1
 
 pub returns : goal.returns
 returns c =
     let a = c.args in
-    piece_row a.c a.o a.trump a.w (piece a.at a.s.now) a.a (a.base + walk_count a.w) (length a.s.now) _ _ c.if-o-eq1.false c.if-o-eq2.false c.walk_row.ensures c.requires.0
+    piece_row a.c a.o a.trump a.w (piece a.at a.s.now) (length a.s.now) _ _ c.if-o-eq-AUCTION.false c.if-o-eq-PLAY.false c.walk_row.ensures c.requires.0

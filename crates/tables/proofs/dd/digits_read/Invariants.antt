@@ -1,10 +1,6 @@
 -- The invariant is Decoding: the first `i` characters are digits, and their values stand in the table.
-use Prim.Native.Nat.{◌-◌}
 use Rattle.tables.proofs.TableLaws.{Decoding}
 use Rattle.tables.proofs.dd.digits_read.Given as goal
 
 abbrev pub invariant-loop-i : goal.invariant-loop-i
 invariant-loop-i l = Decoding l.value l.table l.i
-
-abbrev pub decreases-loop-i : goal.decreases-loop-i
-decreases-loop-i l = 20 - l.i

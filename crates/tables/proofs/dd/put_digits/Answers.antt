@@ -1,23 +1,15 @@
 use mathlib.Core.List.{◌∷◌, []}
-use native.Mathlib.Omega.{arith}
-use lib.ListN.{length-map, length-drop}
 use Rattle.tables.proofs.Laws.{step, stop}
-use Rattle.tables.proofs.PageLaws.{to_put, putting, put_all_lem}
+use Rattle.tables.proofs.PutsLaws.{puts_first, puts_next, puts_all}
 use Rattle.tables.proofs.dd.put_digits.Goals as goal
 
-pub loop-i-init : goal.loop-i-init
-loop-i-init c = (omega arith, to_put _ _ _)
+pub loop-tricks-init : goal.loop-tricks-init
+loop-tricks-init c = puts_first _ _
 
-pub put_byte-k-requires : goal.put_byte-k-requires
-put_byte-k-requires c = omega (arith, simp (length-map, length-drop) at c.loop-i.invariant.1.next)
-
-pub loop-i-preserved : goal.loop-i-preserved
-loop-i-preserved c =
-    let l = c.loop-i in
-    (omega arith, putting (_ ∷ []) _ (rw (step _ _ c.loop-i-test.true) at l.invariant.1) (rw c.encode_tricks.ensures at c.put_byte-k.ensures))
-
-pub shape_of-page : goal.shape_of-page
-shape_of-page c = c.loop-i.invariant.1.kept
+pub loop-tricks-preserved : goal.loop-tricks-preserved
+loop-tricks-preserved c =
+    let l = c.loop-tricks in
+    puts_next (_ ∷ []) _ (rw (step _ _ c.loop-tricks-test.true) at l.invariant) (rw c.encode_tricks.ensures at c.put_byte.ensures)
 
 pub returns : goal.returns
-returns c = put_all_lem (rw (stop _ _ c.loop-i-test.false) at c.loop-i.invariant.1)
+returns c = puts_all (rw (stop _ _ c.loop-tricks-test.false) at c.loop-tricks.invariant)

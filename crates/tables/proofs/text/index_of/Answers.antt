@@ -1,6 +1,8 @@
 use Prim.Native.Nat.{◌+◌}
-use mathlib.Core.Path.{◌∙◌, sym}
+use mathlib.Core.Path.{sym}
 use native.Mathlib.Omega.{arith}
+use lib.ListN.{length-drop}
+use Rattle.tables.proofs.Laws.{rest}
 use Rattle.tables.proofs.TextLaws.{sought_here, sought_next}
 use Rattle.tables.proofs.text.index_of.Goals as goal
 
@@ -33,4 +35,9 @@ loop-i-preserved c =
     (sought_next a.x a.s.now (c.loop-i.i + 3) (c.loop-i.i + 4) (omega arith) (omega (arith, c.loop-i-test.true)) c.if-s-i-4.false (sought_next a.x a.s.now (c.loop-i.i + 2) (c.loop-i.i + 3) (omega arith) (omega (arith, c.loop-i-test.true)) c.if-s-i-3.false (sought_next a.x a.s.now (c.loop-i.i + 1) (c.loop-i.i + 2) (omega arith) (omega (arith, c.loop-i-test.true)) c.if-s-i-2.false (sought_next a.x a.s.now c.loop-i.i (c.loop-i.i + 1) (omega arith) (omega (arith, c.loop-i-test.true)) c.if-s-i.false c.loop-i.invariant.0))), omega (arith, c.loop-i-test.true))
 
 pub returns : goal.returns
-returns c = (c.index_from.ensures.0 ∙ sym c.loop-i.invariant.0, c.index_from.ensures.1)
+returns c =
+    let s = c.args.s.now in
+    let i = c.loop-i.i in
+    let e = rw (rest s i) at c.bytes_before.ensures.0 in
+    let f = rw (rest s i, length-drop i s) at c.bytes_before.ensures.1 in
+    (rw e (sym c.loop-i.invariant.0), omega (arith, f, c.loop-i.invariant.1))

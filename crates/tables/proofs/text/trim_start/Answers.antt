@@ -5,5 +5,5 @@ use Rattle.tables.proofs.text.trim_start.Goals as goal
 
 pub returns : goal.returns
 returns c =
-    let r = c.lead_len-a in
+    let r = c.lead_len in
     rw (rest _ r.result, r.ensures.0, drop_front is_white)

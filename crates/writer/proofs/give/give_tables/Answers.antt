@@ -8,8 +8,8 @@ loop-k-init c =
     let a = c.args in
     giving_first (cards_in a.olds a.old_cards.now) a.news a.new_cards.now a.answers.now
 
-pub state_of-s-requires : goal.state_of-s-requires
-state_of-s-requires c = (
+pub state_here-s-requires : goal.state_here-s-requires
+state_here-s-requires c = (
   c.requires.0,
   omega (arith, c.requires.1, c.loop-k.invariant.box_length),
   c.loop-k-test.true,
@@ -26,7 +26,7 @@ slip_after-slip-requires c =
 pub loop-k-preserved : goal.loop-k-preserved
 loop-k-preserved c =
     let a = c.args in
-    giving_next a.olds a.old_cards.now a.news a.new_cards.now a.answers.now c.requires.0 c.requires.1 c.loop-k.invariant c.loop-k-test.true c.state_of-s.ensures.0 c.source_cells-cells.ensures c.put_cells.ensures c.slip_after-slip.ensures
+    giving_next a.olds a.old_cards.now a.news a.new_cards.now a.answers.now c.requires.0 c.requires.1 c.loop-k.invariant c.loop-k-test.true c.state_here-s.ensures c.source_cells-cells.ensures c.put_cells.ensures c.slip_after-slip.ensures
 
 pub returns : goal.returns
 returns c =

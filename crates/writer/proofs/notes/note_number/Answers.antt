@@ -10,7 +10,7 @@ returns-in_default c =
 
 pub returns-then-k-value : goal.returns-then-k-value
 returns-then-k-value c =
-    (number_of_lem c.args.value.now c.upto.result.now c.trim.result.now c.index_of-k.result c.parse_number.result c.index_of-k.ensures.0 c.if-k-value.true c.upto.ensures c.trim.ensures c.parse_number.ensures.0 ∙ ap or_none c.in-Value.is, omega (arith, rw c.in-Value.is at c.parse_number.ensures.1))
+    (number_of_lem c.args.value.now c.upto.result.now c.trim.result.now c.index_of-k.result c.parse_number.result c.index_of-k.ensures.0 c.if-k-value.true c.upto.ensures c.trim.ensures c.parse_number.ensures.0 ∙ ap or_none c.in-Some.is, omega (arith, rw c.in-Some.is at c.parse_number.ensures.1))
 
 pub returns : goal.returns
 returns c =
