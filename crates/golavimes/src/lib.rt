@@ -49,7 +49,7 @@ fn written_numbers(written: Result<u64, Refusal>) -> [u64; 4]
     ensures { result ≡ written_numbers written }
 {
     match written {
-        Ok(bytes) => [0, 0, 0, bytes],
+        Ok(length) => [0, 0, 0, length],
         Err(f) => [f.number(), 0, f.carried(), 0],
     }
 }

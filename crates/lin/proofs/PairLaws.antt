@@ -265,7 +265,7 @@ first_text s t n h e k =
 pub next_is : (s : Pairs) (p : PairAt) (t : Pairs)
     → (let text = s.text.now in let rest = drop s.at text in let bar = length (before 124 rest) in let back = drop (bar + 1) rest in
     bar < length rest
-    → p.command ≡ command_of (take bar rest)
+    → p.command ≡ command_of (before 124 rest)
     → p.value.now ≡ before 124 back
     → p.end ≡ s.at + bar + 1 + length (before 124 back) + 1
     → t.text ≡ s.text
@@ -281,14 +281,13 @@ next_is s p t h k v e same place =
     let few = front_few (differs 124) back in
     let far : at + (bar + 1 + (n + 1)) ≡ p.end = omega (arith, e) in
     let next : drop p.end text ≡ drop (n + 1) back = sym (drop-drop (n + 1) (bar + 1) rest ∙ drop-drop (bar + 1 + (n + 1)) at text ∙ ap (λ (i : ℕ). drop i text) far) in
-    let name : p.command ≡ command_of (before 124 rest) = k ∙ ap command_of (take_front (differs 124) rest) in
     let whole = length-drop at text in
     let most = length-drop (bar + 1) rest in
     let wide : p.end - at ≡ bar + 1 + n + 1 = omega (arith, e) in
     let first = first_text rest back (p.end - at) h refl wide in
     record {
-      pairs_are = rw (v, place, same, next, name) (pairs_some rest h);
-      alone = rw (v, name) first.alone;
+      pairs_are = rw (v, place, same, next, k) (pairs_some rest h);
+      alone = rw (v, k) first.alone;
       sealed = λ l. first.sealed (omega (arith, e, l, h, whole, most));
       same_text = same;
       place = place;

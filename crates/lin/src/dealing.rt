@@ -3,12 +3,13 @@ ghost use Rattle.std.specs.Prelude.{◌≡◌, ◌≤◌, ◌<◌, ◌^◌, IfSo
 ghost use Rattle.tables.specs.Text.{starts};
 ghost use Rattle.reader.specs.Deals.{InDeck};
 ghost use Rattle.lin.specs.Dealing.{dealer_of, hand_of};
-ghost use Rattle.lin.specs.DealingSteps.{SoundPart, card_to, letter_step, IsSoundStep, hand_run, hand_read, IsSoundHand, field_first, fields_behind, hands_dealt, fields_dealt, told_in};
+ghost use Rattle.lin.specs.DealingSteps.{SoundPart, card_to, letter_step, IsSoundStep, hand_run, hand_read, IsSoundHand, hands_dealt, fields_dealt, told_in};
 
+use crate::pairs::cut;
 use reader::deal::{Hands, holds, power};
 use reader::words::card_number;
 use tables::letters::{Conventions, rank_of, suit_of};
-use tables::text::{first_character, from, index_of, is_inside, trim, upto};
+use tables::text::{first_character, from, is_inside, trim};
 
 // All 52 cards.
 const DECK: u64 = 4503599627370495;
@@ -71,11 +72,13 @@ fn hand_step(c: Conventions, h: LinPart, b: u8) -> Option<LinPart>
     requires { SoundPart h × (h.count < 2 ^ 63) }
     ensures { (result ≡ letter_step c h b) × IsSoundStep h result }
 {
-    let suit = suit_of(c, b);
-    if suit < 4 {
+    if let Some(suit) = suit_of(c, b) {
         return Some(LinPart { suit, ..h });
     }
-    let Some(k) = card_number(h.suit, rank_of(c, b)) else {
+    let Some(rank) = rank_of(c, b) else {
+        return Some(h);
+    };
+    let Some(k) = card_number(h.suit, rank) else {
         return Some(h);
     };
     card_to(h, k)
@@ -118,18 +121,6 @@ fn read_hand(c: Conventions, seen: u64, field: &[u8]) -> Option<LinHand>
     hand_rest(c, h, from(field, 1))
 }
 
-fn first_field(s: &[u8]) -> &[u8]
-    ensures { result.now ≡ field_first s.now }
-{
-    upto(s, index_of(s, 44))
-}
-
-fn next_fields(s: &[u8]) -> &[u8]
-    ensures { result.now ≡ fields_behind s.now }
-{
-    from(s, index_of(s, 44) + 1)
-}
-
 // The hands of four fields, S, W, N, E. East's may be all the cards that the others do not hold.
 fn read_hands(c: Conventions, s: &[u8], w: &[u8], n: &[u8], e: &[u8]) -> Option<Hands>
     ensures { (result ≡ hands_dealt c s.now w.now n.now e.now) × IfSome result InDeck }
@@ -164,16 +155,11 @@ fn read_hands(c: Conventions, s: &[u8], w: &[u8], n: &[u8], e: &[u8]) -> Option<
 fn read_deal(c: Conventions, s: &[u8]) -> Option<Hands>
     ensures { (result ≡ fields_dealt c s.now) × IfSome result InDeck }
 {
-    let t = next_fields(s);
-    let u = next_fields(t);
-    let v = next_fields(u);
-    read_hands(
-        c,
-        first_field(s),
-        first_field(t),
-        first_field(u),
-        first_field(v),
-    )
+    let (south, others) = cut(s, b',');
+    let (west, others) = cut(others, b',');
+    let (north, others) = cut(others, b',');
+    let (east, _) = cut(others, b',');
+    read_hands(c, south, west, north, east)
 }
 
 // What an md value, trimmed, leaves of the md in force.

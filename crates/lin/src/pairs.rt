@@ -1,5 +1,6 @@
 // The pairs of a text, `command|value|`.
-ghost use Rattle.std.specs.Prelude.{◌≡◌};
+ghost use Rattle.std.specs.Prelude.{◌≡◌, ◌+◌, length, drop};
+ghost use Rattle.tables.specs.Text.{before};
 ghost use Rattle.lin.specs.Pairs.{command_of, pairs_of, has_pair};
 ghost use Rattle.lin.specs.PairSteps.{two_same, command_two, NextIs, pairs_room, pairs_left};
 
@@ -31,6 +32,15 @@ pub(crate) struct PairAt<'a> {
 pub(crate) struct Pairs<'a> {
     pub text: &'a [u8],
     pub at: usize,
+}
+
+// What stands before the first x, and what stands behind it.
+pub(crate) fn cut(s: &[u8], x: u8) -> (&[u8], &[u8])
+    ensures front { result.0.now ≡ before x s.now }
+    ensures behind { result.1.now ≡ drop (length (before x s.now) + 1) s.now }
+{
+    let n = index_of(s, x);
+    (upto(s, n), from(s, n + 1))
 }
 
 // The letters a and b, in either case, are the word of the capitals x and y.
@@ -86,12 +96,11 @@ impl<'a> Iterator for Pairs<'a> {
 
     fn next(&mut self) -> Option<PairAt<'a>> {
         let rest = from(self.text, self.at);
-        let bar = index_of(rest, b'|');
-        if bar < rest.len() {
-            let behind = from(rest, bar + 1);
-            let value = upto(behind, index_of(behind, b'|'));
-            let command = command_of(upto(rest, bar));
-            let end = self.at + bar + 1 + value.len() + 1;
+        let (name, behind) = cut(rest, b'|');
+        if name.len() < rest.len() {
+            let (value, _) = cut(behind, b'|');
+            let command = command_of(name);
+            let end = self.at + name.len() + 1 + value.len() + 1;
             self.at = end;
             return Some(PairAt {
                 command,

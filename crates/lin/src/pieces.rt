@@ -7,12 +7,12 @@ ghost use Rattle.lin.specs.Pieces.{split, with_deal, line_pieces, board_pieces};
 ghost use Rattle.lin.specs.PieceSteps.{NextLine, lines_room, no_progress, above_text, any_bits, Goes, GoesIf, GoesAll};
 
 use crate::board::put_board;
-use crate::pairs::{Command, has_pair, pairs_in};
+use crate::pairs::{Command, cut, has_pair, pairs_in};
 use crate::survey::survey_of;
 use reader::deal::Hands;
 use tables::letters::Conventions;
 use tables::page::Page;
-use tables::text::{from, index_of, trim, upto};
+use tables::text::{from, trim, upto};
 
 // How far the page has come: the boards, which all make deals, and whether one of them has a card.
 #[derive(Clone, Copy)]
@@ -91,8 +91,8 @@ impl<'a> Iterator for Lines<'a> {
 
     fn next(&mut self) -> Option<&'a [u8]> {
         if self.rest.len() > 0 {
-            let line = upto(self.rest, index_of(self.rest, b'\n'));
-            self.rest = from(self.rest, line.len() + 1);
+            let (line, rest) = cut(self.rest, b'\n');
+            self.rest = rest;
             return Some(line);
         }
         None

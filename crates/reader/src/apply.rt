@@ -22,7 +22,7 @@ use tables::text::{first_character, trim};
 fn seat_in(c: Conventions, value: &[u8]) -> usize
     ensures { (result ≡ seat_of c (first_character value.now)) × (result ≤ 4) }
 {
-    seat_of(c, first_character(value)) as usize
+    usize::from(seat_of(c, first_character(value)).unwrap_or(4))
 }
 
 fn with_number(mut i: Identity, n: Option<u32>) -> Identity

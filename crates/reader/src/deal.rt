@@ -45,10 +45,7 @@ fn add_card(c: Conventions, x: u64, s: u8, b: u8) -> Option<u64>
     requires { (x < 2 ^ 52) × (s ≤ 3) }
     ensures { (result ≡ add_card c x s b) × IsGrown x result }
 {
-    let k = rank_of(c, b);
-    if k == 13 {
-        return None;
-    }
+    let k = rank_of(c, b)?;
     let d = 13 * s + k;
     if holds(x, d) {
         return None;
@@ -181,10 +178,7 @@ fn deal_in(c: Conventions, v: &[u8]) -> Option<Hands>
     if byte_at(v, 1) != b':' {
         return None;
     }
-    let seat = seat_of(c, byte_at(v, 0));
-    if seat > 3 {
-        return None;
-    }
+    let seat = seat_of(c, byte_at(v, 0))?;
     let h = read_hands(c, from(v, 2))?;
     Some(turn(seat, h))
 }

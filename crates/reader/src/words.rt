@@ -30,25 +30,14 @@ fn level_of(b: u8) -> Option<u8>
     }
 }
 
-// A bid's code from its level and its strain.
-#[tactic(auto, unfolding(crate::specs::Words::bid_code))]
-fn bid_code(level: u8, strain: u8) -> Option<u8>
-    requires { (1 ≤ level) × (level ≤ 7) }
-    ensures { (unwrap_or result 47 ≡ bid_code level strain) × IfSome result (λ k. k < 47) }
-{
-    if strain > 4 {
-        return None;
-    }
-    Some(5 * (level - 1) + strain + 1)
-}
-
 // The code of a level and a strain.
 #[tactic(auto, using(crate::proofs::WordLaws::bid_is), unfolding(crate::specs::Words::bid_code))]
 fn bid_of(c: Conventions, token: &[u8]) -> Option<u8>
     ensures { (unwrap_or result 47 ≡ bid_of c token.now) × IfSome result (λ k. k < 47) }
 {
     let level = level_of(byte_at(token, 0))?;
-    bid_code(level, strain_of(c, from(token, 1)))
+    let strain = strain_of(c, from(token, 1))?;
+    Some(5 * (level - 1) + strain + 1)
 }
 
 #[tactic(auto, unfolding(crate::specs::Words::is_pass))]
@@ -164,10 +153,7 @@ pub(crate) fn contract_trump(c: Conventions, value: &[u8]) -> u8
         return 4;
     }
     if is_doubling(from(value, 2)) {
-        let strain = strain_of(c, upto(from(value, 1), 1));
-        if strain < 4 {
-            return strain;
-        }
+        return strain_of(c, upto(from(value, 1), 1)).unwrap_or(4);
     }
     4
 }
@@ -221,7 +207,7 @@ pub fn card_number(suit: u8, rank: u8) -> Option<u8>
 }
 
 // The card that a token's first two characters name.
-#[tactic(auto, using(crate::proofs::WordLaws::card_short, crate::proofs::WordLaws::card_long))]
+#[tactic(auto, using(crate::proofs::WordLaws::card_short, crate::proofs::WordLaws::card_long), unfolding(crate::specs::Words::card_number))]
 pub fn card_named(c: Conventions, token: &[u8]) -> Option<u8>
     ensures { (unwrap_or result 52 ≡ card_named c token.now) × IfSome result (λ k. k < 52) }
 {
@@ -231,6 +217,7 @@ pub fn card_named(c: Conventions, token: &[u8]) -> Option<u8>
     if is_inside(token[1]) {
         return None;
     }
-    let suit = suit_of(c, token[0]);
-    card_number(suit, rank_of(c, first_character(from(token, 1))))
+    let suit = suit_of(c, token[0])?;
+    let rank = rank_of(c, first_character(from(token, 1)))?;
+    card_number(suit, rank)
 }

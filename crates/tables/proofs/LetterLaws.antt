@@ -5,6 +5,7 @@ use mathlib.Core.Bool.{Bool, true, false, cond, not, ◌&&◌}
 use mathlib.Core.List.{List, [], ◌∷◌}
 use native.Mathlib.Omega.{arith}
 use lib.Dec.{leb, ltb, eqb}
+use Rattle.std.specs.Prelude.{Option, Some, None, unwrap_or, IfSome}
 use lib.ListN.{length, take, drop, get_or, length-take, length-drop}
 use lib.Seq.{get_or-take, get_or-drop}
 use borrow.Author.Tests.{eqb-true, eqb-false, eq-eqb, ne_eqb, lt-ltb, le-ltb, ltb-true, ltb-false, leb-true, le-leb, lt-leb, not-true}
@@ -152,14 +153,37 @@ honour_read c b k n e =
     )
     (honour_chosen (eqb (get_or l 8 0) k) (eqb (get_or l 9 0) k) (eqb (get_or l 10 0) k) (eqb (get_or l 11 0) k) (eqb (get_or l 12 0) k))
 
--- No suit is above 4, and no honour's rank above 13.
-pub suit_most : (c : Conventions) (b : ℕ) → suit_of c b ≤ 4
-unfolding suit_of
-suit_most c b = by_cases (ltb (index_in (suit_letters c) (capital b)) 4) (λ q. rw q (omega arith)) (λ q. rw q (omega arith))
+-- The same as Options.
+suit_some : (p q r s : Bool) → let suit : Option ℕ = cond p (Some 3) (cond q (Some 2) (cond r (Some 1) (cond s (Some 0) None))) in (unwrap_or suit 4 ≡ cond p 3 (cond q 2 (cond r 1 (cond s 0 4)))) × IfSome suit (λ x. x < 4)
+suit_some true q r s = (refl, omega arith)
+suit_some false true r s = (refl, omega arith)
+suit_some false false true s = (refl, omega arith)
+suit_some false false false true = (refl, omega arith)
+suit_some false false false false = (refl, tt)
 
-pub honour_most : (c : Conventions) (b : ℕ) → honour_of c b ≤ 13
-unfolding honour_of
-honour_most c b = by_cases (ltb (index_in (honour_letters c) (capital b)) 5) (λ q. rw q (omega arith)) (λ q. rw q (omega arith))
+honour_some : (p q r s t : Bool) → let rank : Option ℕ = cond p (Some 12) (cond q (Some 11) (cond r (Some 10) (cond s (Some 9) (cond t (Some 8) None)))) in (unwrap_or rank 13 ≡ cond p 12 (cond q 11 (cond r 10 (cond s 9 (cond t 8 13))))) × IfSome rank (λ x. x < 13)
+honour_some true q r s t = (refl, omega arith)
+honour_some false true r s t = (refl, omega arith)
+honour_some false false true s t = (refl, omega arith)
+honour_some false false false true t = (refl, omega arith)
+honour_some false false false false true = (refl, omega arith)
+honour_some false false false false false = (refl, tt)
+
+pub suit_answer : (c : Conventions) (b k : ℕ) → length c.letters ≡ 13 → k ≡ capital b
+    → let l = c.letters in
+    let suit : Option ℕ = cond (eqb (get_or l 4 0) k) (Some 3) (cond (eqb (get_or l 5 0) k) (Some 2) (cond (eqb (get_or l 6 0) k) (Some 1) (cond (eqb (get_or l 7 0) k) (Some 0) None))) in
+    (unwrap_or suit 4 ≡ suit_of c b) × IfSome suit (λ x. x < 4)
+suit_answer c b k n e =
+    let l = c.letters in
+    rw (← suit_read c b k n e) (suit_some (eqb (get_or l 4 0) k) (eqb (get_or l 5 0) k) (eqb (get_or l 6 0) k) (eqb (get_or l 7 0) k))
+
+pub honour_answer : (c : Conventions) (b k : ℕ) → length c.letters ≡ 13 → k ≡ capital b
+    → let l = c.letters in
+    let rank : Option ℕ = cond (eqb (get_or l 8 0) k) (Some 12) (cond (eqb (get_or l 9 0) k) (Some 11) (cond (eqb (get_or l 10 0) k) (Some 10) (cond (eqb (get_or l 11 0) k) (Some 9) (cond (eqb (get_or l 12 0) k) (Some 8) None)))) in
+    (unwrap_or rank 13 ≡ honour_of c b) × IfSome rank (λ x. x < 13)
+honour_answer c b k n e =
+    let l = c.letters in
+    rw (← honour_read c b k n e) (honour_some (eqb (get_or l 8 0) k) (eqb (get_or l 9 0) k) (eqb (get_or l 10 0) k) (eqb (get_or l 11 0) k) (eqb (get_or l 12 0) k))
 
 -- ---- written and read back
 

@@ -18,6 +18,7 @@ use crate::text::{
 };
 
 // One trick count as a base-14 digit.
+#[tactic(auto, unfolding(crate::specs::Tables::digit_byte))]
 pub fn encode_tricks(tricks: u8) -> u8
     ensures { result ≡ digit_byte tricks }
 {
@@ -121,6 +122,7 @@ pub fn optimum_result_table_header(table: &[u8; 20], page: &mut [u8]) -> Result<
 }
 
 // Rows run N, S, E, W.
+#[tactic(auto, unfolding(crate::specs::Tables::row_order))]
 fn row_order(k: u8) -> u8
     ensures { (result ≡ row_order k) × (result ≤ k + 1) }
 {
@@ -181,6 +183,7 @@ pub struct Cell {
     pub tricks: u8,
 }
 
+#[tactic(auto, unfolding(crate::specs::Tables::cell_of))]
 fn cell_of(seat: u8, strain: u8) -> usize
     requires { (seat < 4) × (strain < 5) }
     ensures { result ≡ cell_of seat strain }
@@ -198,14 +201,8 @@ fn read_fields(
 ) -> Result<Option<Cell>, Refusal>
     ensures { result ≡ fields_row c n declarer.now denomination.now outcome.now }
 {
-    let seat = seat_of(c, first_character(declarer));
-    if seat > 3 {
-        return Err(Refusal::Declarer(n));
-    }
-    let strain = strain_of(c, denomination);
-    if strain > 4 {
-        return Err(Refusal::Denomination(n));
-    }
+    let seat = seat_of(c, first_character(declarer)).ok_or(Refusal::Declarer(n))?;
+    let strain = strain_of(c, denomination).ok_or(Refusal::Denomination(n))?;
     let v = parse_number(outcome, 255).ok_or(Refusal::Outcome(n))?;
     if v > 13 {
         return Err(Refusal::Over(n));

@@ -1,5 +1,5 @@
 // The letters of seats, suits, strains and ranks, by conventions that a caller passes by value.
-ghost use Rattle.std.specs.Prelude.{◌≡◌, ◌<◌, ◌≤◌, cond, eqb};
+ghost use Rattle.std.specs.Prelude.{◌≡◌, ◌<◌, cond, eqb, unwrap_or, Some, IfSome};
 ghost use Rattle.tables.specs.Letters.{built_in, capital, seat_of, suit_of, honour_of, rank_of, suit_strain, strain_of, seat_letter, suit_letter, rank_letter};
 
 use crate::text::{byte_at, index_of};
@@ -29,38 +29,39 @@ pub fn to_capital(b: u8) -> u8
 }
 
 #[tactic(auto, unfolding(crate::specs::Letters::seat_of))]
-pub fn seat_of(c: Conventions, b: u8) -> u8
-    ensures { (result ≡ seat_of c b) × (result ≤ 4) }
+pub fn seat_of(c: Conventions, b: u8) -> Option<u8>
+    ensures { (unwrap_or result 4 ≡ seat_of c b) × IfSome result (λ s. s < 4) }
 {
-    index_of(&c.letters[..4], to_capital(b)) as u8
+    let seat = index_of(&c.letters[..4], to_capital(b));
+    if seat < 4 { Some(seat as u8) } else { None }
 }
 
 // x or y. Which letter comes next cannot be foreseen, so that a branch on one costs more than a comparison with all of them:
 // `position` or a branch for each letter takes five times as long.
-fn choose(test: bool, x: u8, y: u8) -> u8
-    ensures { result ≡ cond test x y }
+fn choose(test: bool, x: u8, y: Option<u8>) -> Option<u8>
+    ensures { result ≡ cond test (Some x) y }
 {
-    if test { x } else { y }
+    if test { Some(x) } else { y }
 }
 
-pub fn suit_of(c: Conventions, b: u8) -> u8
-    ensures { (result ≡ suit_of c b) × (result ≤ 4) }
+pub fn suit_of(c: Conventions, b: u8) -> Option<u8>
+    ensures { (unwrap_or result 4 ≡ suit_of c b) × IfSome result (λ s. s < 4) }
 {
     let l = c.letters;
     let k = to_capital(b);
-    let clubs = choose(l[7] == k, 0, 4);
+    let clubs = choose(l[7] == k, 0, None);
     let diamonds = choose(l[6] == k, 1, clubs);
     let hearts = choose(l[5] == k, 2, diamonds);
     choose(l[4] == k, 3, hearts)
 }
 
 // The rank of an honour's letter.
-fn honour_of(c: Conventions, b: u8) -> u8
-    ensures { (result ≡ honour_of c b) × (result ≤ 13) }
+fn honour_of(c: Conventions, b: u8) -> Option<u8>
+    ensures { (unwrap_or result 13 ≡ honour_of c b) × IfSome result (λ r. r < 13) }
 {
     let l = c.letters;
     let k = to_capital(b);
-    let ten = choose(l[12] == k, 8, 13);
+    let ten = choose(l[12] == k, 8, None);
     let jack = choose(l[11] == k, 9, ten);
     let queen = choose(l[10] == k, 10, jack);
     let king = choose(l[9] == k, 11, queen);
@@ -68,36 +69,33 @@ fn honour_of(c: Conventions, b: u8) -> u8
 }
 
 #[tactic(auto, unfolding(crate::specs::Letters::rank_of))]
-pub fn rank_of(c: Conventions, b: u8) -> u8
-    ensures { (result ≡ rank_of c b) × (result ≤ 13) }
+pub fn rank_of(c: Conventions, b: u8) -> Option<u8>
+    ensures { (unwrap_or result 13 ≡ rank_of c b) × IfSome result (λ r. r < 13) }
 {
     let honour = honour_of(c, b);
     match b {
-        b'2'..=b'9' => b - b'2',
+        b'2'..=b'9' => Some(b - b'2'),
         _ => honour,
     }
 }
 
 // A strain of one letter.
-fn letter_strain(c: Conventions, b: u8) -> u8
-    ensures { (result ≡ cond (eqb (capital b) 78) 4 (suit_strain (suit_of c b))) × (result ≤ 5) }
+fn letter_strain(c: Conventions, b: u8) -> Option<u8>
+    ensures { (unwrap_or result 5 ≡ cond (eqb (capital b) 78) 4 (suit_strain (suit_of c b))) × IfSome result (λ s. s < 5) }
 {
     if to_capital(b) == b'N' {
-        return 4;
+        return Some(4);
     }
-    match suit_of(c, b) {
-        4 => 5,
-        suit => suit,
-    }
+    suit_of(c, b)
 }
 
-pub fn strain_of(c: Conventions, token: &[u8]) -> u8
-    ensures { (result ≡ strain_of c token.now) × (result ≤ 5) }
+pub fn strain_of(c: Conventions, token: &[u8]) -> Option<u8>
+    ensures { (unwrap_or result 5 ≡ strain_of c token.now) × IfSome result (λ s. s < 5) }
 {
     match token {
         [b] => letter_strain(c, *b),
-        [n, t] if (to_capital(*n) == b'N') & (to_capital(*t) == b'T') => 4,
-        _ => 5,
+        [n, t] if (to_capital(*n) == b'N') & (to_capital(*t) == b'T') => Some(4),
+        _ => None,
     }
 }
 

@@ -56,6 +56,7 @@ pub fn trim_end(s: &[u8]) -> &[u8]
     &s[..kept_len(s)]
 }
 
+#[tactic(auto, unfolding(crate::specs::Text::trimmed))]
 pub fn trim(s: &[u8]) -> &[u8]
     ensures { result.now ≡ trimmed s.now }
 {
