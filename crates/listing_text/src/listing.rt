@@ -63,12 +63,7 @@ fn finish_listing(boxes: &mut LentBoxes, slips: &mut [u64], page: &mut [u8], n: 
 }
 
 // Lists the boards of two editions that were taken.
-fn list_taken(
-    boxes: &mut LentBoxes,
-    both: Both,
-    slips: &mut [u64],
-    page: &mut [u8],
-) -> Written
+fn list_taken(boxes: &mut LentBoxes, both: Both, slips: &mut [u64], page: &mut [u8]) -> Written
     requires { (64 * both.old.boards ≤ length boxes.old.old_cards.now) × (64 * both.new.boards ≤ length boxes.old.new_cards.now) × (both.old.boards ≤ 16777215) × (both.new.boards ≤ 16777215) }
     ensures listed { BoardsOnPage (board_plans (cards_in both.old.boards boxes.old.old_cards.now) (cards_in both.new.boards boxes.old.new_cards.now))
         (words_of boxes.old) slips.old page.old (words_of boxes.new) slips.new page.new result }

@@ -19,7 +19,6 @@ use Rattle.planning.specs.declared.searches.Searched.{Searched}
 use Rattle.planning.specs.States.{BoardPlan, board_plans, state_at}
 use Rattle.planning.specs.Searches.{searches_from, words_in_all}
 use Rattle.planning.specs.Slips.{slips_of, totals_of, behind_at, part_of, numbers_from}
-use Rattle.planning.specs.Plans.{Editions, Planning}
 
 -- ---- refusals: 1 to 3 of the old edition, then of the new, then 4 slips short (the boards to solve)
 
