@@ -22,4 +22,4 @@ returns-then-same c =
 pub returns : goal.returns
 unfolding is_extra_at
 returns c =
-    rw (← c.kind_at.ensures, eq-eqb _ _ c.if-kind_at-ne-TAG.false, ← c.bytes_at-name.ensures, ← c.tag_number.ensures.0, eq-eqb _ _ c.if-tag_number-ne0.false, ← c.same.ensures, c.if-same.false) (found_none c.find_name.result c.bytes_at-name.result.now c.before-2.result c.find_name.ensures c.is_none.ensures (items_made c.before-2.ensures) c.before-2.ensures.first_is c.before-2.ensures.count_is c.requires.0)
+    rw (← c.kind_at.ensures, eq-eqb _ _ c.if-kind_at-ne-TAG.false, ← c.bytes_at-name.ensures, ← c.tag_number.ensures.0, eq-eqb _ _ c.if-tag_number-ne0.false, ← c.same.ensures, c.if-same.false) (found_none c.find_name.result c.bytes_at-name.result.now c.part-before.result c.find_name.ensures c.is_none.ensures (items_made c.part-before.ensures) c.part-before.ensures.first_is c.part-before.ensures.count_is c.requires.0)
