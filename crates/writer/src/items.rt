@@ -3,7 +3,7 @@ ghost use Rattle.std.specs.Prelude.{◌+◌, ◌≤◌};
 
 use tables::text::{from, upto};
 
-// The kinds of entries: a tag's name, a directive, a block, a call, an annotation, a trick.
+// The kinds of entries, numbers in the lent words: a tag's name, a directive, a block, a call, an annotation, a trick.
 pub(crate) const TAG: usize = 1;
 
 pub(crate) const DIRECTIVE: usize = 3;
