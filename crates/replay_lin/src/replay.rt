@@ -2,7 +2,8 @@
 ghost use Rattle.std.specs.Prelude.{◌≡◌, ◌≤◌, length};
 
 use crate::cases::{Case, Told, case_of};
-use lin::convert::{Converted, LinRefusal, lin_carried, lin_number, lin_to_pbn};
+use lin::convert::{Converted, LinRefusal, lin_to_pbn};
+use tables::refused::Refused;
 use tables::text::{byte_at, from, upto};
 
 // How the replay ended: all cases gave the recorded answer, or the first that did not, or the first that is not whole.
@@ -39,8 +40,8 @@ fn told_converted(c: Result<Converted, LinRefusal>) -> Told {
             written: page.bytes,
         },
         Err(f) => Told {
-            refusal: lin_number(f),
-            carried: lin_carried(f),
+            refusal: f.number(),
+            carried: f.carried(),
             boards: 0,
             written: 0,
         },

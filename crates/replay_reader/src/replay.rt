@@ -4,6 +4,7 @@ ghost use Rattle.std.specs.Prelude.{◌≡◌, ◌≤◌, length};
 use crate::cases::{Case, Told, case_of};
 use crate::codes::is_coded;
 use reader::edition::{ReadRefusal, read_pbn};
+use tables::refused::Refused;
 use tables::text::{from, upto};
 
 // How the replay ended: all cases gave the recorded answer, or the first that did not, or the first that is not whole.
@@ -40,8 +41,8 @@ fn told_reading(r: Result<reader::edition::Counts, ReadRefusal>) -> Told {
             entries: n.entries as u64,
         },
         Err(f) => Told {
-            refusal: reader::edition::read_number(f),
-            carried: reader::edition::read_carried(f),
+            refusal: f.number(),
+            carried: f.carried(),
             boards: 0,
             entries: 0,
         },

@@ -3,8 +3,9 @@ ghost use Rattle.std.specs.Prelude.{◌≡◌, ◌≤◌, length};
 
 use crate::cases::{Case, Told, case_of};
 use reader::edition::read_pbn;
+use tables::refused::Refused;
 use tables::text::{byte_at, from, upto};
-use writer::write::{WriteRefusal, write_carried, write_number, write_pbn};
+use writer::write::{WriteRefusal, write_pbn};
 
 // How the replay ended: all cases gave the recorded answer, or the first that did not, or the first that is not whole.
 #[derive(Clone, Copy)]
@@ -38,8 +39,8 @@ fn told_writing(w: Result<u64, WriteRefusal>) -> Told {
             written,
         },
         Err(f) => Told {
-            refusal: write_number(f),
-            carried: write_carried(f),
+            refusal: f.number(),
+            carried: f.carried(),
             written: 0,
         },
     }
