@@ -448,5 +448,8 @@ pub fn golavimes_finish(
         new_cards,
         new_entries,
     };
-    tell_bytes(writer::finish::finish(old, new, &mut boxes, answers, page), answer)
+    tell_bytes(
+        writer::finish::finish(old, new, &mut boxes, answers, page),
+        answer,
+    )
 }
