@@ -13,6 +13,7 @@ use Rattle.tables.proofs.Laws.{by_cases}
 use Rattle.tables.proofs.TextLaws.{front_few}
 use Rattle.planning.specs.declared.editions.EditionsRefusal.{EditionsRefusal}
 use Rattle.planning.specs.declared.editions.EditionsRefusal.TheVariants.{Old, New}
+use Rattle.planning.specs.declared.editions.Both.{Both}
 use Rattle.planning.specs.Plans.{Boxes, editions_number, editions_carries, edition_refused, editions_of, Editions}
 use Rattle.writer.specs.declared.finish.FinishRefusal.TheVariants.{Edition, Answers, Impossible, PageFull}
 use Rattle.writer.specs.declared.finish.FinishRefusal.{FinishRefusal}
@@ -65,10 +66,10 @@ module _ (c : Conventions) (old new : List ℕ) (boxes : Boxes) (answers page an
   refused_says f q =
       says_finishing (Err (Edition f)) answer (editions_number f) (edition_refused f) (editions_carries f) (rw q at told) refl refl refl
 
-  page_met : (m n : ℕ) → editions_of c old new boxes ≡ Both m n → eqb (length answers) (20 * solve_in c old new) ≡ true
+  page_met : (n : Both) → editions_of c old new boxes ≡ Ok n → eqb (length answers) (20 * solve_in c old new) ≡ true
       → eqb (first_above answers) (length answers) ≡ true → Met answer (of_page (finished_text c old new answers) page)
   unfolding finishing_of
-  page_met m n q t u =
+  page_met n q t u =
       let size = length (finished_text c old new answers) in
       met_below 7 0 size (length page) size
       (λ v.
@@ -78,10 +79,10 @@ module _ (c : Conventions) (old new : List ℕ) (boxes : Boxes) (answers page an
       nothing (says_finishing (Ok size) answer 0 0 0
       (rw (q, t, u, le-leb size (length page) (ltb-false (length page) size v)) at told) refl refl refl))
 
-  above_met : (m n : ℕ) → editions_of c old new boxes ≡ Both m n → eqb (length answers) (20 * solve_in c old new) ≡ true
+  above_met : (n : Both) → editions_of c old new boxes ≡ Ok n → eqb (length answers) (20 * solve_in c old new) ≡ true
       → Met answer (of_bytes answers (finished_text c old new answers) page)
   unfolding finishing_of
-  above_met m n q t =
+  above_met n q t =
       let k = length (possible answers) in
       let size = length answers in
       met_below 6 0 k k size
@@ -90,14 +91,14 @@ module _ (c : Conventions) (old new : List ℕ) (boxes : Boxes) (answers page an
       ne_eqb (first_above answers) size (λ e. omega (arith, first_above_lem answers, ltb-true k size u)) in
       says_finishing (Err (Impossible (first_above answers))) answer 6 0 k (rw (q, t, z) at told) refl refl (first_above_lem answers))
       (λ u.
-      page_met m n q t
+      page_met n q t
       (eq-eqb (first_above answers) size (omega (arith, first_above_lem answers, possible_few answers, ltb-false k size u))))
 
-  taken_met : (m n : ℕ) → editions_of c old new boxes ≡ Both m n → Met answer (of_answers c old new answers page)
+  taken_met : (n : Both) → editions_of c old new boxes ≡ Ok n → Met answer (of_answers c old new answers page)
   unfolding finishing_of
-  taken_met m n q =
+  taken_met n q =
       met_by (eqb (length answers) (20 * solve_in c old new))
-      (λ t. later (λ h. h (eqb-true (length answers) (20 * solve_in c old new) t)) (above_met m n q t))
+      (λ t. later (λ h. h (eqb-true (length answers) (20 * solve_in c old new) t)) (above_met n q t))
       (λ t. this (eqb-false (length answers) (20 * solve_in c old new) t)
       (says_finishing (Err (Answers (solve_in c old new))) answer 5 0 (solve_in c old new) (rw (q, t) at told) refl refl refl))
 
@@ -128,7 +129,7 @@ pub record IsDone (e : Editions) (solve : ℕ) (answers : List ℕ) (n m : ℕ) 
 pub is_done : (e : Editions) (solve : ℕ) (answers : List ℕ) (n m : ℕ)
     → get_or (finishing_numbers (finished_by e solve answers (finished_on n m))) 0 0 ≡ 0
     → IsDone e solve answers n m
-is_done (Both a b) solve answers n m z =
+is_done (Ok k) solve answers n m z =
     by_cases (eqb (length answers) (20 * solve))
     (λ t.
     by_cases (eqb (first_above answers) (length answers))

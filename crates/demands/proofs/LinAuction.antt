@@ -19,7 +19,7 @@ use Rattle.reader.specs.declared.section.Open.{Open}
 use Rattle.reader.specs.declared.section.Walk.{Walk}
 use Rattle.reader.specs.Words.{call_token}
 use Rattle.reader.specs.Pieces.{Piece, Out, out_all, entry}
-use Rattle.reader.specs.Auction.{call_token_of, called_by, called, bidding, no_bidding}
+use Rattle.reader.specs.Auction.{call_token_of, called_by, called, no_bidding}
 use Rattle.reader.specs.Sections.{walked, no_walk}
 use Rattle.reader.specs.Plain.{item_of, items_of, annotations_first, calls_in, PlainCall}
 use Rattle.reader.proofs.WordTokens.{call_back, call_word, call_alone, call_end, call_not_all_pass}

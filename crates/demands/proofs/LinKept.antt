@@ -23,7 +23,6 @@ use Rattle.reader.specs.Play.{winner_of}
 use Rattle.reader.proofs.Counts.{cards_few}
 use Rattle.reader.proofs.Tags.{never}
 use Rattle.reader.proofs.Fellows.{EveryBoard}
-use Rattle.writer.specs.Tags.{vulnerability}
 use Rattle.writer.specs.Held.{entry_word, card_word, item_at, items_at, section_items, auction_held, play_held, board_held, shown, seen}
 use Rattle.writer.proofs.HeldBoards.{Holds, board_is}
 use Rattle.lin.specs.Playing.{slots, tricks_from}

@@ -1,5 +1,5 @@
 -- The record of a LIN board reads back with the tags written, and so with its dealer, vulnerability, declarer and deal.
-use Prim.Native.Nat.{ℕ, ◌+◌, ◌<◌, ◌≤◌}
+use Prim.Native.Nat.{ℕ, ◌<◌, ◌≤◌}
 use mathlib.Core.Path.{◌≡◌, refl, sym, ap, ◌∙◌}
 use mathlib.Core.Bool.{Bool, true, false, cond}
 use mathlib.Core.List.{List, [], ◌∷◌, ◌++◌, append_assoc, map}
@@ -31,7 +31,7 @@ use Rattle.reader.proofs.PlainLaws.{plain_keeps}
 use Rattle.reader.proofs.StandLaws.{map_append}
 use Rattle.reader.proofs.Folds.{fold_tags, fold_append, fold_deal, fold_table, fold_identity, DealFolds, TableFolds, IdentityFolds}
 use Rattle.writer.specs.Sections.{note_values}
-use Rattle.writer.specs.Tags.{result_text, seat_text, vulnerability, first_seat, head_tags, table_tags, deal_tags, auction_tags, play_tags, written_tags}
+use Rattle.writer.specs.Tags.{result_text, seat_text, first_seat, head_tags, table_tags, deal_tags, auction_tags, play_tags, written_tags}
 use Rattle.writer.specs.Pages.{built_in_header}
 use Rattle.lin.specs.Dealing.{all_cards, dealt_hands}
 use Rattle.lin.specs.LinBoards.{LinBoard, declarer_in, has_bid, auction_of, play_of, lin_plain, lin_play, lin_lines}

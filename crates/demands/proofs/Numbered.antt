@@ -7,16 +7,18 @@ use lib.Dec.{ltb}
 use lib.ListN.{length, get_or, take, drop, replicate, length-append, length-replicate, length-map, take-append-drop}
 use lib.Seq.{take_all, length-take-le, get_or-take}
 use borrow.Author.Tests.{ltb-true, ltb-false, lt-leb}
-use Rattle.tables.proofs.Laws.{by_cases}
+use Rattle.tables.proofs.Laws.{by_cases, clash}
 use Rattle.reader.specs.Store.{put, put_all, flat, padded}
+use Rattle.tables.specs.declared.letters.Conventions.{Conventions}
 use Rattle.reader.specs.Editions.{cards_of}
 use Rattle.reader.proofs.StoreLaws.{Blocks, none, one, blocks_map, length_flat, put_zeros, put_all_append}
 use Rattle.planning.specs.declared.behind.Behind.{Behind}
-use Rattle.std.specs.Prelude.{Some}
+use Rattle.std.specs.Prelude.{Some, Ok, Err, is_ok}
+use Rattle.planning.specs.declared.searches.Searched.{Searched}
 use Rattle.planning.specs.States.{BoardPlan, board_plans, state_number, from_of}
 use Rattle.planning.specs.Searches.{search_numbers, searches_from}
 use Rattle.planning.specs.Slips.{behind_of, behind_numbers, board_numbers, numbers_from}
-use Rattle.planning.specs.Plans.{plans_of}
+use Rattle.planning.specs.Plans.{Editions, editions_of, plans_of, searched_by, searches_after}
 use Rattle.planning.specs.Demands.{five_at, searches_at, Numbered, NumbersTold, SearchNumbersTold}
 use Rattle.planning.proofs.SlipLaws.{fives_length, fives_here}
 use Rattle.demands.proofs.MeaningLaws.{plan_here_lem, mapped_at}
@@ -110,17 +112,23 @@ all_numbered five boards L back {xs} b lx at e =
     }
 
 pub numbers_told : NumbersTold
-numbers_told c old new boxes numbers boxes' numbers' m n b =
+numbers_told c old new boxes numbers boxes' numbers' n b =
     let olds = cards_of c old in
     let news = cards_of c new in
     let js = plans_of c old new in
     all_numbered (five_at olds news js) (length news) (length numbers) numbers' (numbers_five olds news js)
     (length-map js (board_numbers olds news) ∙ boards_all olds news) (numbers_at olds news) b.numbers_after
 
+-- Where both editions were taken.
+searches_taken : (e : Editions) (c : Conventions) (old new : List ℕ) (L : ℕ) {n : Searched} → Ok n ≡ searched_by e c old new
+    → searches_after e c old new L ≡ put_all 5 (replicate L 0) 0 (searches_from (cards_of c old) (cards_of c new) (plans_of c old new))
+searches_taken (Ok k) c old new L h = refl
+searches_taken (Err f) c old new L h = clash (sym (ap is_ok h))
+
 pub search_numbers_told : SearchNumbersTold
-search_numbers_told c old new boxes numbers boxes' numbers' m n words b =
+search_numbers_told c old new boxes numbers boxes' numbers' n b =
     let olds = cards_of c old in
     let news = cards_of c new in
     let js = plans_of c old new in
     all_numbered (searches_at olds news js) (length news) (length numbers) numbers' (searches_five olds news js)
-    (length-map js (search_numbers olds news) ∙ boards_all olds news) (searches_at_lem olds news) b.numbers_after
+    (length-map js (search_numbers olds news) ∙ boards_all olds news) (searches_at_lem olds news) (b.numbers_after ∙ searches_taken (editions_of c old new boxes) c old new (length numbers) b.answer)

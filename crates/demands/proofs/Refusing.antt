@@ -19,6 +19,7 @@ use Rattle.planning.specs.declared.editions.EditionsRefusal.TheVariants.{Old, Ne
 use Rattle.planning.specs.States.{state_number, from_of}
 use Rattle.planning.specs.Searches.{searches_from}
 use Rattle.planning.specs.Slips.{totals_of, numbers_from}
+use Rattle.planning.specs.declared.editions.Both.{Both}
 use Rattle.planning.specs.Plans.{Boxes, editions_number, editions_carries, edition_refused, editions_of, planning_of, plans_of, state_by, behind_by, fives_after, words_by, BoxesAfter, Editions, Planning}
 use Rattle.golavimes.specs.Answers.{reading_numbers, editions_head, head_then, plan_numbers, part_numbers, new_boards}
 use Rattle.demands.specs.Demand1.{Refusal, refusal, Begins, GivenFrom, FirstThatHolds, of_edition, of_editions, solve_in, SlipsShort, BoxesZero, NoValues, ReadRefuses, PlanRefuses, PositionRefusals, StateRefuses, BehindRefuses, NumbersRefusals, BoardsRefuse, SearchesRefuse}
@@ -162,7 +163,7 @@ read_refuses c text cards entries cards' entries' answer' r o =
 
 pub editions_met : (c : Conventions) (old new : List ℕ) (boxes : Boxes) (answer : List ℕ) (fs : List Refusal)
     → ((f : EditionsRefusal) → editions_of c old new boxes ≡ Err f → Says answer (editions_number f) (edition_refused f) (editions_carries f))
-    → ((m n : ℕ) → editions_of c old new boxes ≡ Both m n → Met answer fs)
+    → ((n : Both) → editions_of c old new boxes ≡ Ok n → Met answer fs)
     → Met answer (of_editions c old new boxes ++ fs)
 unfolding editions_of
 editions_met c old new boxes answer fs refused both =
@@ -171,7 +172,7 @@ editions_met c old new boxes answer fs refused both =
     (λ m e.
     edition_met 2 c new boxes.new_cards boxes.new_entries answer fs
     (λ f d. refused (New f) (rw (e, d)))
-    (λ n d. both m.boards n.boards (rw (e, d))))
+    (λ n d. both (record { old = m; new = n }) (rw (e, d))))
 
 -- An answer that begins with the head of what reading both came to.
 headed_met : (c : Conventions) (old new : List ℕ) (boxes : Boxes) (answer : List ℕ) (values : List ℕ)
@@ -179,7 +180,7 @@ headed_met : (c : Conventions) (old new : List ℕ) (boxes : Boxes) (answer : Li
 headed_met c old new boxes answer values e =
     editions_met c old new boxes answer []
     (λ f q. rw (e, q) (record { number_said = refl; edition_said = refl; carried_said = refl }))
-    (λ m n q. nothing (rw (e, q) (record { number_said = refl; edition_said = refl; carried_said = refl })))
+    (λ n q. nothing (rw (e, q) (record { number_said = refl; edition_said = refl; carried_said = refl })))
 
 pub boxes_zero : (c : Conventions) (well : Bool) (old new : List ℕ) (boxes boxes' : Boxes) → well ≡ false → BoxesAfter c well old new boxes boxes' → BoxesZero boxes boxes'
 boxes_zero c well old new boxes boxes' w b =
@@ -203,7 +204,7 @@ plan_met c old new boxes slips answer e =
     let t = totals_of (plans_of c old new) in
     editions_met c old new boxes answer (refusal 4 0 t.solve (length slips / 5 < t.solve) ∷ [])
     (λ f q. rw (e, q) (record { number_said = refl; edition_said = refl; carried_said = refl }))
-    (λ m n q.
+    (λ n q.
     met_below 4 0 t.solve (length slips / 5) t.solve
     (λ u. rw (e, q, u) (record { number_said = refl; edition_said = refl; carried_said = refl }))
     (λ u. nothing (rw (e, q, u) (record { number_said = refl; edition_said = refl; carried_said = refl }))))

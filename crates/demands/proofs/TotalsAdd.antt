@@ -1,8 +1,8 @@
 -- Totals add up.
 use Prim.Native.Nat.{ℕ, suc, ◌+◌}
-use mathlib.Core.Path.{◌≡◌, refl, ◌∙◌, ap}
-use mathlib.Core.Bool.{Bool, true, false, cond}
-use mathlib.Core.List.{List, [], ◌∷◌, ◌++◌}
+use mathlib.Core.Path.{◌≡◌, ◌∙◌, ap}
+use mathlib.Core.Bool.{cond}
+use mathlib.Core.List.{List, [], ◌∷◌}
 use native.Mathlib.Omega.{arith}
 use lib.Dec.{eqb}
 use lib.ListN.{length}
@@ -10,8 +10,8 @@ use Rattle.planning.proofs.BoardLaws.{plans_count}
 use Rattle.planning.proofs.SlipLaws.{slips_count}
 use Rattle.planning.specs.declared.state.BoardState.{BoardState}
 use Rattle.planning.specs.declared.state.BoardState.TheVariants.{Blank, Own, Old, Near, Twin, Solve}
-use Rattle.planning.specs.States.{BoardPlan, board_plans_from, board_plans, state_number, is_solve}
-use Rattle.planning.specs.Slips.{slip_of, slips_of, count_of, totals_of}
+use Rattle.planning.specs.States.{BoardPlan, board_plans, state_number}
+use Rattle.planning.specs.Slips.{count_of, totals_of}
 use Rattle.planning.specs.Demands.{TotalsAddUp}
 
 -- How one board counts.

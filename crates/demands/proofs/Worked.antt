@@ -16,7 +16,7 @@ use Rattle.planning.specs.Demands.{Among, here, there, Tabled, Some, AllSolved, 
 use Rattle.planning.proofs.FoundLaws.{among_cases}
 use Rattle.writer.specs.Given.{answer_at, table_of, tables_of}
 use Rattle.golavimes.specs.Answers.{plan_numbers, PlanOut}
-use Rattle.demands.specs.Worked.{worked_front, old_stretch, new_stretch, worked_back, old, new, deal_a, deal_b, deal_d, boxes, slips, boxes', slips', answer', WorkedPair, answers, WorkedAnswers}
+use Rattle.demands.specs.Worked.{worked_front, old_stretch, new_stretch, worked_back, old, new, deal_a, deal_b, deal_d, boxes, slips, boxes', slips', answer', WorkedPair, WorkedAnswers}
 use Rattle.demands.specs.Boards.{by_plan, as_old, as_new}
 use Rattle.demands.specs.Demand3.{OutsideAlike}
 use Rattle.demands.proofs.ReadAlike.{outside_read_alike}

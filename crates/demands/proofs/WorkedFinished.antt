@@ -95,7 +95,7 @@ finish_out c old new boxes answers page f l =
       returned = refl;
     }
 
--- Ok with enough slips lent.
+-- Planned with enough slips lent.
 pub plan_out : (c : Conventions) (old new : List ℕ) (boxes : Boxes) (slips : List ℕ) → Plannable c old new boxes slips
     → PlanOut c old new boxes slips (boxes_after c true old new boxes) (lent true (length slips) (slips_of (plans_of c old new)))
     (plan_numbers (Ok (totals_of (plans_of c old new)))) 0

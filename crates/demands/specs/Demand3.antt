@@ -208,7 +208,7 @@ FinishedWhenAnswered =
     → FinishOut c old new boxes answers page boxes' page' answer' r
     → (r ≡ 0) ↔ Finishable c old new boxes answers page
 
--- ---- "Ok as the new edition against any old one that is read without refusal, it lists nothing."
+-- ---- "Planned as the new edition against any old one that is read without refusal, it lists nothing."
 
 -- THEOREM (proofs/Finishing.antt). Whatever slips are lent: no board is to be solved, and every lent number is zero.
 abbrev pub NothingLeft : Type 0

@@ -91,7 +91,7 @@ record_numbers r b = head_then (editions_head r) (part_numbers b)
 
 -- The boards of the new edition.
 abbrev pub new_boards : Editions → ℕ
-new_boards (Ok n) = n
+new_boards (Ok n) = n.new.boards
 new_boards (Err f) = 0
 
 abbrev pub boards_numbers : Editions → List ℕ

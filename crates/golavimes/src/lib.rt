@@ -2,14 +2,17 @@
 #![tactic(auto)]
 
 ghost use Rattle.std.specs.Prelude.{◌≡◌, get_or};
-ghost use Rattle.golavimes.specs.Answers.{written_numbers, decoded_numbers, table_left, reading_numbers, writing_numbers, converted_numbers, finishing_numbers, refused_head, editions_head, plan_numbers, state_numbers, record_numbers, boards_numbers, searches_numbers, WroteOut, ReadOut, EditionOut, WritingOut, LinOut, PlanOut, StateOut, BehindOut, BoardsOut, SearchesOut, FinishOut};
+ghost use Rattle.golavimes.specs.Answers.{written_numbers, decoded_numbers, table_left, reading_numbers, writing_numbers, converted_numbers, finishing_numbers, refused_head, plan_numbers, boards_numbers, WroteOut, ReadOut, EditionOut, WritingOut, LinOut, PlanOut, StateOut, BehindOut, BoardsOut, SearchesOut, FinishOut};
+ghost use Rattle.planning.specs.Plans.{words_of, SameLent};
+ghost use Rattle.golavimes.specs.AnswerSteps.{told_state, told_behind, told_searches};
 ghost use Rattle.tables.specs.Letters.{built_in};
 ghost use Rattle.tables.specs.Tables.{digits_text, header_text, rows_text, table_of_digits, table_of_rows};
 
 use lin::convert::{Converted, LinRefusal};
 use planning::behind::Behind;
-use planning::editions::Editions;
-use planning::plan::{PlanRefusal, Planning};
+use planning::editions::{Both, EditionsRefusal, LentBoxes};
+use planning::plan::{PlanRefusal, Totals};
+use planning::searches::Searched;
 use planning::state::BoardState;
 use reader::edition::{Counts, ReadRefusal};
 use tables::refusal::Refusal;
@@ -204,27 +207,14 @@ fn refused_head(f: PlanRefusal) -> Head
     }
 }
 
-fn editions_head(r: Editions) -> Head
-    ensures { result ≡ editions_head r }
-{
-    match r {
-        Editions::Both(_, _) => Head {
-            refusal: 0,
-            edition: 0,
-            carried: 0,
-        },
-        Editions::Refused(f) => refused_head(PlanRefusal::Edition(f)),
-    }
-}
-
-fn plan_numbers(p: Planning) -> [u64; 10]
+fn plan_numbers(p: Result<Totals, PlanRefusal>) -> [u64; 10]
     ensures { result ≡ plan_numbers p }
 {
     match p {
-        Planning::Planned(t) => [
+        Ok(t) => [
             0, 0, 0, t.boards, t.blank, t.own, t.old, t.near, t.twin, t.solve,
         ],
-        Planning::Refused(f) => {
+        Err(f) => {
             let h = refused_head(f);
             [h.refusal, h.edition, h.carried, 0, 0, 0, 0, 0, 0, 0]
         }
@@ -248,31 +238,35 @@ pub fn golavimes_plan(
         (record { old_cards = old_cards.new; old_entries = old_entries.new; new_cards = new_cards.new; new_entries = new_entries.new })
         slips.new answer.new result }
 {
-    let p = planning::plan::plan(
-        old,
-        new,
+    let mut boxes = LentBoxes {
         old_cards,
         old_entries,
         new_cards,
         new_entries,
-        slips,
-    );
-    let numbers = plan_numbers(p);
+    };
+    let numbers = plan_numbers(planning::plan::plan(old, new, &mut boxes, slips));
     *answer = numbers;
     numbers[0]
 }
 
-fn state_numbers(r: Editions, s: BoardState) -> [u64; 5]
-    ensures { result ≡ state_numbers r s }
+fn state_numbers(r: Result<BoardState, EditionsRefusal>) -> [u64; 5]
+    ensures { result ≡ told_state r }
 {
-    let h = editions_head(r);
-    [
-        h.refusal,
-        h.edition,
-        h.carried,
-        s.number(),
-        s.source(),
-    ]
+    match r {
+        Ok(s) => [0, 0, 0, s.number(), s.source()],
+        Err(f) => {
+            let h = refused_head(PlanRefusal::Edition(f));
+            [h.refusal, h.edition, h.carried, 0, 0]
+        }
+    }
+}
+
+// The numbers of the state at a position.
+fn tell_state(old: &[u8], new: &[u8], boxes: &mut LentBoxes, position: u64) -> [u64; 5]
+    ensures told { StateOut built_in old.now new.now (words_of boxes.old) (words_of boxes.new) position result (get_or result 0 0) }
+    ensures same { SameLent boxes.old boxes.new }
+{
+    state_numbers(planning::state_at::state_at(old, new, boxes, position))
 }
 
 // The state of the new edition's board at a position from 1.
@@ -291,37 +285,43 @@ pub fn golavimes_state(
         (record { old_cards = old_cards.new; old_entries = old_entries.new; new_cards = new_cards.new; new_entries = new_entries.new })
         position answer.new result }
 {
-    let t = planning::state_at::state_at(
-        old,
-        new,
+    let mut boxes = LentBoxes {
         old_cards,
         old_entries,
         new_cards,
         new_entries,
-        position,
-    );
-    let editions = t.editions;
-    let state = t.state;
-    let numbers = state_numbers(editions, state);
+    };
+    let numbers = tell_state(old, new, &mut boxes, position);
     *answer = numbers;
     numbers[0]
 }
 
-fn behind_numbers(r: Editions, b: Option<Behind>) -> [u64; 6]
-    ensures { result ≡ record_numbers r b }
+fn behind_numbers(r: Result<Option<Behind>, EditionsRefusal>) -> [u64; 6]
+    ensures { result ≡ told_behind r }
 {
-    let h = editions_head(r);
-    match b {
-        Some(p) => [
-            h.refusal,
-            h.edition,
-            h.carried,
+    match r {
+        Ok(Some(p)) => [
+            0,
+            0,
+            0,
             p.edition.number(),
             p.start,
             p.end.saturating_sub(p.start),
         ],
-        None => [h.refusal, h.edition, h.carried, 0, 0, 0],
+        Ok(None) => [0, 0, 0, 0, 0, 0],
+        Err(f) => {
+            let h = refused_head(PlanRefusal::Edition(f));
+            [h.refusal, h.edition, h.carried, 0, 0, 0]
+        }
     }
+}
+
+// The numbers of the record behind the board at a position.
+fn tell_behind(old: &[u8], new: &[u8], boxes: &mut LentBoxes, position: u64) -> [u64; 6]
+    ensures told { BehindOut built_in old.now new.now (words_of boxes.old) (words_of boxes.new) position result (get_or result 0 0) }
+    ensures same { SameLent boxes.old boxes.new }
+{
+    behind_numbers(planning::behind::place_behind(old, new, boxes, position))
 }
 
 // The record behind the new edition's board at a position from 1: which edition's, its start and its length.
@@ -340,29 +340,26 @@ pub fn golavimes_record_behind(
         (record { old_cards = old_cards.new; old_entries = old_entries.new; new_cards = new_cards.new; new_entries = new_entries.new })
         position answer.new result }
 {
-    let t = planning::behind::place_behind(
-        old,
-        new,
+    let mut boxes = LentBoxes {
         old_cards,
         old_entries,
         new_cards,
         new_entries,
-        position,
-    );
-    let editions = t.editions;
-    let behind = t.behind;
-    let numbers = behind_numbers(editions, behind);
+    };
+    let numbers = tell_behind(old, new, &mut boxes, position);
     *answer = numbers;
     numbers[0]
 }
 
-fn boards_numbers(r: Editions) -> [u64; 4]
+fn boards_numbers(r: Result<Both, EditionsRefusal>) -> [u64; 4]
     ensures { result ≡ boards_numbers r }
 {
-    let h = editions_head(r);
     match r {
-        Editions::Both(_, n) => [h.refusal, h.edition, h.carried, n],
-        Editions::Refused(_) => [h.refusal, h.edition, h.carried, 0],
+        Ok(both) => [0, 0, 0, both.new.boards as u64],
+        Err(f) => {
+            let h = refused_head(PlanRefusal::Edition(f));
+            [h.refusal, h.edition, h.carried, 0]
+        }
     }
 }
 
@@ -383,25 +380,35 @@ pub fn golavimes_boards(
         (record { old_cards = old_cards.new; old_entries = old_entries.new; new_cards = new_cards.new; new_entries = new_entries.new })
         boards.new answer.new result }
 {
-    let t = planning::boards::plan_boards(
-        old,
-        new,
+    let mut lent = LentBoxes {
         old_cards,
         old_entries,
         new_cards,
         new_entries,
-        boards,
-    );
-    let numbers = boards_numbers(t);
+    };
+    let numbers = boards_numbers(planning::boards::plan_boards(old, new, &mut lent, boards));
     *answer = numbers;
     numbers[0]
 }
 
-fn searches_numbers(r: Editions, words: u64) -> [u64; 5]
-    ensures { result ≡ searches_numbers r words }
+fn searches_numbers(r: Result<Searched, EditionsRefusal>) -> [u64; 5]
+    ensures { result ≡ told_searches r }
 {
-    let b = boards_numbers(r);
-    [b[0], b[1], b[2], b[3], words]
+    match r {
+        Ok(s) => [0, 0, 0, s.boards as u64, s.words],
+        Err(f) => {
+            let h = refused_head(PlanRefusal::Edition(f));
+            [h.refusal, h.edition, h.carried, 0, 0]
+        }
+    }
+}
+
+// The numbers of all searches.
+fn tell_searches(old: &[u8], new: &[u8], boxes: &mut LentBoxes, searches: &mut [u64]) -> [u64; 5]
+    ensures told { SearchesOut built_in old.now new.now (words_of boxes.old) searches.old (words_of boxes.new) searches.new result (get_or result 0 0) }
+    ensures same { SameLent boxes.old boxes.new }
+{
+    searches_numbers(planning::searches::plan_searches(old, new, boxes, searches))
 }
 
 // Five numbers for each board of the new edition: state, source board, and the hand words compared in the searches for old, near and twin.
@@ -421,18 +428,13 @@ pub fn golavimes_searches(
         (record { old_cards = old_cards.new; old_entries = old_entries.new; new_cards = new_cards.new; new_entries = new_entries.new })
         searches.new answer.new result }
 {
-    let t = planning::searches::plan_searches(
-        old,
-        new,
+    let mut boxes = LentBoxes {
         old_cards,
         old_entries,
         new_cards,
         new_entries,
-        searches,
-    );
-    let editions = t.editions;
-    let words = t.words;
-    let numbers = searches_numbers(editions, words);
+    };
+    let numbers = tell_searches(old, new, &mut boxes, searches);
     *answer = numbers;
     numbers[0]
 }
@@ -469,17 +471,13 @@ pub fn golavimes_finish(
         (record { old_cards = old_cards.new; old_entries = old_entries.new; new_cards = new_cards.new; new_entries = new_entries.new })
         page.new answer.new result }
 {
-    let w = writer::finish::finish(
-        old,
-        new,
+    let mut boxes = LentBoxes {
         old_cards,
         old_entries,
         new_cards,
         new_entries,
-        answers,
-        page,
-    );
-    let numbers = finishing_numbers(w);
+    };
+    let numbers = finishing_numbers(writer::finish::finish(old, new, &mut boxes, answers, page));
     *answer = numbers;
     numbers[0]
 }

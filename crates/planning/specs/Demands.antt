@@ -128,7 +128,7 @@ NothingListed =
     → ((x : List ℕ) → Among x (cards_of c new) → is_whole x ≡ true → has_table x ≡ true)
     → (t.solve ≡ 0) × (slips' ≡ replicate (length slips') 0)
 
--- THEOREM (planning/proofs/StructLaws.antt). Ok with structs, and with five numbers for each of them: the same answer, the same boxes, and the structs'
+-- THEOREM (planning/proofs/StructLaws.antt). Planned with structs, and with five numbers for each of them: the same answer, the same boxes, and the structs'
 -- numbers are the numbers.
 abbrev pub SamePlan : Type 0
 SamePlan =

@@ -21,13 +21,7 @@ fn board_numbers(olds: &[Card], news: &[Card], k: usize) -> [u64; 5]
 {
     let s = state_of(olds, news, k);
     let b = behind_state(olds, news, (k + 1) as u64, s);
-    [
-        s.number(),
-        s.source(),
-        b.edition.number(),
-        b.start,
-        b.end,
-    ]
+    [s.number(), s.source(), b.edition.number(), b.start, b.end]
 }
 
 // Stores the five numbers of each board, as many as there is room for.

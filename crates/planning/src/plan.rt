@@ -129,11 +129,7 @@ pub(crate) fn count_boards(olds: &[Card], news: &[Card]) -> Totals
 }
 
 // The answer for the totals where so many slips have room; all cards and entries are set to 0 where it is a refusal.
-pub(crate) fn settle(
-    boxes: &mut LentBoxes,
-    room: usize,
-    t: Totals,
-) -> Result<Totals, PlanRefusal>
+pub(crate) fn settle(boxes: &mut LentBoxes, room: usize, t: Totals) -> Result<Totals, PlanRefusal>
     ensures settled { Settled (words_of boxes.old) room t result (words_of boxes.new) }
     ensures same { SameLent boxes.old boxes.new }
 {

@@ -61,24 +61,12 @@ called_by_lem c b t s e = rw (s, e)
 count_of : {r q : Bidding} → r ≡ q → r.count ≡ q.count
 count_of e = ap (λ (x : Bidding). x.count) e
 
-pub passes_out_lem : (b : Bidding) (p len : ℕ) {l l₁ l₂ l₃ : Entries} {r : Bidding}
-    → Adds l l₁ (entry 6 p len 0 ∷ []) → Adds l₁ l₂ (entry 6 p len 0 ∷ []) → Adds l₂ l₃ (entry 6 p len 0 ∷ [])
-    → r ≡ bidding true b.end true (b.count + 3) → Emits l l₃ r (passes_out b p len) × (r.count ≤ b.count + 3)
-passes_out_lem b p len e₁ e₂ e₃ er = (record { answer = er; adds = adds_then e₁ (adds_then e₂ e₃) }, omega (arith, count_of er))
-
 pub call_annotated : (b : Bidding) (p len k code : ℕ) {l l₁ l₂ : Entries} {r : Bidding} → k < len
     → Adds l l₁ (entry 6 p k code ∷ []) → Adds l₁ l₂ (entry 7 (p + k) (len - k) 0 ∷ [])
     → r ≡ bidding true b.end false (b.count + 2) → Emits l l₂ r (call_out b p len k code) × (r.count ≤ b.count + 3)
 call_annotated b p len k code h e₁ e₂ er =
     let z : ltb 0 (len - k) ≡ true = lt-ltb 0 (len - k) (omega arith) in
     (record { answer = rw z er; adds = rw z (adds_then e₁ e₂) }, omega (arith, count_of er))
-
-pub call_plain : (b : Bidding) (p len k code : ℕ) {l l₁ : Entries} {r : Bidding} → len ≤ k
-    → Adds l l₁ (entry 6 p k code ∷ [])
-    → r ≡ bidding true b.end false (b.count + 1) → Emits l l₁ r (call_out b p len k code) × (r.count ≤ b.count + 3)
-call_plain b p len k code h e₁ er =
-    let z : ltb 0 (len - k) ≡ false = le-ltb 0 (len - k) (omega arith) in
-    (record { answer = rw z er; adds = rw z e₁ }, omega (arith, count_of er))
 
 module _ (c : Conventions) (b : Bidding) (t : Piece) where
   pub step_stopped : {l : Entries} → b.stopped ≡ true → Emits l l b (called c b t) × (b.count ≤ b.count + 3)

@@ -74,18 +74,10 @@ card_length start end n count b eh ek =
     let i : length (w ++ b.table.cells) ≡ 38 = length-append w b.table.cells ∙ omega arith in
     length-append (w ++ b.table.cells) x ∙ omega arith
 
--- The low 32 bits of a sum are those of the sum of low 32 bits.
-pub word_sum : (n x : ℕ) → (n % 4294967296 + x % 4294967296) % 4294967296 ≡ (n + x) % 4294967296
-word_sum n x = omega arith
-
 -- ---- a record
 
 pub own_length : (t : List ℕ) (a e : ℕ) → a ≤ e → e ≤ length t → a + length (take (e - a) (drop a t)) ≡ e
 own_length t a e h₁ h₂ = omega (arith, length-take (e - a) (drop a t), length-drop a t)
-
--- A record's state counts at most four entries for each byte.
-pub record_few : (c : Conventions) (r : List ℕ) {s : State} → s ≡ (record_out c r).state → s.n ≤ 4 * length r
-record_few c r e = omega (arith, ap (λ (x : State). x.n) e, record_counts c r, EntriesFew c r)
 
 pub record_in : {c : Conventions} {r : List ℕ} {e k : ℕ} {cards : List ℕ} {s : State} {l l' : Entries} {entries entries' cards' : List ℕ} (a n : ℕ) → l.start ≡ a → l.count ≡ n → entries ≡ l.words.now → entries' ≡ l'.words.now → e ≡ a + length r
     → Emits l l' s (record_out c r)

@@ -144,9 +144,6 @@ pub record Seeking (r : List ℕ) (p : ℕ) (commentary : Bool) (e : ℕ) : Type
   pub from_p : p ≤ e
   pub inside : e ≤ length r
 
-pub seeking : (r : List ℕ) (p : ℕ) → p ≤ length r → Seeking r p false p
-seeking r p h = record { lines = refl; from_p = omega arith; inside = h }
-
 module _ (r : List ℕ) (p : ℕ) where
   seek_line : (commentary : Bool) (e : ℕ) (l : List ℕ) (v : Visit) → Seeking r p commentary e → LineAt r e l → visit_of commentary l ≡ v
       → data_in false p (raw_lines (drop p r)) ≡ visit_data (commentary_after commentary l) e l (raw_lines (drop (e + length l) r)) v
@@ -157,9 +154,6 @@ module _ (r : List ℕ) (p : ℕ) where
 
   pub seek_stop : (commentary : Bool) (e : ℕ) (l : List ℕ) → Seeking r p commentary e → LineAt r e l → visit_of commentary l ≡ Stop → data_from r p ≡ []
   seek_stop commentary e l k q h = seek_line commentary e l Stop k q h
-
-  pub seek_end : (commentary : Bool) (e : ℕ) → Seeking r p commentary e → length r ≤ e → data_from r p ≡ []
-  seek_end commentary e k h = k.lines ∙ ap (λ (x : List ℕ). data_in commentary e (raw_lines x)) (stop r e h)
 
   pub seek_piece : (commentary : Bool) (e : ℕ) (l : List ℕ) (s : Span) → Seeking r p commentary e → LineAt r e l → visit_of commentary l ≡ PieceOn s
       → PieceFrom r p (record { piece = record { start = e + s.start; len = s.len }; at = e + length l })

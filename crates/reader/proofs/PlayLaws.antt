@@ -39,31 +39,6 @@ none_seated = record { leader_low = omega arith; winner_low = omega arith; seat_
 
 -- ---- slots, winners, new tricks
 
-pub winner_is : (trump leader : ℕ) (s : Slots) {p q r t k : ℕ} → p ≡ weight trump (s.a / 13) s.a → q ≡ weight trump (s.a / 13) s.b → r ≡ weight trump (s.a / 13) s.c
-    → t ≡ weight trump (s.a / 13) s.d → k ≡ best_slot p q r t → ((leader + k) % 4 ≡ winner_of trump leader s) × ((leader + k) % 4 ≤ 4)
-winner_is trump leader s {p} {q} {r} {t} {k} ep eq er et ek = (rw (ek, ep, eq, er, et), omega arith)
-
-abbrev slotted : ℕ → ℕ → ℕ → Slots → Tricks
-slotted leader end count s = record { any = true; leader = leader; winner = 4; slots = s; seat = 0; end = end; stopped = false; count = count }
-
-none_low : Low no_slots
-none_low = record { a_low = omega arith; b_low = omega arith; c_low = omega arith; d_low = omega arith }
-
-pub new_is : (leader end count : ℕ) {s : Slots} → leader ≤ 4 → s ≡ no_slots → (slotted leader end count s ≡ new_trick leader end count) × OpenTrick (slotted leader end count s)
-new_is leader end count {s} h e = (
-  rw e,
-  record {
-    seated = record { leader_low = h; winner_low = omega arith; seat_low = omega arith; slots_low = rw e none_low };
-    seat_left = omega arith;
-  },
-)
-
-pub none_is : {s : Slots} → s ≡ no_slots → ◌≡◌ {A = Tricks} (record { any = false; leader = 4; winner = 4; slots = s; seat = 0; end = 0; stopped = false; count = 0 }) no_tricks
-none_is e = rw e
-
-pub next_low : (winner leader : ℕ) {r : ℕ} → r ≡ next_leader winner leader → leader ≤ 4 → winner ≤ 4 → r ≤ 4
-next_low winner leader e h k = rw e (cond_low (eqb winner 4) leader winner 4 h k)
-
 pub card_is : (trump lead : ℕ) (t : Tricks) (card : ℕ) {k : ℕ} {s : Slots} {r : Tricks} → k ≡ slot_of lead t.seat t.leader → s ≡ with_slot t.slots k card → r ≡ with_card trump t s
     → r ≡ with_card trump t (with_slot t.slots (slot_of lead t.seat t.leader) card)
 card_is trump lead t card ek es er = er ∙ ap (with_card trump t) (es ∙ ap (λ (j : ℕ). with_slot t.slots j card) ek)

@@ -187,17 +187,6 @@ read_closed_lem c s p w l t {r = r} h k =
 
 -- ---- where the data of a tag's line ends
 
-pub tag_inside : (t : TagReading) {tag : Tag} (n : ℕ) → tag ≡ tag_in t → ReadingPlaced t n → TagInside tag n
-tag_inside (Plain x) n e h = rw e h
-tag_inside (WithComment x d) n e h = rw e h.0
-tag_inside (WithData x d) n e h = rw e h.0
-
-pub no_span_ends : {d : Span} (q : ℕ) → d ≡ no_span → d.start + d.len ≤ q
-no_span_ends q e = rw e (omega arith)
-
-pub placed_ends : (d : Span) {d' : Span} (p n : ℕ) → d' ≡ at p d → d.start + d.len ≤ n → d'.start + d'.len ≤ p + n
-placed_ends d p n e h = rw e (omega (arith, h))
-
 -- ---- the number of tags
 
 pub read_tags : (c : Conventions) (w : List ℕ) (s : State) (p : ℕ) (l : List ℕ) (t : TagReading) → (tag_line_out c w s p l t).state.tags ≡ s.tags + 1

@@ -55,17 +55,6 @@ section_count c r o trump = omega (arith, no_count, walk_count_lem c o trump no_
 
 -- ---- one piece
 
-pub walk_none : (k : ℕ) (l : Entries) (w : Walk) → Seated w.tricks → Walks (walk_count w + 3 * k) l l w (record { state = w; entries = [] })
-walk_none k l w s = record { emits = emits_none l w; seated = s; few = omega arith }
-
-walk_one : {m : ℕ} {l l' : Entries} (f : Walk → Piece → Out Walk) (w : Walk) (q : Piece) {r : Walk} → Walks m l l' r (f w q) → Walks m l l' r (out_all f w (q ∷ []))
-walk_one {m} {l} {l'} f w q h =
-    record {
-      emits = record { answer = h.emits.answer; adds = rw (append-nil (f w q).entries) h.emits.adds };
-      seated = h.seated;
-      few = h.few;
-    }
-
 no_seated : Seated no_walk.tricks
 unfolding no_walk
 no_seated = none_seated
@@ -76,13 +65,6 @@ start_seated e = rw e no_seated
 
 pub start_none : {w : Walk} → w ≡ no_walk → walk_count w ≡ 0
 start_none e = rw e no_count
-
--- One piece of at most k bytes.
-pub span_one : (f : Walk → Piece → Out Walk) (k : ℕ) (l l' : Entries) (w : Walk) (q : Piece) (r : Walk) → length q.bytes ≤ k
-    → Walks (walk_count w + 3 * length q.bytes) l l' r (f w q) → Walks (walk_count w + 3 * k) l l' r (out_all f w (q ∷ []))
-span_one f k l l' w q r h v =
-    let u = walk_one f w q v in
-    record { emits = u.emits; seated = u.seated; few = omega (arith, u.few) }
 
 pub piece_called : (c : Conventions) (o : Open) (trump : ℕ) (w : Walk) (q : Piece) (k : ℕ) (l l' : Entries) (b : Bidding) → o.kind ≡ 1
     → Emits l l' b (called_piece c w.bidding q) → b.count ≤ w.bidding.count + 3 * k → Seated w.tricks
@@ -104,9 +86,6 @@ pub piece_row : (c : Conventions) (o : Open) (trump : ℕ) (w : Walk) (q : Piece
 unfolding walked rowed_piece
 piece_row c o trump w q k l v g h e s =
     rw (ne_eqb o.kind 1 g, ne_eqb o.kind 2 h) (record { emits = record { answer = rw e; adds = adds_none l }; seated = s; few = omega arith })
-
-pub cut_short : (s line : List ℕ) (p n : ℕ) → s ≡ take n (drop p line) → length s ≤ n
-cut_short s line p n e = rw (e, length-take) (omega arith)
 
 -- ---- the loop
 

@@ -23,6 +23,7 @@ use Rattle.reader.proofs.EditionLaws.{card_blocks}
 use Rattle.reader.proofs.CardLength.{CardsWhole}
 use Rattle.planning.specs.declared.editions.EditionsRefusal.{EditionsRefusal}
 use Rattle.planning.specs.States.{BoardPlan, board_plans}
+use Rattle.planning.specs.declared.editions.Both.{Both}
 use Rattle.planning.specs.Plans.{Boxes, old_reading, new_reading, both_after, editions_of, plans_of, BoxesAfter, BothRead, Editions}
 use Rattle.planning.specs.PlanSteps.{BoxesKept}
 use Rattle.planning.proofs.BothLaws.{both_are_taken}
@@ -204,8 +205,8 @@ read_holds cards entries (Ok n) a t ec ee =
     taken_holds {cards = cards} {entries = entries} (record { answer = a; cards_after = ec; entries_after = ee })
 read_holds cards entries (Err f) a t ec ee = clash t
 
-module _ {c : Conventions} {old new : List ℕ} {boxes boxes₁ : Boxes} {q : Editions} {m n : ℕ}
-    (b : BothRead c old new boxes boxes₁ q) (e : q ≡ Both m n) where
+module _ {c : Conventions} {old new : List ℕ} {boxes boxes₁ : Boxes} {q : Editions} {both : Both}
+    (b : BothRead c old new boxes boxes₁ q) (e : q ≡ Ok both) where
   filled : BoxesAfter c true old new boxes boxes₁
   filled = rw (ap is_ok e) at b.boxes_left
 
@@ -233,36 +234,36 @@ module _ {c : Conventions} {old new : List ℕ} {boxes boxes₁ : Boxes} {q : Ed
     box_read : boxes₁.new_cards ≡ flat (cards_of c new) ++ rest
     box_read = filled.new_cards
 
-    count_is : n ≡ length (cards_of c new)
+    count_is : both.new.boards ≡ length (cards_of c new)
     count_is = (there b e).1.count
 
-    box_given : given_box m n boxes₁ answers ≡ flat given_all ++ rest
+    box_given : given_box both.old.boards both.new.boards boxes₁ answers ≡ flat given_all ++ rest
     box_given =
-        let l : length (flat (cards_of c new)) ≡ 64 * n =
+        let l : length (flat (cards_of c new)) ≡ 64 * both.new.boards =
         length_flat (card_blocks (CardsWhole c new)) ∙ ap (λ (k : ℕ). 64 * k) (sym count_is) in
-        let d : drop (64 * n) boxes₁.new_cards ≡ rest = ap (drop (64 * n)) box_read ∙ drop_at (flat (cards_of c new)) rest (64 * n) l in
+        let d : drop (64 * both.new.boards) boxes₁.new_cards ≡ rest = ap (drop (64 * both.new.boards)) box_read ∙ drop_at (flat (cards_of c new)) rest (64 * both.new.boards) l in
         rw (d, (there b e).0.cards, (there b e).1.cards)
 
-    box_marked : changed_all marked n (given_box m n boxes₁ answers) ≡ flat (map marked given_all) ++ rest
+    box_marked : changed_all marked both.new.boards (given_box both.old.boards both.new.boards boxes₁ answers) ≡ flat (map marked given_all) ++ rest
     box_marked =
-        let l : n ≡ length given_all = count_is ∙ sym (given_count all_given_lem) in
-        ap (changed_all marked n) box_given
+        let l : both.new.boards ≡ length given_all = count_is ∙ sym (given_count all_given_lem) in
+        ap (changed_all marked both.new.boards) box_given
         ∙ ap (λ (k : ℕ). changed_all marked k (flat given_all ++ rest)) l
         ∙ changed_flat marked (given_whole all_given_lem) rest
 
     -- The given tables taken away, the cards are what was read.
-    box_back : changed_all given_cleared n (changed_all marked n (given_box m n boxes₁ answers)) ≡ boxes₁.new_cards
+    box_back : changed_all given_cleared both.new.boards (changed_all marked both.new.boards (given_box both.old.boards both.new.boards boxes₁ answers)) ≡ boxes₁.new_cards
     box_back =
         let ys = map marked given_all in
-        let l : n ≡ length ys = count_is ∙ sym (tabled_count all_given_lem (CardsWhole c new) rest) in
-        ap (changed_all given_cleared n) box_marked
+        let l : both.new.boards ≡ length ys = count_is ∙ sym (tabled_count all_given_lem (CardsWhole c new) rest) in
+        ap (changed_all given_cleared both.new.boards) box_marked
         ∙ ap (λ (k : ℕ). changed_all given_cleared k (flat ys ++ rest)) l
         ∙ changed_flat given_cleared (tabled_whole all_given_lem (CardsWhole c new) rest) rest
         ∙ ap (λ (xs : List (List ℕ)). flat xs ++ rest) (all_back all_given_lem)
         ∙ sym box_read
 
     -- The page is that of the finished edition.
-    page_is : tabled_page c new m n boxes₁ answers ≡ finished_text c old new answers
+    page_is : tabled_page c new both.old.boards both.new.boards boxes₁ answers ≡ finished_text c old new answers
     unfolding finished_text finished_boards
     page_is =
         let ts = tables_of c old new answers in
@@ -274,15 +275,15 @@ module _ {c : Conventions} {old new : List ℕ} {boxes boxes₁ : Boxes} {q : Ed
 
   -- Both editions were read, and the new one finished.
   pub finish_done : {answers page page' : List ℕ} {r : Result ℕ FinishRefusal} {boxes' : Boxes} → SameRoom boxes boxes₁
-      → BoardsFinished c new m n boxes₁ answers page r boxes' page'
+      → BoardsFinished c new both.old.boards both.new.boards boxes₁ answers page r boxes' page'
       → IsFinished c old new boxes answers page r boxes' page'
   unfolding finishing_of
   finish_done {answers} {page} {page'} {r} {boxes'} room d =
       let text = finished_text c old new answers in
       let same = page_is answers in
-      let few : length (tabled_page c new m n boxes₁ answers) ≤ 549755813888 =
+      let few : length (tabled_page c new both.old.boards both.new.boards boxes₁ answers) ≤ 549755813888 =
       rw same (omega (arith, FinishedFew c old new answers new_holds.short)) in
-      let a : editions_of c old new boxes ≡ Both m n = sym b.answer ∙ e in
+      let a : editions_of c old new boxes ≡ Ok both = sym b.answer ∙ e in
       let kept : BoxesKept (is_ok r) boxes₁ boxes' = rw (box_back answers) at d.boxes_left in
       record {
         answer = d.answer few ∙ rw (a, same, boards_are b e);

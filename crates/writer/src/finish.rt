@@ -3,6 +3,7 @@ ghost use Rattle.std.specs.Prelude.{◌≡◌, false, ◌+◌, ◌*◌, ◌≤�
 ghost use Rattle.tables.specs.Letters.{built_in};
 ghost use Rattle.reader.specs.Store.{zeros};
 ghost use Rattle.planning.specs.PlanSteps.{BoxesKept};
+ghost use Rattle.planning.specs.Plans.{words_of, SameLent};
 ghost use Rattle.writer.specs.GivenCards.{marked, given_cleared, changed_at, changed_all, FinishEnded, FinishPut, BoardsFinished};
 ghost use Rattle.writer.specs.Finishings.{finish_number, finish_carries, finish_edition, first_above, checked_of, IsFinished};
 
@@ -10,10 +11,9 @@ use crate::give::give_tables;
 use crate::write::{clear, put_edition};
 use planning::cards::{card_here, has_table, is_whole};
 use planning::editions::{
-    Editions, EditionsRefusal, edition_refused, editions_carried, editions_number, read_both,
+    EditionsRefusal, LentBoxes, edition_refused, editions_carried, editions_number, read_both,
 };
-use planning::plan::zero_boxes;
-use reader::store::copy_in;
+use reader::store::{copy_in, zero};
 use tables::letters::{Conventions, built_in};
 
 // Refusals 1 to 3 of an edition; 5 answers of another number of bytes than 20 a slip, 6 a byte above 13, 7 the page is too short;
@@ -143,7 +143,10 @@ fn zero_all(
         (record { old_cards = old_cards.new; old_entries = old_entries.new; new_cards = new_cards.new; new_entries = new_entries.new }))
         × (page.new ≡ zeros page.old) }
 {
-    zero_boxes(old_cards, old_entries, new_cards, new_entries);
+    zero(old_cards);
+    zero(old_entries);
+    zero(new_cards);
+    zero(new_entries);
     clear(page);
 }
 
@@ -188,7 +191,8 @@ fn put_finished(
     n
 }
 
-// Finishes the new edition, once both were read.
+// Finishes the new edition, once both were read. The boxes are passed one by one: the check follows no function that reads the cards of one
+// edition in LentBoxes while it changes those of the other.
 fn finish_boards(
     c: Conventions,
     new: &[u8],
@@ -226,33 +230,27 @@ pub fn finish_with(
     c: Conventions,
     old: &[u8],
     new: &[u8],
-    old_cards: &mut [u32],
-    old_entries: &mut [u32],
-    new_cards: &mut [u32],
-    new_entries: &mut [u32],
+    boxes: &mut LentBoxes,
     answers: &[u8],
     page: &mut [u8],
 ) -> Result<u64, FinishRefusal>
-    ensures { IsFinished c old.now new.now
-        (record { old_cards = old_cards.old; old_entries = old_entries.old; new_cards = new_cards.old; new_entries = new_entries.old })
-        answers.now page.old result
-        (record { old_cards = old_cards.new; old_entries = old_entries.new; new_cards = new_cards.new; new_entries = new_entries.new })
-        page.new }
+    ensures finished { IsFinished c old.now new.now (words_of boxes.old) answers.now page.old result (words_of boxes.new) page.new }
+    ensures same { SameLent boxes.old boxes.new }
 {
-    match read_both(c, old, new, old_cards, old_entries, new_cards, new_entries) {
-        Editions::Refused(f) => {
+    match read_both(c, old, new, boxes) {
+        Err(f) => {
             clear(page);
             Err(FinishRefusal::Edition(f))
         }
-        Editions::Both(olds, news) => finish_boards(
+        Ok(both) => finish_boards(
             c,
             new,
-            old_cards,
-            old_entries,
-            new_cards,
-            new_entries,
-            olds as usize,
-            news as usize,
+            boxes.old_cards,
+            boxes.old_entries,
+            boxes.new_cards,
+            boxes.new_entries,
+            both.old.boards,
+            both.new.boards,
             answers,
             page,
         ),
@@ -263,28 +261,12 @@ pub fn finish_with(
 pub fn finish(
     old: &[u8],
     new: &[u8],
-    old_cards: &mut [u32],
-    old_entries: &mut [u32],
-    new_cards: &mut [u32],
-    new_entries: &mut [u32],
+    boxes: &mut LentBoxes,
     answers: &[u8],
     page: &mut [u8],
 ) -> Result<u64, FinishRefusal>
-    ensures { IsFinished built_in old.now new.now
-        (record { old_cards = old_cards.old; old_entries = old_entries.old; new_cards = new_cards.old; new_entries = new_entries.old })
-        answers.now page.old result
-        (record { old_cards = old_cards.new; old_entries = old_entries.new; new_cards = new_cards.new; new_entries = new_entries.new })
-        page.new }
+    ensures finished { IsFinished built_in old.now new.now (words_of boxes.old) answers.now page.old result (words_of boxes.new) page.new }
+    ensures same { SameLent boxes.old boxes.new }
 {
-    finish_with(
-        built_in(),
-        old,
-        new,
-        old_cards,
-        old_entries,
-        new_cards,
-        new_entries,
-        answers,
-        page,
-    )
+    finish_with(built_in(), old, new, boxes, answers, page)
 }

@@ -11,8 +11,7 @@ use Rattle.listing_text.proofs.listing.list_taken.Goals as goal
 pub put_listing-n-requires : goal.put_listing-n-requires
 put_listing-n-requires c =
     let b = c.args.both in
-    let n : length c.cards.result.1.now ≤ 16777215 = rw (c.cards.ensures.1, cards_count) c.requires.3 in
-    (
+    let n : length c.cards.result.1.now ≤ 16777215 = rw (c.cards.ensures.1, cards_count) c.requires.3 in (
       rw (c.cards-in-Ok.ensures.0, cards_count) c.requires.2,
       rw (c.cards-in-Ok.ensures.1, cards_count) c.requires.3,
       listed_low c.cards.result.0.now c.cards.result.1.now c.put_slips-t.ensures.0 n c.finish_plan.ensures.ended c.in-Ok.is,

@@ -1,13 +1,12 @@
-use Rattle.planning.proofs.AnswerLaws.{there}
+use Rattle.planning.proofs.AnswerLaws.{same_room, there}
 use Rattle.writer.proofs.FinishLaws.{finish_done, finish_refused}
 use Rattle.writer.proofs.finish.finish_with.Goals as goal
 
 pub finish_boards-requires : goal.finish_boards-requires
-finish_boards-requires c = ((there c.read_both.ensures c.in-Both.is).0.room, (there c.read_both.ensures c.in-Both.is).1.room)
+finish_boards-requires c = let t = there c.read_both.ensures.read c.in-Ok.is in (t.0.room, t.1.room)
 
-pub returns-in-Refused : goal.returns-in-Refused
-returns-in-Refused c = finish_refused c.read_both.ensures c.in-Refused.is c.clear.ensures
+pub returns-in-Err-clause-finished : goal.returns-in-Err-clause-finished
+returns-in-Err-clause-finished c = finish_refused c.read_both.ensures.read c.in-Err.is c.clear.ensures
 
-pub returns-in-Both : goal.returns-in-Both
-returns-in-Both c = let b = c.read_both in
-    finish_done b.ensures c.in-Both.is (record { old_cards = b.auto.old_cards; old_entries = b.auto.old_entries; new_cards = b.auto.new_cards; new_entries = b.auto.new_entries }) c.finish_boards.ensures
+pub returns-in-Ok-clause-finished : goal.returns-in-Ok-clause-finished
+returns-in-Ok-clause-finished c = finish_done c.read_both.ensures.read c.in-Ok.is (same_room c.read_both.ensures.same) c.finish_boards.ensures

@@ -1,4 +1,0 @@
-use Rattle.writer.proofs.finish.finish.Goals as goal
-
-pub returns : goal.returns
-returns c = rw c.built_in.ensures at c.finish_with.ensures
