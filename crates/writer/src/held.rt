@@ -67,7 +67,7 @@ impl<'a> Board<'a> {
         Board {
             cards,
             index,
-            remarks: items.before(first),
+            remarks: items.part(first, 0),
         }
     }
 
@@ -95,12 +95,7 @@ impl<'a> Board<'a> {
     pub(crate) fn items(&self) -> Items<'a>
         ensures { ItemsFrom self.now.remarks (word_of self.now 0) (word_of self.now 1) result }
     {
-        Items {
-            text: self.remarks.text,
-            entries: self.remarks.entries,
-            first: self.word(0),
-            count: self.word(1),
-        }
+        self.remarks.part(self.word(0), self.word(1))
     }
 
     // The entries of the section that the word i names, an entry plus 1, 0 for none; the next word says how many there are.
@@ -113,12 +108,7 @@ impl<'a> Board<'a> {
         if w == 0 {
             return None;
         }
-        Some(Items {
-            text: self.remarks.text,
-            entries: self.remarks.entries,
-            first: w - 1,
-            count: self.word(i + 1),
-        })
+        Some(self.remarks.part(w - 1, self.word(i + 1)))
     }
 
     // Its entries from an entry on.
@@ -127,11 +117,6 @@ impl<'a> Board<'a> {
         ensures { ItemsFrom self.now.remarks first (word_of self.now 0 + word_of self.now 1 - first) result }
     {
         let end = self.word(0) + self.word(1);
-        Items {
-            text: self.remarks.text,
-            entries: self.remarks.entries,
-            first,
-            count: end.saturating_sub(first),
-        }
+        self.remarks.part(first, end.saturating_sub(first))
     }
 }

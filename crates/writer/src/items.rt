@@ -3,7 +3,7 @@ ghost use Rattle.std.specs.Prelude.{◌+◌, ◌≤◌};
 
 use tables::text::{from, upto};
 
-// The kinds of entries: a tag's name, a directive, a block, a call, an annotation, a trick.
+// The kinds of entries, numbers in the lent words: a tag's name, a directive, a block, a call, an annotation, a trick.
 pub(crate) const TAG: usize = 1;
 
 pub(crate) const DIRECTIVE: usize = 3;
@@ -27,7 +27,7 @@ pub struct Items<'a> {
 }
 
 impl<'a> Items<'a> {
-    ghost use Rattle.std.specs.Prelude.{◌≡◌, ◌<◌, ◌-◌};
+    ghost use Rattle.std.specs.Prelude.{◌≡◌, ◌<◌};
     ghost use Rattle.writer.specs.Held.{entry_word, place_bytes};
     ghost use Rattle.writer.specs.Items.{tag_at, ItemsFrom};
 
@@ -89,16 +89,16 @@ impl<'a> Items<'a> {
         self.first + self.count
     }
 
-    // Those before the entry e.
-    pub(crate) fn before(&self, e: usize) -> Items<'a>
-        requires { (self.now.first ≤ e) × (e ≤ 8589934592) }
-        ensures { ItemsFrom self.now self.now.first (e - self.now.first) result }
+    // Other entries of the same text.
+    pub(crate) fn part(&self, first: usize, count: usize) -> Items<'a>
+        requires { first + count ≤ 8589934592 }
+        ensures { ItemsFrom self.now first count result }
     {
         Items {
             text: self.text,
             entries: self.entries,
-            first: self.first,
-            count: e - self.first,
+            first,
+            count,
         }
     }
 }

@@ -18,7 +18,7 @@ use tables::page::Page;
 use tables::text::{from, index_of, trim, upto};
 
 // The notes of an auction: the entries from its calls on, and the place of the value of each note among them, by number. No value stands at
-// the place 0, which is that of no note.
+// the place 0, which is that of no note: an Option would say no more, in twice the memory.
 #[derive(Clone, Copy)]
 pub struct Notes<'a> {
     pub items: Items<'a>,

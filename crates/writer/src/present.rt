@@ -5,7 +5,8 @@ ghost use Rattle.writer.specs.PresentSteps.{is_tag_written};
 
 use reader::names::TagName;
 
-// What of a board there is: an id, a dealer, a table, an optimum score, a par contract, an auction, notes of it, a play.
+// What of a board there is: an id, a dealer, a table, an optimum score, a par contract, an auction, notes of it, a play. It is found once for
+// all remarks of a board, since the notes take a walk over its entries.
 #[derive(Clone, Copy)]
 pub struct Present {
     pub board: bool,

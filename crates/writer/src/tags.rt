@@ -59,7 +59,8 @@ fn is_extra(items: &Items, e: usize) -> bool
     if same(b"Scoring", name) {
         return false;
     }
-    find_name(&items.before(e), name).is_none()
+    let before = items.part(items.first, e - items.first);
+    find_name(&before, name).is_none()
 }
 
 // The supplemental tags among the entries of a board from the entry from on, count of them.
