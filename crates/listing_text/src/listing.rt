@@ -51,7 +51,12 @@ fn write_refused(page: &mut [u8], f: PlanRefusal) -> Result<u64, Refusal>
 }
 
 // The end of a page on which n bytes were put; all other lent words are set to 0 where they do not fit.
-fn finish_listing(boxes: &mut LentBoxes, slips: &mut [u64], page: &mut [u8], n: usize) -> Result<u64, Refusal>
+fn finish_listing(
+    boxes: &mut LentBoxes,
+    slips: &mut [u64],
+    page: &mut [u8],
+    n: usize,
+) -> Result<u64, Refusal>
     ensures kept { PageKept n (words_of boxes.old) slips.old page.old (words_of boxes.new) slips.new page.new result }
     ensures same { SameLent boxes.old boxes.new }
 {
