@@ -67,7 +67,7 @@ fn card_to(h: LinPart, k: u8) -> Option<LinPart>
 }
 
 // One character of a hand: a suit's letter, a rank's, or another.
-#[tactic(auto, unfolding(crate::specs::DealingSteps::letter_step))]
+#[tactic(auto, unfolding(crate::specs::DealingSteps::letter_step, reader::specs::Words::card_number))]
 fn hand_step(c: Conventions, h: LinPart, b: u8) -> Option<LinPart>
     requires { SoundPart h × (h.count < 2 ^ 63) }
     ensures { (result ≡ letter_step c h b) × IsSoundStep h result }
