@@ -38,7 +38,7 @@ fn is_read(lent: &[u32], also: &[u32], case: Case) -> bool {
     let mut entries = [FULL; 8192];
     let cards = &mut cards[..case.lent.cards];
     let entries = &mut entries[..case.lent.entries];
-    read_pbn(case.text, cards, entries);
+    let _ = read_pbn(case.text, cards, entries);
     (lent == &*cards) & (also == &*entries)
 }
 
