@@ -23,8 +23,7 @@ use Rattle.golavimes.specs.Answers.{finishing_numbers}
 use Rattle.demands.specs.Demand1.{Refusal, refusal, of_editions, solve_in, NotTwentyEach, possible, SomeAbove, NoValues, FinishRefuses}
 use Rattle.demands.specs.Demand1 as demand
 use Rattle.demands.proofs.Listing.{read_number_lem}
-use Rattle.demands.proofs.Refusing.{Says, Met, nothing, this, later, met_by, met_below, editions_met, first_that_holds, boxes_zero}
-use Rattle.std.specs.Prelude.{Err, is_ok}
+use Rattle.demands.proofs.Refusing.{Says, Met, nothing, this, later, met_by, met_below, editions_met, first_that_holds, boxes_zero, says_by, refused_by}
 
 -- ---- the first byte above 13
 
@@ -36,16 +35,6 @@ pub possible_few : (bs : List ℕ) → length (possible bs) ≤ length bs
 possible_few bs = front_few (λ b. not (ltb 13 b)) bs
 
 -- ---- the answer
-
-says_finishing : (w : Result ℕ FinishRefusal) (answer : List ℕ) (number edition carries : ℕ) → answer ≡ finishing_numbers w
-    → get_or (finishing_numbers w) 0 0 ≡ number → get_or (finishing_numbers w) 1 0 ≡ edition → get_or (finishing_numbers w) 2 0 ≡ carries
-    → Says answer number edition carries
-says_finishing w answer number edition carries e a b d = rw e (record { number_said = a; edition_said = b; carried_said = d })
-
--- A finishing whose answer does not begin with 0 is none that was finished.
-finishing_not : (w : Result ℕ FinishRefusal) → (get_or (finishing_numbers w) 0 0 ≡ 0 → ⊥) → (is_ok w ≡ false) × NoValues 1 (finishing_numbers w)
-finishing_not (Ok n) h = absurd (h refl)
-finishing_not (Err f) h = (refl, refl)
 
 -- The refusals behind those of the editions: 5, 6 and 7.
 abbrev of_page : List ℕ → List ℕ → List Refusal
@@ -64,7 +53,7 @@ module _ (c : Conventions) (old new : List ℕ) (boxes : Boxes) (answers page an
       → Says answer (editions_number f) (edition_refused f) (editions_carries f)
   unfolding finishing_of
   refused_says f q =
-      says_finishing (Err (Edition f)) answer (editions_number f) (edition_refused f) (editions_carries f) (rw q at told) refl refl refl
+      says_by (finishing_numbers (Err (Edition f))) answer (editions_number f) (edition_refused f) (editions_carries f) (rw q at told) refl refl refl
 
   page_met : (n : Both) → editions_of c old new boxes ≡ Ok n → eqb (length answers) (20 * solve_in c old new) ≡ true
       → eqb (first_above answers) (length answers) ≡ true → Met answer (of_page (finished_text c old new answers) page)
@@ -73,10 +62,10 @@ module _ (c : Conventions) (old new : List ℕ) (boxes : Boxes) (answers page an
       let size = length (finished_text c old new answers) in
       met_below 7 0 size (length page) size
       (λ v.
-      says_finishing (Err (PageFull size)) answer 7 0 size
+      says_by (finishing_numbers (Err (PageFull size))) answer 7 0 size
       (rw (q, t, u, lt-leb size (length page) (ltb-true (length page) size v)) at told) refl refl refl)
       (λ v.
-      nothing (says_finishing (Ok size) answer 0 0 0
+      nothing (says_by (finishing_numbers (Ok size)) answer 0 0 0
       (rw (q, t, u, le-leb size (length page) (ltb-false (length page) size v)) at told) refl refl refl))
 
   above_met : (n : Both) → editions_of c old new boxes ≡ Ok n → eqb (length answers) (20 * solve_in c old new) ≡ true
@@ -89,7 +78,7 @@ module _ (c : Conventions) (old new : List ℕ) (boxes : Boxes) (answers page an
       (λ u.
       let z : eqb (first_above answers) size ≡ false =
       ne_eqb (first_above answers) size (λ e. omega (arith, first_above_lem answers, ltb-true k size u)) in
-      says_finishing (Err (Impossible (first_above answers))) answer 6 0 k (rw (q, t, z) at told) refl refl (first_above_lem answers))
+      says_by (finishing_numbers (Err (Impossible (first_above answers)))) answer 6 0 k (rw (q, t, z) at told) refl refl (first_above_lem answers))
       (λ u.
       page_met n q t
       (eq-eqb (first_above answers) size (omega (arith, first_above_lem answers, possible_few answers, ltb-false k size u))))
@@ -100,13 +89,13 @@ module _ (c : Conventions) (old new : List ℕ) (boxes : Boxes) (answers page an
       met_by (eqb (length answers) (20 * solve_in c old new))
       (λ t. later (λ h. h (eqb-true (length answers) (20 * solve_in c old new) t)) (above_met n q t))
       (λ t. this (eqb-false (length answers) (20 * solve_in c old new) t)
-      (says_finishing (Err (Answers (solve_in c old new))) answer 5 0 (solve_in c old new) (rw (q, t) at told) refl refl refl))
+      (says_by (finishing_numbers (Err (Answers (solve_in c old new)))) answer 5 0 (solve_in c old new) (rw (q, t) at told) refl refl refl))
 
 pub finish_refuses : FinishRefuses
 finish_refuses c old new boxes answers page boxes' page' answer' r o =
     let w = finishing_of c old new boxes answers (length page) in
-    let refused : (r ≡ 0 → ⊥) → (is_ok w ≡ false) × NoValues 1 (finishing_numbers w) =
-    λ h. finishing_not w (λ z. h (o.returned ∙ ap (λ (l : List ℕ). get_or l 0 0) o.told ∙ z)) in
+    let refused : (r ≡ 0 → ⊥) → (is_ok w ≡ false) × NoValues 1 answer' =
+    refused_by finishing_numbers 1 (λ n. refl) (λ f. refl) w o.told o.returned in
     record {
       refused = first_that_holds (of_editions c old new boxes ++ of_answers c old new answers page) answer' refl
           (editions_met c old new boxes answer' (of_answers c old new answers page)
@@ -114,7 +103,7 @@ finish_refuses c old new boxes answers page boxes' page' answer' r o =
       returned = o.returned;
       boxes_zero = λ h. boxes_zero c (is_ok w) old new boxes boxes' (refused h).0 o.lent_after.boxes_left;
       page_zero = λ h. o.lent_after.page_left ∙ rw (refused h).0;
-      no_values = λ h. rw o.told (refused h).1;
+      no_values = λ h. (refused h).1;
     }
 
 -- ---- no refusal

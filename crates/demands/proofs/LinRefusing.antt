@@ -21,7 +21,7 @@ use Rattle.lin.specs.LinBoards.{LinBoard, lin_boards, any_card, all_deals, lin_t
 use Rattle.lin.specs.Conversions.{gives_deals, converted_of}
 use Rattle.golavimes.specs.Answers.{converted_numbers}
 use Rattle.demands.specs.Demand1.{Refusal, refusal, Overlong, PageFull, SomeBoard, HasCard, CardTwice, HandOver, north_over, east_over, south_over, west_over, NoDeal, no_card, card_twice, hand_over, NoValues, LinRefuses}
-use Rattle.demands.proofs.Refusing.{Says, Met, nothing, this, later, met_by, met_below, first_that_holds}
+use Rattle.demands.proofs.Refusing.{Says, Met, nothing, this, later, met_by, met_below, first_that_holds, says_by, refused_by, names_none}
 
 -- ---- a board among others
 
@@ -164,19 +164,6 @@ DealsAre bs e n =
 
 -- ---- the refusals
 
-says_converted : (w : Result Converted LinRefusal) (answer : List ℕ) (number carries : ℕ) → answer ≡ converted_numbers w
-    → get_or (converted_numbers w) 0 0 ≡ number → get_or (converted_numbers w) 1 0 ≡ 0 → get_or (converted_numbers w) 2 0 ≡ carries → Says answer number 0 carries
-says_converted w answer number carries e a b d = rw e (record { number_said = a; edition_said = b; carried_said = d })
-
--- A conversion whose answer does not begin with 0 gave no page.
-converted_not : (w : Result Converted LinRefusal) → (get_or (converted_numbers w) 0 0 ≡ 0 → ⊥) → (is_ok w ≡ false) × NoValues 2 (converted_numbers w)
-converted_not (Ok k) h = absurd (h refl)
-converted_not (Err f) h = (refl, refl)
-
-converted_one : (w : Result Converted LinRefusal) → get_or (converted_numbers w) 1 0 ≡ 0
-converted_one (Ok k) = refl
-converted_one (Err f) = refl
-
 abbrev lin_refusals : Conventions → List ℕ → List ℕ → List Refusal
 lin_refusals c text page =
     refusal 1 0 (length text) (Overlong text) ∷ refusal 16 0 0 (NoDeal (lin_boards c text)) ∷ refusal 7 0 (length (lin_text c text)) (PageFull (lin_text c text) page) ∷ []
@@ -187,25 +174,25 @@ converted_met c text page answer told =
     let n = length (lin_text c text) in
     let bs = lin_boards c text in
     met_below 1 0 (length text) 16777215 (length text)
-    (λ t. says_converted (Err (refused.Overlong (length text))) answer 1 (length text) (rw t at told) refl refl refl)
+    (λ t. says_by (converted_numbers (Err (refused.Overlong (length text)))) answer 1 0 (length text) (rw t at told) refl refl refl)
     (λ t.
     met_by (gives_deals bs)
     (λ u.
     later (DealsAre bs u)
     (met_below 7 0 n (length page) n
-    (λ v. says_converted (Err (refused.PageFull n)) answer 7 n (rw (t, u, lt-leb n (length page) (ltb-true (length page) n v)) at told) refl refl refl)
-    (λ v. nothing (says_converted (Ok (record { bytes = n; boards = length bs })) answer 0 0 (rw (t, u, le-leb n (length page) (ltb-false (length page) n v)) at told) refl refl refl))))
-    (λ u. this (NoDealIs bs u) (says_converted (Err refused.NoDeal) answer 16 0 (rw (t, u) at told) refl refl refl)))
+    (λ v. says_by (converted_numbers (Err (refused.PageFull n))) answer 7 0 n (rw (t, u, lt-leb n (length page) (ltb-true (length page) n v)) at told) refl refl refl)
+    (λ v. nothing (says_by (converted_numbers (Ok (record { bytes = n; boards = length bs }))) answer 0 0 0 (rw (t, u, le-leb n (length page) (ltb-false (length page) n v)) at told) refl refl refl))))
+    (λ u. this (NoDealIs bs u) (says_by (converted_numbers (Err refused.NoDeal)) answer 16 0 0 (rw (t, u) at told) refl refl refl)))
 
 pub lin_refuses : LinRefuses
 lin_refuses c text page page' answer' r o =
     let w = converted_of c text (length page) in
-    let refused : (r ≡ 0 → ⊥) → (is_ok w ≡ false) × NoValues 2 (converted_numbers w) =
-    λ h. converted_not w (λ z. h (o.returned ∙ ap (λ (l : List ℕ). get_or l 0 0) o.told ∙ z)) in
+    let refused : (r ≡ 0 → ⊥) → (is_ok w ≡ false) × NoValues 2 answer' =
+    refused_by converted_numbers 2 (λ k. refl) (λ f. refl) w o.told o.returned in
     record {
       refused = first_that_holds (lin_refusals c text page) answer' refl (converted_met c text page answer' o.told);
-      one_edition = rw o.told (converted_one w);
+      one_edition = rw o.told (names_none converted_numbers (λ k. refl) (λ f. refl) w);
       returned = o.returned;
       page_zero = λ h. o.lent_after.page_left ∙ rw (refused h).0;
-      no_values = λ h. rw o.told (refused h).1;
+      no_values = λ h. (refused h).1;
     }

@@ -108,6 +108,25 @@ pub met_below : {answer : List ℕ} {fs : List Refusal} (number edition carries 
 met_below number edition carries a b f g =
     met_by (ltb a b) (λ t. this (ltb-true a b t) (f t)) (λ t. later (λ h. clash (sym t ∙ lt-ltb a b h)) (g t))
 
+-- ---- an answer by its numbers
+
+pub says_by : (numbers answer : List ℕ) (number edition carries : ℕ) → answer ≡ numbers
+    → get_or numbers 0 0 ≡ number → get_or numbers 1 0 ≡ edition → get_or numbers 2 0 ≡ carries → Says answer number edition carries
+says_by numbers answer number edition carries e a b d = rw e (record { number_said = a; edition_said = b; carried_said = d })
+
+-- Where a call does not return 0, which it does where nothing is refused, the answer is a refusal's and has no values.
+pub refused_by : {T E : Type 0} (of : Result T E → List ℕ) (values : ℕ) → ((x : T) → get_or (of (Ok x)) 0 0 ≡ 0) → ((f : E) → NoValues values (of (Err f)))
+    → (w : Result T E) {answer : List ℕ} {r : ℕ} → answer ≡ of w → r ≡ get_or answer 0 0
+    → (r ≡ 0 → ⊥) → (is_ok w ≡ false) × NoValues values answer
+refused_by of values zero none (Ok x) e s h = absurd (h (s ∙ rw e (zero x)))
+refused_by of values zero none (Err f) e s h = (refl, rw e (none f))
+
+-- An answer that names no edition, whether a refusal's or not.
+pub names_none : {T E : Type 0} (of : Result T E → List ℕ) → ((x : T) → get_or (of (Ok x)) 1 0 ≡ 0) → ((f : E) → get_or (of (Err f)) 1 0 ≡ 0)
+    → (w : Result T E) → get_or (of w) 1 0 ≡ 0
+names_none of a b (Ok x) = a x
+names_none of a b (Err f) = b f
+
 -- ---- an edition
 
 -- Where it is refused, the answer says so; where it is taken, the refusals behind its own are met or none.
@@ -129,34 +148,20 @@ edition_met e c text cards entries answer fs refused taken =
     (λ v. refused (readRefusal.ListFull count) (rw (t, u, v)))
     (λ v. taken (counts_of c text) (rw (t, u, v)))))
 
-reading_says : (r : Result Counts ReadRefusal) (answer : List ℕ) (f : ReadRefusal) → answer ≡ reading_numbers r → r ≡ Err f → Says answer (read_number f) 0 (read_carries f)
-reading_says r answer f e q = rw (e, q) (record { number_said = refl; edition_said = refl; carried_said = refl })
-
-reading_taken : (r : Result Counts ReadRefusal) (answer : List ℕ) (n : Counts) → answer ≡ reading_numbers r → r ≡ Ok n → Says answer 0 0 0
-reading_taken r answer n e q = rw (e, q) (record { number_said = refl; edition_said = refl; carried_said = refl })
-
--- A reading whose answer does not begin with 0 is none that was taken.
-reading_not : (r : Result Counts ReadRefusal) → (get_or (reading_numbers r) 0 0 ≡ 0 → ⊥) → (is_ok r ≡ false) × NoValues 2 (reading_numbers r)
-reading_not (Ok n) h = absurd (h refl)
-reading_not (Err f) h = (refl, refl)
-
-reading_one : (r : Result Counts ReadRefusal) → get_or (reading_numbers r) 1 0 ≡ 0
-reading_one (Ok n) = refl
-reading_one (Err f) = refl
-
 pub read_refuses : ReadRefuses
 read_refuses c text cards entries cards' entries' answer' r o =
     let q = reading_of c text (length cards) (length entries) in
-    let refused : (r ≡ 0 → ⊥) → (is_ok q ≡ false) × NoValues 2 (reading_numbers q) =
-    λ h. reading_not q (λ z. h (o.returned ∙ ap (λ (l : List ℕ). get_or l 0 0) o.told ∙ z)) in
+    let refused : (r ≡ 0 → ⊥) → (is_ok q ≡ false) × NoValues 2 answer' =
+    refused_by reading_numbers 2 (λ n. refl) (λ f. refl) q o.told o.returned in
     record {
       refused = first_that_holds (of_edition 0 c text cards entries) answer' refl
-          (edition_met 0 c text cards entries answer' [] (λ f e. reading_says q answer' f o.told e) (λ n e. nothing (reading_taken q answer' n o.told e)));
-      one_edition = rw o.told (reading_one q);
+          (edition_met 0 c text cards entries answer' [] (λ f e. says_by (reading_numbers (Err f)) answer' (read_number f) 0 (read_carries f) (rw e at o.told) refl refl refl)
+          (λ n e. nothing (says_by (reading_numbers (Ok n)) answer' 0 0 0 (rw e at o.told) refl refl refl)));
+      one_edition = rw o.told (names_none reading_numbers (λ n. refl) (λ f. refl) q);
       returned = o.returned;
       cards_zero = λ h. o.cards_after ∙ rw (refused h).0;
       entries_zero = λ h. o.entries_after ∙ rw (refused h).0;
-      no_values = λ h. rw o.told (refused h).1;
+      no_values = λ h. (refused h).1;
     }
 
 -- ---- both editions

@@ -46,15 +46,17 @@ abbrev pub reading_numbers : Result Counts ReadRefusal → List ℕ
 reading_numbers (Ok n) = 0 ∷ 0 ∷ 0 ∷ n.boards ∷ n.entries ∷ []
 reading_numbers (Err f) = read_number f ∷ 0 ∷ read_carries f ∷ 0 ∷ 0 ∷ []
 
--- A written edition's answer: the bytes written.
-abbrev pub writing_numbers : Result ℕ WriteRefusal → List ℕ
-writing_numbers (Ok n) = 0 ∷ 0 ∷ 0 ∷ n ∷ []
-writing_numbers (Err f) = write_number f ∷ 0 ∷ write_carries f ∷ 0 ∷ []
+-- The answer of what was written: the bytes. What a refusal tells is given.
+abbrev pub bytes_numbers : {E : Type 0} → (E → ℕ) → (E → ℕ) → (E → ℕ) → Result ℕ E → List ℕ
+bytes_numbers number edition carries (Ok n) = 0 ∷ 0 ∷ 0 ∷ n ∷ []
+bytes_numbers number edition carries (Err f) = number f ∷ edition f ∷ carries f ∷ 0 ∷ []
 
--- A finished edition's answer: the bytes written.
+-- A written edition's answer, and a finished one's.
+abbrev pub writing_numbers : Result ℕ WriteRefusal → List ℕ
+writing_numbers r = bytes_numbers write_number (λ f. 0) write_carries r
+
 abbrev pub finishing_numbers : Result ℕ FinishRefusal → List ℕ
-finishing_numbers (Ok n) = 0 ∷ 0 ∷ 0 ∷ n ∷ []
-finishing_numbers (Err f) = finish_number f ∷ finish_edition f ∷ finish_carries f ∷ 0 ∷ []
+finishing_numbers r = bytes_numbers finish_number finish_edition finish_carries r
 
 -- A converted LIN text's answer: the bytes written and the boards.
 abbrev pub converted_numbers : Result Converted LinRefusal → List ℕ

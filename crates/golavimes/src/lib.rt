@@ -1,23 +1,52 @@
 // The boundary: thin functions on byte and number slices over the layers. golavimes_c exports them to C.
 #![tactic(auto)]
 
-ghost use Rattle.std.specs.Prelude.{◌≡◌, get_or};
-ghost use Rattle.golavimes.specs.Answers.{written_numbers, decoded_numbers, table_left, reading_numbers, writing_numbers, converted_numbers, finishing_numbers, refused_head, plan_numbers, boards_numbers, WroteOut, ReadOut, EditionOut, WritingOut, LinOut, PlanOut, StateOut, BehindOut, BoardsOut, SearchesOut, FinishOut};
+ghost use Rattle.std.specs.Prelude.{◌≡◌, ◌+◌, ◌-◌, ◌≤◌, ◌∷◌, length, get_or, replicate};
+ghost use Rattle.golavimes.specs.Answers.{written_numbers, decoded_numbers, table_left, bytes_numbers, refused_head, plan_numbers, boards_numbers, WroteOut, ReadOut, EditionOut, WritingOut, LinOut, PlanOut, StateOut, BehindOut, BoardsOut, SearchesOut, FinishOut};
 ghost use Rattle.planning.specs.Plans.{words_of, SameLent};
 ghost use Rattle.golavimes.specs.AnswerSteps.{told_state, told_behind, told_searches};
 ghost use Rattle.tables.specs.Letters.{built_in};
 ghost use Rattle.tables.specs.Tables.{digits_text, header_text, rows_text, table_of_digits, table_of_rows};
 
-use lin::convert::{Converted, LinRefusal};
 use planning::behind::Behind;
 use planning::editions::{Both, EditionsRefusal, LentBoxes};
 use planning::plan::{PlanRefusal, Totals};
 use planning::searches::Searched;
 use planning::state::BoardState;
-use reader::edition::{Counts, ReadRefusal};
 use tables::refusal::Refusal;
-use writer::finish::FinishRefusal;
-use writer::write::WriteRefusal;
+use tables::refused::Refused;
+
+// Tells the caller values, and that nothing is refused.
+fn tell(values: &[u64], answer: &mut [u64]) -> u64
+    requires { length answer.old ≡ 3 + length values.now }
+    ensures { (answer.new ≡ 0 ∷ 0 ∷ 0 ∷ values.now) × (result ≡ 0) }
+{
+    answer[..3].fill(0);
+    answer[3..].copy_from_slice(values);
+    0
+}
+
+// Tells the caller a refusal. All values are 0.
+fn refuse<R: Refused>(refusal: R, answer: &mut [u64]) -> u64
+    requires { 3 ≤ length answer.old }
+    ensures { (answer.new ≡ R.number_of refusal ∷ R.edition_of refusal ∷ R.carries refusal ∷ replicate (length answer.old - 3) 0) × (result ≡ R.number_of refusal) }
+{
+    answer.fill(0);
+    answer[0] = refusal.number();
+    answer[1] = refusal.edition();
+    answer[2] = refusal.carried();
+    answer[0]
+}
+
+// Tells the caller how many bytes were written.
+fn tell_bytes<R: Refused>(written: Result<u64, R>, answer: &mut [u64; 4]) -> u64
+    ensures { (answer.new ≡ bytes_numbers R.number_of R.edition_of R.carries written) × (result ≡ get_or answer.new 0 0) }
+{
+    match written {
+        Ok(bytes) => tell(&[bytes], answer),
+        Err(f) => refuse(f, answer),
+    }
+}
 
 fn written_numbers(written: Result<u64, Refusal>) -> [u64; 4]
     ensures { result ≡ written_numbers written }
@@ -107,21 +136,6 @@ pub fn golavimes_optimum_result_table_from_rows(
     )
 }
 
-fn reading_numbers(r: Result<Counts, ReadRefusal>) -> [u64; 5]
-    ensures { result ≡ reading_numbers r }
-{
-    match r {
-        Ok(counts) => [0, 0, 0, counts.boards as u64, counts.entries as u64],
-        Err(f) => [
-            reader::edition::read_number(f),
-            0,
-            reader::edition::read_carried(f),
-            0,
-            0,
-        ],
-    }
-}
-
 // Reads a text into cards of 64 words and entries of 4.
 pub fn golavimes_read(
     text: &[u8],
@@ -131,22 +145,9 @@ pub fn golavimes_read(
 ) -> u64
     ensures { EditionOut built_in text.now cards.old entries.old cards.new entries.new answer.new result }
 {
-    let numbers = reading_numbers(reader::edition::read_pbn(text, cards, entries));
-    *answer = numbers;
-    numbers[0]
-}
-
-fn writing_numbers(w: Result<u64, WriteRefusal>) -> [u64; 4]
-    ensures { result ≡ writing_numbers w }
-{
-    match w {
-        Ok(n) => [0, 0, 0, n],
-        Err(f) => [
-            writer::write::write_number(f),
-            0,
-            writer::write::write_carried(f),
-            0,
-        ],
+    match reader::edition::read_pbn(text, cards, entries) {
+        Ok(n) => tell(&[n.boards as u64, n.entries as u64], answer),
+        Err(f) => refuse(f, answer),
     }
 }
 
@@ -160,33 +161,17 @@ pub fn golavimes_write(
 ) -> u64
     ensures { WritingOut built_in text.now cards.old entries.old page.old cards.new entries.new page.new answer.new result }
 {
-    let numbers = writing_numbers(writer::write::write_pbn(text, cards, entries, page));
-    *answer = numbers;
-    numbers[0]
-}
-
-fn converted_numbers(r: Result<Converted, LinRefusal>) -> [u64; 5]
-    ensures { result ≡ converted_numbers r }
-{
-    match r {
-        Ok(page) => [0, 0, 0, page.bytes, page.boards],
-        Err(f) => [
-            lin::convert::lin_number(f),
-            0,
-            lin::convert::lin_carried(f),
-            0,
-            0,
-        ],
-    }
+    tell_bytes(writer::write::write_pbn(text, cards, entries, page), answer)
 }
 
 // Converts a LIN text to the page of a PBN edition.
 pub fn golavimes_lin_to_pbn(text: &[u8], page: &mut [u8], answer: &mut [u64; 5]) -> u64
     ensures { LinOut built_in text.now page.old page.new answer.new result }
 {
-    let numbers = converted_numbers(lin::convert::lin_to_pbn(text, page));
-    *answer = numbers;
-    numbers[0]
+    match lin::convert::lin_to_pbn(text, page) {
+        Ok(written) => tell(&[written.bytes, written.boards], answer),
+        Err(f) => refuse(f, answer),
+    }
 }
 
 // The first three numbers of planning's answers.
@@ -439,20 +424,6 @@ pub fn golavimes_searches(
     numbers[0]
 }
 
-fn finishing_numbers(w: Result<u64, FinishRefusal>) -> [u64; 4]
-    ensures { result ≡ finishing_numbers w }
-{
-    match w {
-        Ok(bytes) => [0, 0, 0, bytes],
-        Err(f) => [
-            writer::finish::finish_number(f),
-            writer::finish::finish_edition(f),
-            writer::finish::finish_carried(f),
-            0,
-        ],
-    }
-}
-
 // Finishes the new edition on a page, given an old one and 20 answers for each board to solve.
 pub fn golavimes_finish(
     old: &[u8],
@@ -477,7 +448,8 @@ pub fn golavimes_finish(
         new_cards,
         new_entries,
     };
-    let numbers = finishing_numbers(writer::finish::finish(old, new, &mut boxes, answers, page));
-    *answer = numbers;
-    numbers[0]
+    tell_bytes(
+        writer::finish::finish(old, new, &mut boxes, answers, page),
+        answer,
+    )
 }

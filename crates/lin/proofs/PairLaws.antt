@@ -8,7 +8,8 @@ use lib.Dec.{eqb, ltb}
 use denote.Enum.Bare.{sameb, same_true, same_false}
 use lib.ListN.{length, take, drop, get_or, length-drop, length-append}
 use lib.Seq.{drop-drop, take_all, drop-append_seam, take-append_seam}
-use borrow.Author.Tests.{ltb-true, ltb-false, eqb-true, eq-eqb, ne_eqb}
+use borrow.Author.Tests.{ltb-true, ltb-false, lt-ltb, le-ltb, eqb-true, eq-eqb, ne_eqb}
+use Rattle.std.specs.Prelude.{Option, Some, None, IfSome, unwrap_or}
 use Rattle.tables.specs.Text.{ascii, differs, before, prepend, trimmed}
 use Rattle.tables.specs.Letters.{capital}
 use Rattle.tables.proofs.Laws.{by_cases, stop}
@@ -51,6 +52,11 @@ same_place k m =
     by_cases (sameb the_type k m)
     (λ e. rw (e, same_true the_type tt k m e, eq-eqb (place_of m) (place_of m) refl))
     (λ e. rw (e, other_command k m (same_false the_type k m e)))
+
+-- A code below n, or none.
+pub coded : (o : Option ℕ) (k n : ℕ) → unwrap_or o n ≡ k → IfSome o (λ x. x < n) → o ≡ cond (ltb k n) (Some k) None
+coded (Some x) k n e h = rw (← e, lt-ltb x n h)
+coded None k n e h = rw (← e, le-ltb n n (omega arith))
 
 and_true : (p : Bool) → (p && true) ≡ p
 and_true true = refl

@@ -1,5 +1,5 @@
 // The vulnerability (parse_sv), the calls, the contract and its declarer.
-ghost use Rattle.std.specs.Prelude.{◌≡◌, ◌≤◌, ◌<◌};
+ghost use Rattle.std.specs.Prelude.{◌≡◌, ◌≤◌, ◌<◌, IfSome, unwrap_or};
 ghost use Rattle.tables.specs.Puts.{Puts};
 ghost use Rattle.lin.specs.Bidding.{vulnerability_in, unalerted, call_in, calls_from, is_bid, strain, next_seat, with_call, names, first_to_name};
 ghost use Rattle.lin.specs.BiddingSteps.{call_at, last_text};
@@ -47,19 +47,19 @@ fn less_alerts(s: &[u8]) -> &[u8]
     kept
 }
 
-// The code of a call, 47 where the value is none.
+// The code of a call.
 #[tactic(auto, unfolding(crate::specs::Bidding::call_in, crate::specs::Bidding::call_named))]
-pub(crate) fn call_in(c: Conventions, value: &[u8]) -> u8
-    ensures { (result ≡ call_in c value.now) × (result ≤ 47) }
+pub(crate) fn call_in(c: Conventions, value: &[u8]) -> Option<u8>
+    ensures { (unwrap_or result 47 ≡ call_in c value.now) × IfSome result (λ k. k < 47) }
 {
     let t = less_alerts(value);
     if same_word(b"D", t) {
-        return X;
+        return Some(X);
     }
     if same_word(b"R", t) {
-        return XX;
+        return Some(XX);
     }
-    call_code(c, t).unwrap_or(47)
+    call_code(c, t)
 }
 
 // The call of a pair, where it is one.
@@ -67,10 +67,7 @@ pub(crate) fn call_at(c: Conventions, p: PairAt) -> Option<u8>
     ensures { result ≡ call_at c (pair_of p.entry) }
 {
     if p.command == Command::Mb {
-        let code = call_in(c, p.value);
-        if code < 47 {
-            return Some(code);
-        }
+        return call_in(c, p.value);
     }
     None
 }

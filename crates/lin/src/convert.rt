@@ -7,6 +7,7 @@ ghost use Rattle.lin.specs.ConversionSteps.{ConvertingEnded};
 use crate::pieces::{Progress, put_boards};
 use tables::letters::{Conventions, built_in};
 use tables::page::{Page, finish};
+use tables::refused::Refused;
 use writer::write::clear;
 
 // 1 with the text's length, 16, and 7 with the bytes needed; specs/Conversions.antt gives the numbers.
@@ -24,23 +25,30 @@ pub struct Converted {
     pub boards: u64,
 }
 
-pub fn lin_number(f: LinRefusal) -> u64
-    ensures { result ≡ lin_number f }
-{
-    match f {
-        LinRefusal::Overlong(_) => 1,
-        LinRefusal::NoDeal => 16,
-        LinRefusal::PageFull(_) => 7,
-    }
-}
+impl Refused for LinRefusal {
+    ghost number_of = { lin_number };
 
-pub fn lin_carried(f: LinRefusal) -> u64
-    ensures { result ≡ lin_carries f }
-{
-    match f {
-        LinRefusal::Overlong(n) => n,
-        LinRefusal::NoDeal => 0,
-        LinRefusal::PageFull(n) => n,
+    ghost edition_of = { λ f. 0 };
+
+    ghost carries = { lin_carries };
+
+    fn number(self) -> u64 {
+        match self {
+            LinRefusal::Overlong(_) => 1,
+            LinRefusal::NoDeal => 16,
+            LinRefusal::PageFull(_) => 7,
+        }
+    }
+
+    fn edition(self) -> u64 {
+        0
+    }
+
+    fn carried(self) -> u64 {
+        match self {
+            LinRefusal::Overlong(n) | LinRefusal::PageFull(n) => n,
+            LinRefusal::NoDeal => 0,
+        }
     }
 }
 

@@ -80,11 +80,10 @@ fn command_of_two(a: u8, b: u8) -> Command
 fn command_of(s: &[u8]) -> Command
     ensures { result ≡ command_of s.now }
 {
-    let t = trim(s);
-    if t.len() == 2 {
-        return command_of_two(t[0], t[1]);
+    match trim(s) {
+        [a, b] => command_of_two(*a, *b),
+        _ => Command::Other,
     }
-    Command::Other
 }
 
 impl<'a> Iterator for Pairs<'a> {

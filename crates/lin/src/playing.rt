@@ -1,5 +1,5 @@
 // The cards (parse_card), their tricks, and the data lines of the play.
-ghost use Rattle.std.specs.Prelude.{◌≡◌, ◌≤◌};
+ghost use Rattle.std.specs.Prelude.{◌≡◌, ◌≤◌, ◌<◌, IfSome, unwrap_or};
 ghost use Rattle.tables.specs.Puts.{Puts};
 ghost use Rattle.lin.specs.Pairs.{pairs_of};
 ghost use Rattle.lin.specs.PairSteps.{pair_of};
@@ -14,15 +14,15 @@ use tables::page::Page;
 use tables::text::trim;
 use writer::tokens::put_card;
 
-// A card: exactly a suit and a rank; 52 for any other text.
+// A card: exactly a suit and a rank.
 #[tactic(auto, unfolding(crate::specs::Playing::card_in))]
-pub(crate) fn card_in(c: Conventions, t: &[u8]) -> u8
-    ensures { (result ≡ card_in c t.now) × (result ≤ 52) }
+pub(crate) fn card_in(c: Conventions, t: &[u8]) -> Option<u8>
+    ensures { (unwrap_or result 52 ≡ card_in c t.now) × IfSome result (λ k. k < 52) }
 {
     if t.len() == 2 {
-        return card_named(c, t).unwrap_or(52);
+        return card_named(c, t);
     }
-    52
+    None
 }
 
 // The card of a pair, where it is one.
@@ -30,10 +30,7 @@ pub(crate) fn card_at(c: Conventions, p: PairAt) -> Option<u8>
     ensures { result ≡ card_at c (pair_of p.entry) }
 {
     if p.command == Command::Pc {
-        let card = card_in(c, trim(p.value));
-        if card < 52 {
-            return Some(card);
-        }
+        return card_in(c, trim(p.value));
     }
     None
 }

@@ -1,5 +1,5 @@
 // A board's dealing, vulnerability and contract, and whether it has calls and cards, in one walk over its pairs.
-ghost use Rattle.std.specs.Prelude.{◌≡◌};
+ghost use Rattle.std.specs.Prelude.{◌≡◌, ◌<◌, IfSome, unwrap_or};
 ghost use Rattle.lin.specs.Pairs.{pairs_of};
 ghost use Rattle.lin.specs.PairSteps.{pair_of};
 ghost use Rattle.lin.specs.SurveySteps.{no_survey, survey_call, surveyed, survey_from};
@@ -49,20 +49,21 @@ fn no_survey() -> Survey
     }
 }
 
-// One more call, where the code is one.
+// One more call, where there is one.
 #[tactic(auto, unfolding(crate::specs::SurveySteps::survey_call))]
-fn survey_call(s: Survey, code: u8) -> Survey
-    ensures { result ≡ survey_call s code }
+fn survey_call(s: Survey, call: Option<u8>) -> Survey
+    requires { IfSome call (λ k. k < 47) }
+    ensures { result ≡ survey_call s (unwrap_or call 47) }
 {
-    if code < 47 {
-        return Survey {
-            called: true,
-            seat: next_seat(s.seat),
-            contract: with_call(s.seat, s.contract, code),
-            ..s
-        };
+    let Some(code) = call else {
+        return s;
+    };
+    Survey {
+        called: true,
+        seat: next_seat(s.seat),
+        contract: with_call(s.seat, s.contract, code),
+        ..s
     }
-    s
 }
 
 // One more pair.
@@ -82,7 +83,7 @@ fn survey_step(c: Conventions, s: Survey, p: PairAt) -> Survey
         },
         Command::Mb => survey_call(s, call_in(c, value)),
         Command::Pc => Survey {
-            played: s.played | (card_in(c, trim(value)) < 52),
+            played: s.played | card_in(c, trim(value)).is_some(),
             ..s
         },
         Command::Qx | Command::Heading | Command::Other => s,

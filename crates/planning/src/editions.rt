@@ -4,9 +4,10 @@ ghost use Rattle.planning.specs.Plans.{editions_number, editions_carries, editio
 ghost use Rattle.planning.specs.PlanSteps.{cards_in, BoxesKept};
 
 use crate::cards::{Card, cards_in};
-use reader::edition::{Counts, ReadRefusal, read_carried, read_number, read_pbn_with};
+use reader::edition::{Counts, ReadRefusal, read_pbn_with};
 use reader::store::zero;
 use tables::letters::Conventions;
+use tables::refused::Refused;
 
 // Refusals 1 to 3 of the old edition, then of the new.
 #[derive(Clone, Copy, Debug, PartialEq, Eq)]
@@ -26,7 +27,7 @@ pub fn editions_number(f: EditionsRefusal) -> u64
     ensures { result ≡ editions_number f }
 {
     match f {
-        EditionsRefusal::Old(g) | EditionsRefusal::New(g) => read_number(g),
+        EditionsRefusal::Old(g) | EditionsRefusal::New(g) => g.number(),
     }
 }
 
@@ -34,7 +35,7 @@ pub fn editions_carried(f: EditionsRefusal) -> u64
     ensures { result ≡ editions_carries f }
 {
     match f {
-        EditionsRefusal::Old(g) | EditionsRefusal::New(g) => read_carried(g),
+        EditionsRefusal::Old(g) | EditionsRefusal::New(g) => g.carried(),
     }
 }
 

@@ -1,7 +1,7 @@
 -- Laws of reading a deal: the reader's steps are the cards of the text, placed one after the other.
 use Prim.Native.Nat.{ℕ, zero, suc, ◌+◌, ◌-◌, ◌*◌, ◌^◌, ◌≤◌, ◌<◌, ◌/◌, ◌%◌}
 use mathlib.Core.Bool.{Bool, ◌&&◌, true, false, cond}
-use borrow.Author.Tests.{ltb-false, lt-ltb, eqb-true, eqb-false, ne_eqb, leb-true, leb-false, le-leb, lt-leb}
+use borrow.Author.Tests.{ltb-false, lt-ltb, eqb-true, eqb-false, leb-true, leb-false, le-leb, lt-leb}
 use Rattle.tables.specs.Letters.{every, honour_of, honour_letters, index_in, capital, seat_of, rank_of, distinct}
 use Rattle.tables.specs.Text.{trimmed, is_white, trim_start, word, past_word, fields}
 use Rattle.tables.proofs.Laws.{both, by_cases, step, stop}
@@ -55,32 +55,12 @@ pub dash_into : (c : Conventions) (x : ℕ) (t : List ℕ) → is_dash t ≡ tru
 unfolding hand_into cards_named
 dash_into c x t e = rw e
 
--- The first field, one byte at a time.
-pub word_more : (s : List ℕ) (i : ℕ) → i < length s → is_white (get_or s i 0) ≡ false → word (drop i s) ≡ get_or s i 0 ∷ word (drop (i + 1) s)
-word_more s i h e = rw (step s i h, e)
-
+-- The first field ends at a white byte, and with the text.
 pub word_stop : (s : List ℕ) (i : ℕ) → i < length s → is_white (get_or s i 0) ≡ true → word (drop i s) ≡ []
 word_stop s i h e = rw (step s i h, e)
 
 pub word_end : (s : List ℕ) (i : ℕ) → length s ≤ i → word (drop i s) ≡ []
 word_end s i h = rw (stop s i h)
-
-dash_length : (w : List ℕ) → is_dash (45 ∷ w) ≡ eqb (length (45 ∷ w)) 1
-dash_length [] = refl
-dash_length (b ∷ bs) = sym (ne_eqb (suc (suc (length bs))) 1 (λ z. omega arith))
-
-dash_not : (b : ℕ) (w : List ℕ) → eqb b 45 ≡ false → is_dash (b ∷ w) ≡ false
-dash_not b [] e = e
-dash_not b (d ∷ w) e = refl
-
-pub dash_one : (s : List ℕ) → get_or s 0 0 ≡ 45 → eqb (length (word s)) 1 ≡ is_dash (word s)
-unfolding is_white
-dash_one [] e = refl
-dash_one (b ∷ bs) e = rw e (sym (dash_length (word bs)))
-
-pub dash_none : (s : List ℕ) → (get_or s 0 0 ≡ 45 → ⊥) → false ≡ is_dash (word s)
-dash_none [] e = refl
-dash_none (b ∷ bs) e = by_cases (is_white b) (λ t. rw t) (λ t. rw t (sym (dash_not b (word bs) (ne_eqb b 45 e))))
 
 -- ---- four hands
 

@@ -43,13 +43,7 @@ pub word_is : (a b : List ℕ) (r : Bool) → length a ≡ length b → Meets a 
 word_is a b true e h = sym (word_meets a b e h)
 word_is a b false e h = sym (word_differs a b h.0 h.1 h.2)
 
--- Texts of different lengths are not the same.
-pub same_long : (a b : List ℕ) → (length a ≡ length b → ⊥) → same a b ≡ false
-same_long [] [] h = absurd (h refl)
-same_long [] (y ∷ ys) h = refl
-same_long (x ∷ xs) [] h = refl
-same_long (x ∷ xs) (y ∷ ys) h = rw (same_long xs ys (λ e. h (rw e))) (and_false (eqb x y))
-
+-- A word and a token of another length.
 pub word_long : (a b : List ℕ) → (length a ≡ length b → ⊥) → same_word a b ≡ false
 word_long [] [] h = absurd (h refl)
 word_long [] (y ∷ ys) h = refl

@@ -11,6 +11,7 @@ use crate::reading::read_board;
 use crate::record::record_end;
 use crate::store::{Entries, copy_in, low_word};
 use tables::letters::{Conventions, built_in};
+use tables::refused::Refused;
 use tables::text::{from, upto};
 
 // Refusals 1 to 3, each with its carried number; specs/Editions.antt gives the numbers.
@@ -28,23 +29,29 @@ pub struct Counts {
     pub entries: usize,
 }
 
-pub fn read_number(f: ReadRefusal) -> u64
-    ensures { result ≡ read_number f }
-{
-    match f {
-        ReadRefusal::Overlong(_) => 1,
-        ReadRefusal::BoxFull(_) => 2,
-        ReadRefusal::ListFull(_) => 3,
-    }
-}
+impl Refused for ReadRefusal {
+    ghost number_of = { read_number };
 
-pub fn read_carried(f: ReadRefusal) -> u64
-    ensures { result ≡ read_carries f }
-{
-    match f {
-        ReadRefusal::Overlong(n) => n,
-        ReadRefusal::BoxFull(n) => n,
-        ReadRefusal::ListFull(n) => n,
+    ghost edition_of = { λ f. 0 };
+
+    ghost carries = { read_carries };
+
+    fn number(self) -> u64 {
+        match self {
+            ReadRefusal::Overlong(_) => 1,
+            ReadRefusal::BoxFull(_) => 2,
+            ReadRefusal::ListFull(_) => 3,
+        }
+    }
+
+    fn edition(self) -> u64 {
+        0
+    }
+
+    fn carried(self) -> u64 {
+        match self {
+            ReadRefusal::Overlong(n) | ReadRefusal::BoxFull(n) | ReadRefusal::ListFull(n) => n,
+        }
     }
 }
 

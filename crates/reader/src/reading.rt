@@ -375,8 +375,7 @@ fn quiet_line(r: &[u8], s: State, p: usize, l: &[u8], entries: &mut Entries) -> 
     requires { (entries.old.start + p + length l.now ≤ 16777215) × (entries.old.count ≤ 2 ^ 57) × (s.n ≤ 2 ^ 57) × (s.block ≤ p + 1) }
     ensures { Emits entries.old entries.new result (cond s.commentary (in_commentary r.now s p l.now) (unchanged s)) × (result.block ≤ p + 1) }
 {
-    let commentary = s.commentary;
-    if commentary {
+    if s.commentary {
         return commentary_line(r, s, p, l, entries);
     }
     s

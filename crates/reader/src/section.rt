@@ -167,15 +167,10 @@ fn walk_piece(
     requires { Seated w.tricks × (entries.old.start + at + length s.now ≤ 2 ^ 40) × (entries.old.count ≤ 2 ^ 58) × (walk_count w ≤ 2 ^ 59) × (o.kind ≡ 2 → o.seat ≤ 3) }
     ensures { Walks (walk_count w + 3 * length s.now) entries.old entries.new result (walked c o trump w (piece at s.now)) }
 {
-    let bidding = w.bidding;
-    let tricks = w.tricks;
-    let rows = w.rows;
     if o.kind == AUCTION {
-        let bid = call_piece(c, bidding, s, at, entries);
         return Walk {
-            bidding: bid,
-            tricks,
-            rows,
+            bidding: call_piece(c, w.bidding, s, at, entries),
+            ..w
         };
     }
     if o.kind == PLAY {
@@ -184,17 +179,14 @@ fn walk_piece(
             lead: o.seat,
             trump,
         };
-        let played = play_piece(by, tricks, s, at, entries);
         return Walk {
-            bidding,
-            tricks: played,
-            rows,
+            tricks: play_piece(by, w.tricks, s, at, entries),
+            ..w
         };
     }
     Walk {
-        bidding,
-        tricks,
-        rows: walk_row(c, rows, s),
+        rows: walk_row(c, w.rows, s),
+        ..w
     }
 }
 

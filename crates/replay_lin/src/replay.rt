@@ -1,9 +1,10 @@
 // Recorded cases replayed through lin_to_pbn, and compared.
 use crate::cases::{Case, Told};
-use lin::convert::{Converted, LinRefusal, lin_carried, lin_number, lin_to_pbn};
+use lin::convert::{Converted, LinRefusal, lin_to_pbn};
 use recorded::bytes::Bytes;
 use recorded::cases::{Counting, Fault, one_more};
 use recorded::pages::holds;
+use tables::refused::Refused;
 
 fn told_converted(c: Result<Converted, LinRefusal>) -> Told {
     match c {
@@ -14,8 +15,8 @@ fn told_converted(c: Result<Converted, LinRefusal>) -> Told {
             written: page.bytes,
         },
         Err(f) => Told {
-            refusal: lin_number(f),
-            carried: lin_carried(f),
+            refusal: f.number(),
+            carried: f.carried(),
             boards: 0,
             written: 0,
         },

@@ -4,6 +4,7 @@ use crate::codes::is_coded;
 use reader::edition::{ReadRefusal, read_pbn};
 use recorded::bytes::Bytes;
 use recorded::cases::{Counting, Fault, one_more};
+use tables::refused::Refused;
 
 // A lent word is not zero before, so that one which should have become 0 is seen.
 const FULL: u32 = 2863311530;
@@ -17,8 +18,8 @@ fn told_reading(r: Result<reader::edition::Counts, ReadRefusal>) -> Told {
             entries: n.entries as u64,
         },
         Err(f) => Told {
-            refusal: reader::edition::read_number(f),
-            carried: reader::edition::read_carried(f),
+            refusal: f.number(),
+            carried: f.carried(),
             boards: 0,
             entries: 0,
         },

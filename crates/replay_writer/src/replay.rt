@@ -4,7 +4,8 @@ use reader::edition::read_pbn;
 use recorded::bytes::Bytes;
 use recorded::cases::{Counting, Fault, one_more};
 use recorded::pages::holds;
-use writer::write::{WriteRefusal, write_carried, write_number, write_pbn};
+use tables::refused::Refused;
+use writer::write::{WriteRefusal, write_pbn};
 
 // A lent word is not zero before, so that one which should have become 0 is seen.
 const FULL: u32 = 2863311530;
@@ -17,8 +18,8 @@ fn told_writing(w: Result<u64, WriteRefusal>) -> Told {
             written,
         },
         Err(f) => Told {
-            refusal: write_number(f),
-            carried: write_carried(f),
+            refusal: f.number(),
+            carried: f.carried(),
             written: 0,
         },
     }

@@ -15,6 +15,7 @@ use planning::editions::{
 };
 use reader::store::{copy_in, zero};
 use tables::letters::{Conventions, built_in};
+use tables::refused::Refused;
 
 // Refusals 1 to 3 of an edition; 5 answers of another number of bytes than 20 a slip, 6 a byte above 13, 7 the page is too short;
 // specs/Finishings.antt gives the numbers.
@@ -26,36 +27,36 @@ pub enum FinishRefusal {
     PageFull(u64),
 }
 
-pub fn finish_number(f: FinishRefusal) -> u64
-    ensures { result ≡ finish_number f }
-{
-    match f {
-        FinishRefusal::Edition(e) => editions_number(e),
-        FinishRefusal::Answers(_) => 5,
-        FinishRefusal::Impossible(_) => 6,
-        FinishRefusal::PageFull(_) => 7,
-    }
-}
+impl Refused for FinishRefusal {
+    ghost number_of = { finish_number };
 
-pub fn finish_carried(f: FinishRefusal) -> u64
-    ensures { result ≡ finish_carries f }
-{
-    match f {
-        FinishRefusal::Edition(e) => editions_carried(e),
-        FinishRefusal::Answers(n) => n,
-        FinishRefusal::Impossible(n) => n,
-        FinishRefusal::PageFull(n) => n,
-    }
-}
+    ghost edition_of = { finish_edition };
 
-pub fn finish_edition(f: FinishRefusal) -> u64
-    ensures { result ≡ finish_edition f }
-{
-    match f {
-        FinishRefusal::Edition(e) => edition_refused(e),
-        FinishRefusal::Answers(_) => 0,
-        FinishRefusal::Impossible(_) => 0,
-        FinishRefusal::PageFull(_) => 0,
+    ghost carries = { finish_carries };
+
+    fn number(self) -> u64 {
+        match self {
+            FinishRefusal::Edition(e) => editions_number(e),
+            FinishRefusal::Answers(_) => 5,
+            FinishRefusal::Impossible(_) => 6,
+            FinishRefusal::PageFull(_) => 7,
+        }
+    }
+
+    fn edition(self) -> u64 {
+        match self {
+            FinishRefusal::Edition(e) => edition_refused(e),
+            FinishRefusal::Answers(_) | FinishRefusal::Impossible(_) | FinishRefusal::PageFull(_) =>
+                0,
+        }
+    }
+
+    fn carried(self) -> u64 {
+        match self {
+            FinishRefusal::Edition(e) => editions_carried(e),
+            FinishRefusal::Answers(n) | FinishRefusal::Impossible(n) | FinishRefusal::PageFull(n) =>
+                n,
+        }
     }
 }
 

@@ -7,10 +7,11 @@ ghost use Rattle.writer.specs.Writings.{write_number, write_carries, IsWritten};
 ghost use Rattle.writer.specs.WritingSteps.{PagePut, WritingEnded};
 
 use crate::page::put_page;
-use reader::edition::{ReadRefusal, read_carried, read_number, read_pbn_with};
+use reader::edition::{ReadRefusal, read_pbn_with};
 use reader::store::zero;
 use tables::letters::{Conventions, built_in};
 use tables::page::{Page, finish};
+use tables::refused::Refused;
 
 // Refusals 1 to 3 of the edition, and 7 with the bytes needed; specs/Writings.antt gives the numbers.
 #[derive(Clone, Copy, Debug, PartialEq, Eq)]
@@ -19,21 +20,29 @@ pub enum WriteRefusal {
     PageFull(u64),
 }
 
-pub fn write_number(f: WriteRefusal) -> u64
-    ensures { result ≡ write_number f }
-{
-    match f {
-        WriteRefusal::Edition(e) => read_number(e),
-        WriteRefusal::PageFull(_) => 7,
-    }
-}
+impl Refused for WriteRefusal {
+    ghost number_of = { write_number };
 
-pub fn write_carried(f: WriteRefusal) -> u64
-    ensures { result ≡ write_carries f }
-{
-    match f {
-        WriteRefusal::Edition(e) => read_carried(e),
-        WriteRefusal::PageFull(n) => n,
+    ghost edition_of = { λ f. 0 };
+
+    ghost carries = { write_carries };
+
+    fn number(self) -> u64 {
+        match self {
+            WriteRefusal::Edition(f) => f.number(),
+            WriteRefusal::PageFull(_) => 7,
+        }
+    }
+
+    fn edition(self) -> u64 {
+        0
+    }
+
+    fn carried(self) -> u64 {
+        match self {
+            WriteRefusal::Edition(f) => f.carried(),
+            WriteRefusal::PageFull(n) => n,
+        }
     }
 }
 

@@ -6,13 +6,13 @@ use Rattle.reader.proofs.section.walk_piece.Goals as goal
 pub returns-then-o-eq-AUCTION : goal.returns-then-o-eq-AUCTION
 returns-then-o-eq-AUCTION c =
     let a = c.args in
-    let e = c.call_piece-bid.ensures in
+    let e = c.call_piece.ensures in
     piece_called a.c a.o a.trump a.w (piece a.at a.s.now) (length a.s.now) _ _ _ c.if-o-eq-AUCTION.true e.0 e.1 c.requires.0
 
 pub returns-then-o-eq-PLAY : goal.returns-then-o-eq-PLAY
 returns-then-o-eq-PLAY c =
     let a = c.args in
-    let e = c.play_piece-played.ensures in
+    let e = c.play_piece.ensures in
     piece_played a.c a.o a.trump a.w (piece a.at a.s.now) (length a.s.now) _ _ _ c.if-o-eq-AUCTION.false c.if-o-eq-PLAY.true e.0 e.2 e.1
 
 pub returns : goal.returns
