@@ -4,7 +4,8 @@ ghost use Rattle.tables.specs.Letters.{built_in, capital, seat_of, suit_of, hono
 
 use crate::text::{byte_at, index_of};
 
-// north, east, south, west, spades, hearts, diamonds, clubs, ace, king, queen, jack, ten
+// north, east, south, west, spades, hearts, diamonds, clubs, ace, king, queen, jack, ten: a type of its own, so that no other
+// thirteen bytes pass for letters
 #[derive(Clone, Copy)]
 pub struct Conventions {
     pub letters: [u8; 13],
@@ -20,7 +21,7 @@ pub fn built_in() -> Conventions
     }
 }
 
-// A letter a to z as its capital, any other byte as it is.
+// A letter a to z as its capital, any other byte as it is: the library's method, with the contract in the words of specs/Letters.antt.
 #[tactic(auto, unfolding(crate::specs::Letters::capital))]
 pub fn to_capital(b: u8) -> u8
     ensures { result ≡ capital b }
