@@ -252,7 +252,7 @@ applied_from c k value place b = go (is_kept c k value)
     go true = put_from k place b.values
     go false = none_from place b.values
 
--- What Ok of every place.
+-- What holds of every place.
 pub record AllPlaces (P : ℕ → Type 0) (v : Values) : Type 0 where
   pub id_place : P v.id
   pub event_place : P v.event

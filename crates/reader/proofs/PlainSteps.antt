@@ -144,7 +144,7 @@ closed_leaves c r s =
 
 -- ---- steps
 
--- P p s q o is about a step of the record r from the state s, at the place p, that comes to o, at the place q. It Ok of two steps
+-- P p s q o is about a step of the record r from the state s, at the place p, that comes to o, at the place q. It holds of two steps
 -- together, of a section that closes, and of every kind of line.
 pub record Steps (c : Conventions) (r : List ℕ) (P : ℕ → State → ℕ → Out State → Type 0) : Type 0 where
   pub together : (p q z : ℕ) (s : State) (o k : Out State) → P p s q o → P q o.state z k → P p s z (and_then o k)
@@ -230,7 +230,7 @@ lines_step c r P h p s (l ∷ ls) i e =
     (line_step c r P h p s l (first_line r p l ls e))
     (lines_step c r P h (p + length l) o.state ls n.inside n.rest)
 
--- THEOREM. Such a P Ok of a record, from its start to its end.
+-- THEOREM. Such a P holds of a record, from its start to its end.
 pub HoldsOfRecord : (c : Conventions) (r : List ℕ) (P : ℕ → State → ℕ → Out State → Type 0) → Steps c r P → P 0 no_state (length r) (record_out c r)
 unfolding record_out
 HoldsOfRecord c r P h = lines_step c r P h 0 no_state (raw_lines r) (omega arith) refl

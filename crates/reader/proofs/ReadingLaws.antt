@@ -97,7 +97,7 @@ pub block_zero : (r : List ℕ) (s t : State) (i j : ℕ) {l l' : Entries} → E
 unfolding blocked
 block_zero r s t i j e = ap (λ (x : State). x.block) e.answer
 
--- A line that Ok nothing, and one inside commentary.
+-- A line that holds nothing, and one inside commentary.
 pub quiet_commentary : (r : List ℕ) (s : State) (p : ℕ) (l : List ℕ) → s.commentary ≡ true → cond s.commentary (in_commentary r s p l) (unchanged s) ≡ in_commentary r s p l
 quiet_commentary r s p l e = ap (λ (b : Bool). cond b (in_commentary r s p l) (unchanged s)) e
 

@@ -66,7 +66,7 @@ directive_said x y z = record { mark_said = λ t. clash (sym t); leader_said = �
 block_said : (x y z : ℕ) → Said (entry 4 x y z)
 block_said x y z = record { mark_said = λ t. clash (sym t); leader_said = λ u. omega arith; winner_said = λ u. omega arith }
 
--- A step that keeps what Ok of its state.
+-- A step that keeps what holds of its state.
 record Step {A : Type 0} (I : A → Type 0) (o : Out A) : Type 0 where
   left : I o.state
   given : All Said o.entries

@@ -14,7 +14,7 @@ use Rattle.tables.proofs.Laws.{by_cases, both}
 use Rattle.tables.proofs.TextLaws.{above_white}
 use Rattle.std.specs.Prelude.{None, Ok}
 
--- A finite check: a test that Ok for every number below n.
+-- A finite check: a test that holds for every number below n.
 abbrev pub below : (ℕ → Bool) → ℕ → Bool
 below p zero = true
 below p (suc n) = p n && below p n

@@ -167,7 +167,7 @@ module _ (c : Conventions) (ok : Accepted c) where
       (λ t. rw t)
       (λ t. rw (t, letter_line (7 - (4 - k)) (omega (arith, eqb-false k 0 t))))
 
-  -- A written row Ok no LF.
+  -- A written row holds no LF.
   pub row_line : (w k t : ℕ) → k < 20 → every (differs 10) (row_text c w k t) ≡ true
   row_line w k t h =
       let s = order_seat (k / 5) (omega arith) in

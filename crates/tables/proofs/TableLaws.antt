@@ -46,7 +46,7 @@ missing_count s = is_count_by missing (λ t. eqb t 255) refl (λ t ts. by_cases 
 pub missing_counted : (s : List ℕ) {n : ℕ} → n ≡ count_by (λ t. eqb t 255) s → (n ≡ missing s) × (n ≤ length s)
 missing_counted s e = (e ∙ sym (missing_count s), rw e (count_by-le-length (λ t. eqb t 255) s))
 
--- The width is 2 where Some cell exceeds 9.
+-- The width is 2 where some cell exceeds 9.
 pub width_any : (s : List ℕ) → width_of s ≡ cond (list_any (λ t. ltb 9 t) s) 2 1
 width_any [] = refl
 width_any (t ∷ ts) = by_cases (ltb 9 t) (λ e. rw e) (λ e. rw e (width_any ts))
