@@ -9,6 +9,7 @@ use Rattle.tables.specs.declared.letters.Conventions.{Conventions}
 use Rattle.planning.specs.declared.state.BoardState.{BoardState}
 use Rattle.planning.specs.declared.behind.Behind.{Behind}
 use Rattle.planning.specs.declared.searches.Searched.{Searched}
+use Rattle.planning.specs.declared.editions.Both.{Both}
 use Rattle.planning.specs.declared.editions.EditionsRefusal.{EditionsRefusal}
 use Rattle.planning.specs.Plans.{Boxes, Editions, editions_of, plans_of, answered, state_by, behind_by, words_by, searched_by, BoxesAfter, StateTold, BehindTold, SearchesTold}
 use Rattle.planning.specs.States.{BoardPlan, state_at}
@@ -39,7 +40,7 @@ searches_is (Ok n) c old new = refl
 searches_is (Err f) c old new = refl
 
 module _ {c : Conventions} {old new : List ℕ} {boxes boxes' : Boxes} {answer' : List ℕ} {n : ℕ} where
-  pub state_out : {p : ℕ} {r : Result BoardState EditionsRefusal} → StateTold c old new boxes boxes' p r → answer' ≡ told_state r → n ≡ get_or answer' 0 0 → StateOut c old new boxes boxes' p answer' n
+  pub state_out : {p : ℕ} {r : Result (Both × BoardState) EditionsRefusal} → StateTold c old new boxes boxes' p r → answer' ≡ told_state r → n ≡ get_or answer' 0 0 → StateOut c old new boxes boxes' p answer' n
   state_out {p} t a e =
       let x = editions_of c old new boxes in
       record {
@@ -48,7 +49,7 @@ module _ {c : Conventions} {old new : List ℕ} {boxes boxes' : Boxes} {answer' 
         returned = e;
       }
 
-  pub behind_out : {p : ℕ} {r : Result (Option Behind) EditionsRefusal} → BehindTold c old new boxes boxes' p r → answer' ≡ told_behind r → n ≡ get_or answer' 0 0 → BehindOut c old new boxes boxes' p answer' n
+  pub behind_out : {p : ℕ} {r : Result (Both × Option Behind) EditionsRefusal} → BehindTold c old new boxes boxes' p r → answer' ≡ told_behind r → n ≡ get_or answer' 0 0 → BehindOut c old new boxes boxes' p answer' n
   behind_out {p} t a e =
       let x = editions_of c old new boxes in
       record {

@@ -234,11 +234,11 @@ pub fn golavimes_plan(
     numbers[0]
 }
 
-fn state_numbers(r: Result<BoardState, EditionsRefusal>) -> [u64; 5]
+fn state_numbers(r: Result<(Both, BoardState), EditionsRefusal>) -> [u64; 5]
     ensures { result ≡ told_state r }
 {
     match r {
-        Ok(s) => [0, 0, 0, s.number(), s.source()],
+        Ok((_, s)) => [0, 0, 0, s.number(), s.source()],
         Err(f) => {
             let h = refused_head(PlanRefusal::Edition(f));
             [h.refusal, h.edition, h.carried, 0, 0]
@@ -281,11 +281,11 @@ pub fn golavimes_state(
     numbers[0]
 }
 
-fn behind_numbers(r: Result<Option<Behind>, EditionsRefusal>) -> [u64; 6]
+fn behind_numbers(r: Result<(Both, Option<Behind>), EditionsRefusal>) -> [u64; 6]
     ensures { result ≡ told_behind r }
 {
     match r {
-        Ok(Some(p)) => [
+        Ok((_, Some(p))) => [
             0,
             0,
             0,
@@ -293,7 +293,7 @@ fn behind_numbers(r: Result<Option<Behind>, EditionsRefusal>) -> [u64; 6]
             p.start,
             p.end.saturating_sub(p.start),
         ],
-        Ok(None) => [0, 0, 0, 0, 0, 0],
+        Ok((_, None)) => [0, 0, 0, 0, 0, 0],
         Err(f) => {
             let h = refused_head(PlanRefusal::Edition(f));
             [h.refusal, h.edition, h.carried, 0, 0, 0]
@@ -380,7 +380,7 @@ fn searches_numbers(r: Result<Searched, EditionsRefusal>) -> [u64; 5]
     ensures { result ≡ told_searches r }
 {
     match r {
-        Ok(s) => [0, 0, 0, s.boards as u64, s.words],
+        Ok(s) => [0, 0, 0, s.both.new.boards as u64, s.words],
         Err(f) => {
             let h = refused_head(PlanRefusal::Edition(f));
             [h.refusal, h.edition, h.carried, 0, 0]

@@ -116,12 +116,12 @@ module _ {c : Conventions} {old new : List ℕ} {boxes boxes' : Boxes} {r : Edit
         (omega (arith, ho, there.0.count, TextBoardsFew c old), omega (arith, hn, there.1.count, TextBoardsFew c new))
 
     module _ {olds news : List (List ℕ)} (eo : olds ≡ cards_in n.old.boards boxes'.old_cards) (en : news ≡ cards_in n.new.boards boxes'.new_cards) where
-      pub state_told : {p : ℕ} {s : BoardState} → s ≡ state_at (board_plans olds news) p → StateTold c old new boxes boxes' p (Ok s)
+      pub state_told : {p : ℕ} {s : BoardState} → s ≡ state_at (board_plans olds news) p → StateTold c old new boxes boxes' p (Ok (n, s))
       state_told {p} {s} f =
           let g : s ≡ state_at (plans_of c old new) p = f ∙ rw (eo, en, there.0.cards, there.1.cards) in
           record { answer = rw (answer_both, g); boxes_left = all_left }
 
-      pub behind_told : {p : ℕ} {s : Option Behind} → s ≡ behind_at olds news (board_plans olds news) p → BehindTold c old new boxes boxes' p (Ok s)
+      pub behind_told : {p : ℕ} {s : Option Behind} → s ≡ behind_at olds news (board_plans olds news) p → BehindTold c old new boxes boxes' p (Ok (n, s))
       behind_told {p} {s} f =
           let g : s ≡ behind_at (cards_of c old) (cards_of c new) (plans_of c old new) p = f ∙ rw (eo, en, there.0.cards, there.1.cards) in
           record { answer = rw (answer_both, g); boxes_left = all_left }
@@ -131,7 +131,7 @@ module _ {c : Conventions} {old new : List ℕ} {boxes boxes' : Boxes} {r : Edit
 
       pub searches_told : {words : ℕ} {zs numbers numbers' : List ℕ} → zs ≡ zeros numbers
           → (words ≡ words_in_all olds news (board_plans olds news)) × (numbers' ≡ put_all 5 zs 0 (searches_from olds news (board_plans olds news)))
-          → SearchesTold c old new boxes numbers boxes' numbers' (Ok (record { boards = n.new.boards; words = words }))
+          → SearchesTold c old new boxes numbers boxes' numbers' (Ok (record { both = n; words = words }))
       searches_told {words} z f =
           let g : words ≡ words_in_all (cards_of c old) (cards_of c new) (plans_of c old new) = f.0 ∙ rw (eo, en, there.0.cards, there.1.cards) in
           record { answer = rw (answer_both, g); boxes_left = all_left; numbers_after = f.1 ∙ rw (answer_both, z, eo, en, there.0.cards, there.1.cards) }
@@ -158,41 +158,6 @@ module _ {c : Conventions} {old new : List ℕ} {boxes boxes' : Boxes} {r : Edit
           }
 
   module _ {f : EditionsRefusal} (e : r ≡ Err f) where
-    pub state_none : {p : ℕ} → StateTold c old new boxes boxes' p (Err f)
-    state_none = record { answer = rw (answer_none e); boxes_left = none_left e }
-
-    pub behind_none : {p : ℕ} → BehindTold c old new boxes boxes' p (Err f)
-    behind_none = record { answer = rw (answer_none e); boxes_left = none_left e }
-
-    pub boards_none : {numbers numbers' : List ℕ} → numbers' ≡ zeros numbers → BoardsTold c old new boxes numbers boxes' numbers' (Err f)
-    boards_none z = record { editions_read = as_told e; numbers_after = z }
-
-    pub searches_none : {numbers numbers' : List ℕ} → numbers' ≡ zeros numbers → SearchesTold c old new boxes numbers boxes' numbers' (Err f)
-    searches_none z = record { answer = rw (answer_none e); boxes_left = none_left e; numbers_after = rw (answer_none e) z }
-
     pub plan_refused : {g : PlanRefusal} {slips slips' : List ℕ} → g ≡ Edition f → slips' ≡ zeros slips → IsPlanned c old new boxes slips boxes' slips' (Err g)
     unfolding planning_of
     plan_refused h z = record { answer = rw (answer_none e, h); boxes_left = none_left e; slips_after = z }
-
--- The record behind a board, as a part of a text.
-module _ (c : Conventions) (old new : List ℕ) (p : ℕ) where
-  taken_as : (x : Editions) (q : Option Behind) → Ok q ≡ answered x (behind_at (cards_of c old) (cards_of c new) (plans_of c old new) p) → (is_ok x ≡ true) × (behind_by x c old new p ≡ q)
-  taken_as (Ok n) q h = (refl, cc)
-  taken_as (Err f) q h = clash (sym (ap is_ok h))
-
-  refused_as : (x : Editions) (f : EditionsRefusal) → Err f ≡ answered x (behind_at (cards_of c old) (cards_of c new) (plans_of c old new) p) → (is_ok x ≡ false) × (behind_by x c old new p ≡ None)
-  refused_as (Ok n) f h = clash (ap is_ok h)
-  refused_as (Err g) f h = (refl, refl)
-
-module _ {c : Conventions} {old new : List ℕ} {boxes boxes' : Boxes} {p : ℕ} {r : Result (Option Behind) EditionsRefusal} (b : BehindTold c old new boxes boxes' p r) where
-  pub part_told : {q : Option Behind} {part : List ℕ} → r ≡ Ok q → part ≡ part_of old new q → PartTold c old new boxes boxes' p part
-  part_told {q} h e =
-      let t = taken_as c old new p (editions_of c old new boxes) q (sym h ∙ b.answer) in
-      let well : is_ok r ≡ true = ap is_ok h in
-      record { bytes = e ∙ rw t.1; boxes_left = rw t.0 (rw well at b.boxes_left) }
-
-  pub part_none : {f : EditionsRefusal} → r ≡ Err f → PartTold c old new boxes boxes' p []
-  part_none {f} h =
-      let t = refused_as c old new p (editions_of c old new boxes) f (sym h ∙ b.answer) in
-      let well : is_ok r ≡ false = ap is_ok h in
-      record { bytes = rw t.1; boxes_left = rw t.0 (rw well at b.boxes_left) }

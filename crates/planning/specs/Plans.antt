@@ -165,18 +165,18 @@ abbrev pub words_by : Editions → Conventions → List ℕ → List ℕ → ℕ
 words_by (Ok n) c old new = words_in_all (cards_of c old) (cards_of c new) (plans_of c old new)
 words_by (Err f) c old new = 0
 
--- What is answered for both editions, given the answer where they were taken.
-abbrev pub answered : {A : Type 0} → Editions → A → Result A EditionsRefusal
-answered (Ok n) x = Ok x
+-- What is answered for both editions: the boards and entries of each, and x, where they were taken.
+abbrev pub answered : {A : Type 0} → Editions → A → Result (Both × A) EditionsRefusal
+answered (Ok n) x = Ok (n, x)
 answered (Err f) x = Err f
 
--- The contract of state_at: the state, or a refusal.
-pub record StateTold (c : Conventions) (old new : List ℕ) (boxes boxes' : Boxes) (p : ℕ) (r : Result BoardState EditionsRefusal) : Type 0 where
+-- The contract of state_at: both editions, and the state, or a refusal.
+pub record StateTold (c : Conventions) (old new : List ℕ) (boxes boxes' : Boxes) (p : ℕ) (r : Result (Both × BoardState) EditionsRefusal) : Type 0 where
   pub answer : r ≡ answered (editions_of c old new boxes) (state_at (plans_of c old new) p)
   pub boxes_left : BoxesAfter c (is_ok r) old new boxes boxes'
 
--- The contract of place_behind: the record behind a board, or a refusal.
-pub record BehindTold (c : Conventions) (old new : List ℕ) (boxes boxes' : Boxes) (p : ℕ) (r : Result (Option Behind) EditionsRefusal) : Type 0 where
+-- The contract of place_behind: both editions, and the record behind a board, or a refusal.
+pub record BehindTold (c : Conventions) (old new : List ℕ) (boxes boxes' : Boxes) (p : ℕ) (r : Result (Both × Option Behind) EditionsRefusal) : Type 0 where
   pub answer : r ≡ answered (editions_of c old new boxes) (behind_at (cards_of c old) (cards_of c new) (plans_of c old new) p)
   pub boxes_left : BoxesAfter c (is_ok r) old new boxes boxes'
 
@@ -190,9 +190,9 @@ pub record BoardsTold (c : Conventions) (old new : List ℕ) (boxes : Boxes) (nu
   pub editions_read : BothRead c old new boxes boxes' r
   pub numbers_after : numbers' ≡ boards_after r c old new (length numbers)
 
--- The boards and the words compared for all of them, or a refusal.
+-- Both editions, and the words compared for all boards, or a refusal.
 abbrev pub searched_by : Editions → Conventions → List ℕ → List ℕ → Result Searched EditionsRefusal
-searched_by (Ok n) c old new = Ok (record { boards = n.new.boards; words = words_by (Ok n) c old new })
+searched_by (Ok n) c old new = Ok (record { both = n; words = words_by (Ok n) c old new })
 searched_by (Err f) c old new = Err f
 
 -- The contract of plan_searches: five numbers a board, and the words compared for all boards, whether their numbers fit or not.

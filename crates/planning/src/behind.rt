@@ -6,7 +6,7 @@ ghost use Rattle.planning.specs.Slips.{edition_number, text_of, card_at, record_
 ghost use Rattle.planning.specs.Plans.{words_of, SameLent, BehindTold, PartTold};
 
 use crate::cards::Card;
-use crate::editions::{EditionsRefusal, LentBoxes, read_both};
+use crate::editions::{Both, EditionsRefusal, LentBoxes, read_both};
 use crate::state::{BoardState, state_of};
 use tables::letters::{Conventions, built_in};
 use tables::text::{from, upto};
@@ -102,29 +102,29 @@ fn behind_at(olds: &[Card], news: &[Card], p: u64) -> Option<Behind>
     None
 }
 
-// The record behind the board at a position of the new edition, by the given conventions.
+// Both editions, and the record behind the board at a position of the new one, by the given conventions.
 pub fn place_behind_with(
     c: Conventions,
     old: &[u8],
     new: &[u8],
     boxes: &mut LentBoxes,
     position: u64,
-) -> Result<Option<Behind>, EditionsRefusal>
+) -> Result<(Both, Option<Behind>), EditionsRefusal>
     ensures told { BehindTold c old.now new.now (words_of boxes.old) (words_of boxes.new) position result }
     ensures same { SameLent boxes.old boxes.new }
 {
     let both = read_both(c, old, new, boxes)?;
     let (olds, news) = boxes.cards(both);
-    Ok(behind_at(olds, news, position))
+    Ok((both, behind_at(olds, news, position)))
 }
 
-// The record behind the board at a position of the new edition, by its places; none outside 1 to boards.
+// Both editions, and the record behind the board at a position of the new one, by its places; none outside 1 to boards.
 pub fn place_behind(
     old: &[u8],
     new: &[u8],
     boxes: &mut LentBoxes,
     position: u64,
-) -> Result<Option<Behind>, EditionsRefusal>
+) -> Result<(Both, Option<Behind>), EditionsRefusal>
     ensures told { BehindTold built_in old.now new.now (words_of boxes.old) (words_of boxes.new) position result }
     ensures same { SameLent boxes.old boxes.new }
 {
@@ -152,7 +152,7 @@ pub fn record_behind<'a>(
     ensures same { SameLent boxes.old boxes.new }
 {
     match place_behind(old, new, boxes, position) {
-        Ok(Some(b)) => part(b.edition.text(old, new), b.start, b.end),
-        Ok(None) | Err(_) => &[],
+        Ok((_, Some(b))) => part(b.edition.text(old, new), b.start, b.end),
+        Ok((_, None)) | Err(_) => &[],
     }
 }

@@ -8,16 +8,16 @@ ghost use Rattle.planning.specs.Searches.{search_numbers, searches_from, words_i
 ghost use Rattle.planning.specs.Plans.{words_of, SameLent, SearchesTold};
 
 use crate::cards::{Card, deal_at};
-use crate::editions::{EditionsRefusal, LentBoxes, read_both};
+use crate::editions::{Both, EditionsRefusal, LentBoxes, read_both};
 use crate::numbers::{put_five, zero_numbers};
 use crate::search::search_with;
 use crate::state::state_of;
 use tables::letters::{Conventions, built_in};
 
-// The boards of the new edition, and the words compared for all of them.
+// Both editions, and the words compared for all boards of the new one.
 #[derive(Clone, Copy, Debug, PartialEq, Eq)]
 pub struct Searched {
-    pub boards: usize,
+    pub both: Both,
     pub words: u64,
 }
 
@@ -82,10 +82,7 @@ pub fn plan_searches_with(
     let both = read_both(c, old, new, boxes)?;
     let (olds, news) = boxes.cards(both);
     let words = put_searches(olds, news, numbers);
-    Ok(Searched {
-        boards: both.new.boards,
-        words,
-    })
+    Ok(Searched { both, words })
 }
 
 // Five numbers a board: its state, its source board, and the hand words compared in the searches for old, near and twin, 0 for a search that is

@@ -5,7 +5,7 @@ ghost use Rattle.planning.specs.States.{board_plans, state_at};
 ghost use Rattle.planning.specs.Plans.{words_of, SameLent, StateTold};
 
 use crate::cards::Card;
-use crate::editions::{EditionsRefusal, LentBoxes, read_both};
+use crate::editions::{Both, EditionsRefusal, LentBoxes, read_both};
 use crate::state::{BoardState, state_of};
 use tables::letters::{Conventions, built_in};
 
@@ -23,29 +23,29 @@ fn state_in(olds: &[Card], news: &[Card], p: u64) -> BoardState
     BoardState::Blank
 }
 
-// The state of the board at a position of the new edition, by the given conventions.
+// Both editions, and the state of the board at a position of the new one, by the given conventions.
 pub fn state_at_with(
     c: Conventions,
     old: &[u8],
     new: &[u8],
     boxes: &mut LentBoxes,
     position: u64,
-) -> Result<BoardState, EditionsRefusal>
+) -> Result<(Both, BoardState), EditionsRefusal>
     ensures told { StateTold c old.now new.now (words_of boxes.old) (words_of boxes.new) position result }
     ensures same { SameLent boxes.old boxes.new }
 {
     let both = read_both(c, old, new, boxes)?;
     let (olds, news) = boxes.cards(both);
-    Ok(state_in(olds, news, position))
+    Ok((both, state_in(olds, news, position)))
 }
 
-// The state of the board at a position of the new edition; blank outside 1 to boards.
+// Both editions, and the state of the board at a position of the new one; blank outside 1 to boards.
 pub fn state_at(
     old: &[u8],
     new: &[u8],
     boxes: &mut LentBoxes,
     position: u64,
-) -> Result<BoardState, EditionsRefusal>
+) -> Result<(Both, BoardState), EditionsRefusal>
     ensures told { StateTold built_in old.now new.now (words_of boxes.old) (words_of boxes.new) position result }
     ensures same { SameLent boxes.old boxes.new }
 {

@@ -147,7 +147,7 @@ fn walk_row(c: Conventions, w: Rows, s: &[u8]) -> Rows
     let cells = w.cells;
     match read_row(c, s, 0) {
         Ok(given) => Rows {
-            cells: stored_row(cells, given),
+            cells: stored_row(cells, Ok(given)),
             fault: w.fault,
         },
         Err(_) => Rows { cells, fault: true },

@@ -242,11 +242,11 @@ pub fn no_cells() -> [u8; 20]
     [255; 20]
 }
 
-// The cells after a row. The last row for a cell wins.
-pub fn stored_row(mut cells: [u8; 20], given: Option<Cell>) -> [u8; 20]
-    ensures { result ≡ stored_row cells (Ok given) }
+// The cells after a row; a faulty row leaves them. The last row for a cell wins.
+pub fn stored_row(mut cells: [u8; 20], row: Result<Option<Cell>, Refusal>) -> [u8; 20]
+    ensures { result ≡ stored_row cells row }
 {
-    if let Some(cell) = given {
+    if let Ok(Some(cell)) = row {
         if cell.place < 20 {
             cells[cell.place] = cell.tricks;
         }
@@ -280,7 +280,7 @@ fn table_from_rows(c: Conventions, rows: &[u8]) -> Result<[u8; 20], Refusal>
     let mut n = 0;
     while !rest.is_empty() {
         let len = index_of(rest, b'\n');
-        cells = stored_row(cells, read_row(c, &rest[..len], n)?);
+        cells = stored_row(cells, Ok(read_row(c, &rest[..len], n)?));
         rest = from(rest, len + 1);
         n += 1;
     }
