@@ -1,22 +1,20 @@
 -- Demand 1 of golavimes_finish.
 use Prim.Native.Nat.{ℕ, ◌*◌, ◌≤◌}
-use mathlib.Core.Path.{◌≡◌, refl, ap, ◌∙◌}
+use mathlib.Core.Path.{◌≡◌, refl, ◌∙◌}
 use mathlib.Core.Bool.{true, false, not}
 use mathlib.Core.List.{List, [], ◌∷◌, ◌++◌}
 use native.Mathlib.Omega.{arith}
 use lib.Dec.{ltb, leb, eqb}
 use lib.ListN.{length, get_or}
 use borrow.Author.Tests.{ltb-true, ltb-false, lt-leb, le-leb, eqb-true, eqb-false, eq-eqb, ne_eqb}
-use Rattle.std.specs.Prelude.{Result, Ok, Err, is_ok}
+use Rattle.std.specs.Prelude.{Ok, Err, is_ok}
 use Rattle.tables.specs.declared.letters.Conventions.{Conventions}
 use Rattle.tables.proofs.Laws.{by_cases}
 use Rattle.tables.proofs.TextLaws.{front_few}
 use Rattle.planning.specs.declared.editions.EditionsRefusal.{EditionsRefusal}
-use Rattle.planning.specs.declared.editions.EditionsRefusal.TheVariants.{Old, New}
 use Rattle.planning.specs.declared.editions.Both.{Both}
 use Rattle.planning.specs.Plans.{Boxes, editions_number, editions_carries, edition_refused, editions_of, Editions}
 use Rattle.writer.specs.declared.finish.FinishRefusal.TheVariants.{Edition, Answers, Impossible, PageFull}
-use Rattle.writer.specs.declared.finish.FinishRefusal.{FinishRefusal}
 use Rattle.writer.specs.Given.{finished_text}
 use Rattle.writer.specs.Finishings.{first_above, finished_on, finished_by, finishing_of}
 use Rattle.golavimes.specs.Answers.{finishing_numbers}
@@ -134,5 +132,4 @@ is_done (Ok k) solve answers n m z =
     (λ v. let y = rw (t, u, v) at z in absurd (omega arith)))
     (λ u. let y = rw (t, u) at z in absurd (omega arith)))
     (λ t. let y = rw t at z in absurd (omega arith))
-is_done (Err (Old f)) solve answers n m z = absurd (read_number_lem f z)
-is_done (Err (New f)) solve answers n m z = absurd (read_number_lem f z)
+is_done (Err f) solve answers n m z = absurd (read_number_lem f.refusal z)

@@ -15,7 +15,6 @@ use Rattle.tables.proofs.Laws.{by_cases, clash}
 use Rattle.reader.specs.declared.deal.Hands.{Hands}
 use Rattle.reader.specs.Store.{flat, padded, lent}
 use Rattle.reader.specs.Editions.{reading_of, cards_of, entries_of}
-use Rattle.planning.specs.declared.editions.EditionsRefusal.TheVariants.{Old, New}
 use Rattle.planning.specs.declared.plan.Totals.{Totals}
 use Rattle.planning.specs.Cards.{is_whole, has_table, card_here}
 use Rattle.planning.specs.States.{BoardPlan, state_number, from_of, state_at}
@@ -50,8 +49,7 @@ use Rattle.std.specs.Prelude.{Ok, Err, is_ok}
 -- An answer that begins with 0 names no edition.
 no_edition : (w : Result ℕ FinishRefusal) → get_or (finishing_numbers w) 0 0 ≡ 0 → get_or (finishing_numbers w) 1 0 ≡ 0
 no_edition (Ok n) e = refl
-no_edition (Err (Edition (Old f))) e = absurd (read_number_lem f e)
-no_edition (Err (Edition (New f))) e = absurd (read_number_lem f e)
+no_edition (Err (Edition f)) e = absurd (read_number_lem f.refusal e)
 no_edition (Err (Answers n)) e = refl
 no_edition (Err (Impossible n)) e = refl
 no_edition (Err (PageFull n)) e = refl
@@ -143,8 +141,7 @@ slipped c old new boxes slips boxes' slips' answer' o =
 state_told : (e : Editions) (js : List BoardPlan) (p : ℕ) (answer : List ℕ) → answer ≡ state_numbers e (state_by e js p) → 0 ≡ get_or answer 0 0
     → (get_or answer 3 0 ≡ state_number (state_at js p)) × (get_or answer 4 0 ≡ from_of (state_at js p))
 state_told (Ok n) js p answer e z = rw e (refl, refl)
-state_told (Err (Old f)) js p answer e z = absurd (read_number_lem f (sym (rw e at z)))
-state_told (Err (New f)) js p answer e z = absurd (read_number_lem f (sym (rw e at z)))
+state_told (Err f) js p answer e z = absurd (read_number_lem f.refusal (sym (rw e at z)))
 
 -- ---- the boards of the finished edition
 

@@ -13,7 +13,6 @@ use Rattle.reader.specs.declared.edition.Counts.{Counts}
 use Rattle.reader.specs.declared.edition.ReadRefusal.{ReadRefusal}
 use Rattle.reader.specs.Store.{flat, padded}
 use Rattle.reader.specs.Editions.{reading_of, cards_of, entries_of}
-use Rattle.planning.specs.declared.editions.EditionsRefusal.TheVariants.{Old, New}
 use Rattle.planning.specs.Plans.{Boxes, old_reading, new_reading, editions_of, BoxesAfter, Editions}
 use Rattle.planning.proofs.BoxLaws.{taken_fits}
 use Rattle.planning.proofs.BothLaws.{both_are_taken, taken_short}
@@ -99,8 +98,7 @@ boxes_held c old new boxes boxes' well t w b =
 
 head_zero : (e : Editions) → 0 ≡ (editions_head e).refusal → is_ok e ≡ true
 head_zero (Ok n) z = refl
-head_zero (Err (Old f)) z = absurd (read_number_lem f (sym z))
-head_zero (Err (New f)) z = absurd (read_number_lem f (sym z))
+head_zero (Err f) z = absurd (read_number_lem f.refusal (sym z))
 
 -- An answer that begins with the head of what reading both came to, and with 0.
 headed_held : (c : Conventions) (old new : List ℕ) (boxes boxes' : Boxes) (answer' values : List ℕ) → answer' ≡ head_then (editions_head (editions_of c old new boxes)) values

@@ -1,4 +1,5 @@
 -- The calls of a LIN board, written four a line, are read back as they were, without annotations.
+use Rattle.std.specs.Prelude.{Option}
 use Prim.Native.Nat.{ℕ, suc, ◌+◌, ◌-◌, ◌<◌}
 use mathlib.Core.Path.{◌≡◌, refl, ap, ◌∙◌}
 use mathlib.Core.Bool.{Bool, true, false, cond}
@@ -20,7 +21,7 @@ use Rattle.reader.specs.declared.section.Walk.{Walk}
 use Rattle.reader.specs.Words.{call_token}
 use Rattle.reader.specs.Pieces.{Piece, Out, out_all, entry}
 use Rattle.reader.specs.Auction.{call_token_of, called_by, called, no_bidding}
-use Rattle.reader.specs.Sections.{walked, no_walk}
+use Rattle.reader.specs.Sections.{walked, no_walk, kind_of}
 use Rattle.reader.specs.Plain.{item_of, items_of, annotations_first, calls_in, PlainCall}
 use Rattle.reader.proofs.WordTokens.{call_back, call_word, call_alone, call_end, call_not_all_pass}
 use Rattle.writer.specs.Sections.{rounds}
@@ -155,7 +156,7 @@ module _ (c : Conventions) (ok : Accepted c) where
   calls_good ks e = rounds_data (map (call_token c) ks) (calls_tokens ks e)
 
   -- THEOREM. An auction's section whose data are the rounds of calls has those calls.
-  pub AuctionBack : (o : Open) (trump : ℕ) (qs : List Piece) (ks : List ℕ) → o.kind ≡ 1 → every (λ k. ltb k 47) ks ≡ true → texts qs ≡ rounds (map (call_token c) ks) → AuctionRead ks (out_all (walked c o trump) no_walk qs)
+  pub AuctionBack : (o : Option Open) (trump : ℕ) (qs : List Piece) (ks : List ℕ) → kind_of o ≡ 1 → every (λ k. ltb k 47) ks ≡ true → texts qs ≡ rounds (map (call_token c) ks) → AuctionRead ks (out_all (walked c o trump) no_walk qs)
   unfolding no_walk
   AuctionBack o trump qs ks k e q =
       let w = calls_walked c o trump no_walk qs k in

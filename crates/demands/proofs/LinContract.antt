@@ -6,6 +6,7 @@ use mathlib.Core.List.{List, [], ◌∷◌}
 use native.Mathlib.Omega.{arith}
 use lib.Dec.{eqb, ltb}
 use borrow.Author.Tests.{ltb-true, eq-eqb, not-true}
+use Rattle.lin.proofs.BiddingLaws.{contract_keeps}
 use Rattle.tables.proofs.Laws.{by_cases, both, either, neither, clash}
 use Rattle.lin.specs.declared.bidding.Contract.{Contract}
 use Rattle.lin.specs.Bidding.{is_bid, no_contract, with_call, contract_from, strain, next_seat, names, first_to_name, declarer_of}
@@ -29,14 +30,10 @@ call_fine seat k code h =
     (λ f. rw (e, f) (record { bid_low = h.bid_low; doubling_is = rw (both (eqb code 36 || eqb code 37) (ltb 0 k.bid) f).0 (or_true (eqb code 0)) }))
     (λ f. rw (e, f) h))
 
-contract_fine : (seat : ℕ) (k : Contract) (codes : List ℕ) → FineContract k → FineContract (contract_from seat k codes)
-contract_fine seat k [] h = h
-contract_fine seat k (code ∷ codes) h = contract_fine (next_seat seat) (with_call seat k code) codes (call_fine seat k code h)
-
 -- THEOREM.
 pub ContractFine : (b : LinBoard) → FineContract (contract_of b)
 unfolding contract_of
-ContractFine b = contract_fine 0 no_contract b.calls (record { bid_low = omega arith; doubling_is = refl })
+ContractFine b = contract_keeps FineContract call_fine 0 no_contract b.calls (record { bid_low = omega arith; doubling_is = refl })
 
 -- ---- the declarer
 

@@ -1,4 +1,5 @@
 -- The play of a LIN board: its tricks, written by seat from the opening leader on, are read back as they were.
+use Rattle.std.specs.Prelude.{Option}
 use Prim.Native.Nat.{ℕ, ◌+◌, ◌<◌}
 use mathlib.Core.Path.{◌≡◌, refl, sym, ap, ◌∙◌}
 use mathlib.Core.Bool.{Bool, true, false, cond}
@@ -19,7 +20,7 @@ use Rattle.reader.specs.declared.section.Open.{Open}
 use Rattle.reader.specs.declared.section.Walk.{Walk}
 use Rattle.reader.specs.Pieces.{Piece, Out, out_all}
 use Rattle.reader.specs.Play.{with_slot, is_full, winner_of, trick_entry, new_trick, next_leader, opened, slot_of, is_gap, played, played_bytes, last_trick, no_tricks}
-use Rattle.reader.specs.Sections.{walked, no_walk}
+use Rattle.reader.specs.Sections.{walked, no_walk, kind_of, opener}
 use Rattle.reader.specs.Plain.{item_of, items_of, PlainTrick, tricks_in}
 use Rattle.reader.proofs.PlainTricks.{is_slot, Cards, slots_back}
 use Rattle.reader.proofs.WordTokens.{card_back, card_no_end, card_no_dash}
@@ -338,11 +339,11 @@ module _ (c : Conventions) (ok : Accepted c) where
       ∙ ap (λ (x : List (List ℕ)). seat_word c lead t 0 ∷ seat_word c lead t 1 ∷ seat_word c lead t 2 ∷ seat_word c lead t 3 ∷ x) (tricks_words_lem lead ts)
 
   -- THEOREM. A play's section whose data are the lines of tricks has those tricks.
-  pub PlayBack : (o : Open) (trump : ℕ) (qs : List Piece) (ks : List ℕ) → o.kind ≡ 2 → o.seat < 4 → every (λ k. ltb k 52) ks ≡ true → texts qs ≡ trick_lines c o.seat (tricks_from trump o.seat ks)
-      → PlayRead (tricks_from trump o.seat ks) (out_all (walked c o trump) no_walk qs)
+  pub PlayBack : (o : Option Open) (trump : ℕ) (qs : List Piece) (ks : List ℕ) → kind_of o ≡ 2 → opener o < 4 → every (λ k. ltb k 52) ks ≡ true → texts qs ≡ trick_lines c (opener o) (tricks_from trump (opener o) ks)
+      → PlayRead (tricks_from trump (opener o) ks) (out_all (walked c o trump) no_walk qs)
   unfolding no_walk
   PlayBack o trump qs ks k h e q =
-      let lead = o.seat in
+      let lead = opener o in
       let ts = tricks_from trump lead ks in
       let w = plays_walked c o trump no_walk qs k in
       let t : texts (all_tokens qs) ≡ tricks_words c lead ts = tokens_texts qs ∙ ap words_in_all q ∙ tricks_words_lem lead ts in
@@ -355,7 +356,7 @@ module _ (c : Conventions) (ok : Accepted c) where
         any_is = ap (λ (y : Tricks). y.any) w.0 ∙ r.any_is;
       }
     where
-      moved : {xs ys : List (List ℕ)} {ts : List PlainTrick} → xs ≡ ys → TricksRead 0 no_tricks ts (out_all (played_bytes c o.seat trump) no_tricks ys) → TricksRead 0 no_tricks ts (out_all (played_bytes c o.seat trump) no_tricks xs)
+      moved : {xs ys : List (List ℕ)} {ts : List PlainTrick} → xs ≡ ys → TricksRead 0 no_tricks ts (out_all (played_bytes c (opener o) trump) no_tricks ys) → TricksRead 0 no_tricks ts (out_all (played_bytes c (opener o) trump) no_tricks xs)
       moved e z = rw e z
 
   -- ---- one line

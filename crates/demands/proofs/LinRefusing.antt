@@ -5,23 +5,21 @@ use mathlib.Core.Bool.{true, false, not}
 use mathlib.Core.List.{List, [], ◌∷◌, ◌++◌}
 use native.Mathlib.Omega.{arith}
 use lib.Dec.{eqb}
-use lib.ListN.{length, get_or}
+use lib.ListN.{length}
 use borrow.Author.Tests.{eqb-true, eqb-false, eq-eqb, ne_eqb, ltb-true, ltb-false, leb-true, leb-false, lt-leb, le-leb, not-true}
-use Rattle.std.specs.Prelude.{Result, Ok, Err, is_ok}
+use Rattle.std.specs.Prelude.{Ok, Err, is_ok}
 use Rattle.tables.specs.declared.letters.Conventions.{Conventions}
 use Rattle.tables.specs.Letters.{among, distinct}
 use Rattle.tables.proofs.Laws.{by_cases, both, either, neither, clash}
 use Rattle.reader.proofs.CardSets.{distinct_back}
 use Rattle.reader.proofs.TagsBack.{among_append}
-use Rattle.lin.specs.declared.convert.Converted.{Converted}
-use Rattle.lin.specs.declared.convert.LinRefusal.{LinRefusal}
 use Rattle.lin.specs.declared.convert.LinRefusal.TheVariants as refused
 use Rattle.lin.specs.Dealing.{Dealing, all_cards, has_card, is_hand, is_deal}
 use Rattle.lin.specs.LinBoards.{LinBoard, lin_boards, any_card, all_deals, lin_text}
 use Rattle.lin.specs.Conversions.{gives_deals, converted_of}
 use Rattle.golavimes.specs.Answers.{converted_numbers}
 use Rattle.demands.specs.Demand1.{Refusal, refusal, Overlong, PageFull, SomeBoard, HasCard, CardTwice, HandOver, north_over, east_over, south_over, west_over, NoDeal, no_card, card_twice, hand_over, NoValues, LinRefuses}
-use Rattle.demands.proofs.Refusing.{Says, Met, nothing, this, later, met_by, met_below, first_that_holds, says_by, refused_by, names_none}
+use Rattle.demands.proofs.Refusing.{Met, nothing, this, later, met_by, met_below, first_that_holds, says_by, refused_by, names_none}
 
 -- ---- a board among others
 

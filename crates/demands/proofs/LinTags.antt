@@ -18,7 +18,7 @@ use Rattle.reader.specs.declared.board.TableCard.{TableCard}
 use Rattle.reader.specs.Names.{tag_names, tag_number}
 use Rattle.reader.specs.Words.{vulnerability_of, vulnerability_token}
 use Rattle.reader.specs.Deals.{card_count, hand_bits, hand_words, hands_of_words, deal_of, deal_text, Proper}
-use Rattle.std.specs.Prelude.{Some, None}
+use Rattle.std.specs.Prelude.{Some}
 use Rattle.reader.specs.Pieces.{raw_lines}
 use Rattle.reader.specs.Boards.{identity_by, deal_by, no_board}
 use Rattle.reader.specs.Plain.{TagPair, PlainPlay, PlainBoard, plain_of}
@@ -26,7 +26,7 @@ use Rattle.reader.proofs.LineTags.{tags_of_lines}
 use Rattle.reader.proofs.CardSets.{in_pack, distinct_front, distinct_back, count_total}
 use Rattle.reader.proofs.DealLaws.{HandsBack}
 use Rattle.reader.proofs.DealBack.{DealBack}
-use Rattle.reader.proofs.WordTokens.{front_all, every_take, vulnerability_back}
+use Rattle.reader.proofs.WordTokens.{capital_differs, front_all, every_take, vulnerability_back}
 use Rattle.reader.proofs.PlainLaws.{plain_keeps}
 use Rattle.reader.proofs.StandLaws.{map_append}
 use Rattle.reader.proofs.Folds.{fold_tags, fold_append, fold_deal, fold_table, fold_identity, DealFolds, TableFolds, IdentityFolds}
@@ -134,15 +134,11 @@ table_back c b = ap (λ (t : TableCard). t.kind) (table_told c (lin_plain c b) (
 -- ---- the identity
 
 -- No seat's letter is the byte 0.
-capital_some : (b : ℕ) → is_capital b ≡ true → differs 0 b ≡ true
-unfolding is_capital
-capital_some b e = rw (ne_eqb b 0 (λ k. omega (arith, leb-true 65 b (both (leb 65 b) (leb b 90) e).0)))
-
 no_seat : (c : Conventions) → Accepted c → seat_of c 0 ≡ 4
 unfolding seat_of capital
 no_seat c ok =
     let s = take 4 c.letters in
-    rw (front_all (differs 0) s (every_implied is_capital (differs 0) capital_some s (every_take is_capital 4 c.letters ok.capitals)))
+    rw (front_all (differs 0) s (every_implied is_capital (differs 0) capital_differs s (every_take is_capital 4 c.letters ok.capitals)))
     (length-take-le 4 c.letters (omega (arith, ok.thirteen)))
 
 -- A seat's letter, or nothing, is read as that seat.

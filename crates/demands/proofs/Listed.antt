@@ -8,6 +8,7 @@ use lib.Dec.{ltb}
 use lib.ListN.{length, get_or, take, drop, replicate, length-append, length-replicate}
 use lib.Seq.{drop_at, drop-drop, get_or-take, get_or-drop}
 use borrow.Author.Tests.{ltb-true, ltb-false, le-ltb}
+use Rattle.planning.proofs.BoardLaws.{boards_count}
 use Rattle.std.specs.Prelude.{Result, Ok, Err, is_ok}
 use Rattle.tables.specs.declared.letters.Conventions.{Conventions}
 use Rattle.tables.proofs.Laws.{by_cases, clash}
@@ -31,7 +32,7 @@ use Rattle.planning.proofs.CardLaws.{Handed, CardsHanded}
 use Rattle.demands.proofs.MeaningLaws.{SaysAt, here_says, state_here_lem, tells_deal}
 use Rattle.demands.proofs.StatesMean.{states_mean, board_at, first_solves}
 use Rattle.planning.proofs.SlipLaws.{SlipOfBoard, slip_board, board_slip, place_is, in_order, fives_length, fives_here, slips_five, slips_count}
-use Rattle.demands.proofs.TotalsAdd.{totals_add_up, boards_all}
+use Rattle.demands.proofs.TotalsAdd.{totals_add_up}
 
 -- ---- a slip and its hands
 
@@ -264,7 +265,7 @@ listed_exactly_once c old new boxes slips boxes' slips' t p =
 pub totals_told : TotalsTold
 totals_told c old new boxes slips boxes' slips' t p =
     let q = told c old new boxes slips boxes' slips' t p in (
-      boards_total t (plans_of c old new) q.totals ∙ boards_all (cards_of c old) (cards_of c new),
+      boards_total t (plans_of c old new) q.totals ∙ boards_count (cards_of c old) (cards_of c new),
       rw q.totals (totals_add_up (plans_of c old new)),
     )
 

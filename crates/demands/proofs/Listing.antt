@@ -7,7 +7,6 @@ use lib.ListN.{length, get_or}
 use Rattle.tables.specs.declared.letters.Conventions.{Conventions}
 use Rattle.reader.specs.declared.edition.ReadRefusal.{ReadRefusal}
 use Rattle.reader.specs.declared.edition.ReadRefusal.TheVariants.{Overlong, BoxFull, ListFull}
-use Rattle.planning.specs.declared.editions.EditionsRefusal.TheVariants.{Old, New}
 use Rattle.planning.specs.declared.plan.PlanRefusal.TheVariants.{Edition, SlipsShort}
 use Rattle.planning.specs.declared.plan.Totals.{Totals}
 use Rattle.reader.specs.Editions.{read_number}
@@ -82,8 +81,7 @@ pub record HasTotals (p : Planning) : Type 0 where
 
 listed_zero : (p : Planning) → get_or (plan_numbers p) 0 0 ≡ 0 → HasTotals p
 listed_zero (Ok t) e = record { totals = t; is = refl }
-listed_zero (Err (Edition (Old f))) e = absurd (read_number_lem f e)
-listed_zero (Err (Edition (New f))) e = absurd (read_number_lem f e)
+listed_zero (Err (Edition f)) e = absurd (read_number_lem f.refusal e)
 listed_zero (Err (SlipsShort n)) e = absurd (omega arith)
 
 -- What was promised of planning itself, and the boards to solve in the answer.

@@ -7,6 +7,7 @@ use lib.Dec.{ltb}
 use lib.ListN.{length, get_or, take, drop, replicate, length-append, length-replicate, length-map, take-append-drop}
 use lib.Seq.{take_all, length-take-le, get_or-take}
 use borrow.Author.Tests.{ltb-true, ltb-false, lt-leb}
+use Rattle.planning.proofs.BoardLaws.{boards_count}
 use Rattle.tables.proofs.Laws.{by_cases, clash}
 use Rattle.reader.specs.Store.{put, put_all, flat, padded}
 use Rattle.tables.specs.declared.letters.Conventions.{Conventions}
@@ -23,7 +24,6 @@ use Rattle.planning.specs.Demands.{five_at, searches_at, Numbered, NumbersTold, 
 use Rattle.planning.proofs.SlipLaws.{fives_length, fives_here}
 use Rattle.demands.proofs.MeaningLaws.{plan_here_lem, mapped_at}
 use Rattle.demands.proofs.Listed.{behind_zero}
-use Rattle.demands.proofs.TotalsAdd.{boards_all}
 
 -- ---- blocks of five, as many as fit
 
@@ -117,7 +117,7 @@ numbers_told c old new boxes numbers boxes' numbers' n b =
     let news = cards_of c new in
     let js = plans_of c old new in
     all_numbered (five_at olds news js) (length news) (length numbers) numbers' (numbers_five olds news js)
-    (length-map js (board_numbers olds news) ∙ boards_all olds news) (numbers_at olds news) b.numbers_after
+    (length-map js (board_numbers olds news) ∙ boards_count olds news) (numbers_at olds news) b.numbers_after
 
 -- Where both editions were taken.
 searches_taken : (e : Editions) (c : Conventions) (old new : List ℕ) (L : ℕ) {n : Searched} → Ok n ≡ searched_by e c old new
@@ -131,4 +131,4 @@ search_numbers_told c old new boxes numbers boxes' numbers' n b =
     let news = cards_of c new in
     let js = plans_of c old new in
     all_numbered (searches_at olds news js) (length news) (length numbers) numbers' (searches_five olds news js)
-    (length-map js (search_numbers olds news) ∙ boards_all olds news) (searches_at_lem olds news) (b.numbers_after ∙ searches_taken (editions_of c old new boxes) c old new (length numbers) b.answer)
+    (length-map js (search_numbers olds news) ∙ boards_count olds news) (searches_at_lem olds news) (b.numbers_after ∙ searches_taken (editions_of c old new boxes) c old new (length numbers) b.answer)

@@ -10,7 +10,7 @@ use Rattle.planning.specs.declared.state.BoardState.{BoardState}
 use Rattle.planning.specs.declared.state.BoardState.TheVariants.{Blank, Own, Old, Near, Twin, Solve}
 use Rattle.std.specs.Prelude.{Option, Some, None}
 use Rattle.planning.specs.declared.behind.Behind.{Behind}
-use Rattle.planning.specs.declared.behind.Edition.TheVariants as edition
+use Rattle.tables.specs.declared.refused.Edition.TheVariants as edition
 use Rattle.planning.specs.Cards.{card_deal, is_whole, has_table, has_deal, fits}
 use Rattle.planning.specs.States.{BoardPlan, first_with, state_of, board_plans}
 use Rattle.planning.specs.Slips.{slip_of, slips_of, totals_of, behind_at}

@@ -8,6 +8,7 @@ use lib.Dec.{ltb, eqb}
 use lib.ListN.{length, get_or, drop, replicate, length-map}
 use lib.Seq.{take_at, drop_at}
 use borrow.Author.Tests.{ltb-true, ltb-false, eqb-true, ne_eqb, le-leb, lt-leb}
+use Rattle.reader.proofs.EditionLaws.{all_blocks}
 use Rattle.std.specs.Prelude.{Result, Ok}
 use Rattle.tables.specs.declared.letters.Conventions.{Conventions}
 use Rattle.tables.proofs.Laws.{by_cases}
@@ -146,14 +147,6 @@ cards_handed c text cards entries o = card_held c text cards entries (handed c t
 four_words : (a : ℕ) (e : Entry) → length (entry_words a e) ≡ 4
 unfolding entry_words
 four_words a e = refl
-
-entry_blocks_lem : (c : Conventions) (a : ℕ) (rs : List (List ℕ)) → Blocks 4 (editions.entries_from c a rs)
-entry_blocks_lem c a [] = blocks.none
-entry_blocks_lem c a (r ∷ rs) = blocks_append (blocks_map 4 (entry_words a) (four_words a) (record_out c r).entries) (entry_blocks_lem c (a + length r) rs)
-
-all_blocks : (c : Conventions) (text : List ℕ) → Blocks 4 (entries_of c text)
-unfolding entries_of
-all_blocks c text = entry_blocks_lem c 0 (records_of text)
 
 blocks_left : {w : ℕ} (xs ys : List (List ℕ)) → Blocks w (xs ++ ys) → Blocks w xs
 blocks_left [] ys b = blocks.none

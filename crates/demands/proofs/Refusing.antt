@@ -15,7 +15,7 @@ use Rattle.reader.specs.declared.edition.Counts.{Counts}
 use Rattle.reader.specs.Editions.{read_number, read_carries, reading_of, cards_of, entries_of, counts_of}
 use Rattle.planning.specs.declared.state.BoardState.{BoardState}
 use Rattle.planning.specs.declared.editions.EditionsRefusal.{EditionsRefusal}
-use Rattle.planning.specs.declared.editions.EditionsRefusal.TheVariants.{Old, New}
+use Rattle.tables.specs.declared.refused.Edition.TheVariants.{Old, New}
 use Rattle.planning.specs.States.{state_number, from_of}
 use Rattle.planning.specs.Searches.{searches_from}
 use Rattle.planning.specs.Slips.{totals_of, numbers_from}
@@ -173,10 +173,10 @@ pub editions_met : (c : Conventions) (old new : List ℕ) (boxes : Boxes) (answe
 unfolding editions_of
 editions_met c old new boxes answer fs refused both =
     edition_met 1 c old boxes.old_cards boxes.old_entries answer (of_edition 2 c new boxes.new_cards boxes.new_entries ++ fs)
-    (λ f e. refused (Old f) (rw e))
+    (λ f e. refused (record { edition = Old; refusal = f }) (rw e))
     (λ m e.
     edition_met 2 c new boxes.new_cards boxes.new_entries answer fs
-    (λ f d. refused (New f) (rw (e, d)))
+    (λ f d. refused (record { edition = New; refusal = f }) (rw (e, d)))
     (λ n d. both (record { old = m; new = n }) (rw (e, d))))
 
 -- An answer that begins with the head of what reading both came to.

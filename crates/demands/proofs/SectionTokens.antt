@@ -1,5 +1,6 @@
 -- The data lines of a section that was written: the section's data are those lines, and the tokens of a line are the words that were put
 -- on it.
+use Rattle.std.specs.Prelude.{Option}
 use Prim.Native.Nat.{ℕ, ◌+◌}
 use mathlib.Core.Path.{◌≡◌, refl, sym, ap, ◌∙◌}
 use mathlib.Core.Bool.{true, false, cond}
@@ -17,7 +18,7 @@ use Rattle.reader.specs.declared.section.Walk.{Walk}
 use Rattle.reader.specs.Auction.{called, called_piece}
 use Rattle.reader.specs.Play.{played_bytes, played_token, played_piece}
 use Rattle.reader.specs.Pieces.{Piece, prepend_token, join_token, tokens_at, tokens_of, Out, and_then, out_all, raw_lines}
-use Rattle.reader.specs.Sections.{commentary_after, stops_at, piece_of, data_in, walked}
+use Rattle.reader.specs.Sections.{commentary_after, stops_at, piece_of, data_in, walked, kind_of, opener}
 use Rattle.writer.specs.Sections.{spaced, rounds}
 use Rattle.writer.specs.Remarks.{data_line, line_text, lines_text}
 use Rattle.demands.specs.PageBack.{all, good_data, ReadsAs, section}
@@ -130,7 +131,7 @@ out_append f a (x ∷ xs) ys =
 
 -- ---- the walk over a section's data is one over its tokens
 
-one_called : (c : Conventions) (o : Open) (trump : ℕ) (w : Walk) (q : Piece) → o.kind ≡ 1
+one_called : (c : Conventions) (o : Option Open) (trump : ℕ) (w : Walk) (q : Piece) → kind_of o ≡ 1
     → walked c o trump w q
     ≡ record {
       state = record { bidding = (out_all (called c) w.bidding (tokens_of q)).state; tricks = w.tricks; rows = w.rows };
@@ -139,7 +140,7 @@ one_called : (c : Conventions) (o : Open) (trump : ℕ) (w : Walk) (q : Piece) �
 unfolding walked called_piece
 one_called c o trump w q k = rw k
 
-pub calls_walked : (c : Conventions) (o : Open) (trump : ℕ) (w : Walk) (qs : List Piece) → o.kind ≡ 1
+pub calls_walked : (c : Conventions) (o : Option Open) (trump : ℕ) (w : Walk) (qs : List Piece) → kind_of o ≡ 1
     → ((out_all (walked c o trump) w qs).state.bidding ≡ (out_all (called c) w.bidding (all_tokens qs)).state)
     × ((out_all (walked c o trump) w qs).entries ≡ (out_all (called c) w.bidding (all_tokens qs)).entries)
 calls_walked c o trump w [] k = (refl, refl)
@@ -155,33 +156,33 @@ bytes_played : (c : Conventions) (lead trump : ℕ) (t : Tricks) (qs : List Piec
 bytes_played c lead trump t [] = refl
 bytes_played c lead trump t (q ∷ qs) = ap (and_then (played_bytes c lead trump t q.bytes)) (bytes_played c lead trump (played_bytes c lead trump t q.bytes).state qs)
 
-one_played : (c : Conventions) (o : Open) (trump : ℕ) (w : Walk) (q : Piece) → o.kind ≡ 2
+one_played : (c : Conventions) (o : Option Open) (trump : ℕ) (w : Walk) (q : Piece) → kind_of o ≡ 2
     → walked c o trump w q
     ≡ record {
-      state = record { bidding = w.bidding; tricks = (out_all (played_token c o.seat trump) w.tricks (tokens_of q)).state; rows = w.rows };
-      entries = (out_all (played_token c o.seat trump) w.tricks (tokens_of q)).entries;
+      state = record { bidding = w.bidding; tricks = (out_all (played_token c (opener o) trump) w.tricks (tokens_of q)).state; rows = w.rows };
+      entries = (out_all (played_token c (opener o) trump) w.tricks (tokens_of q)).entries;
     }
 unfolding walked played_piece
 one_played c o trump w q k = rw k
 
-plays_tokens : (c : Conventions) (o : Open) (trump : ℕ) (w : Walk) (qs : List Piece) → o.kind ≡ 2
-    → ((out_all (walked c o trump) w qs).state.tricks ≡ (out_all (played_token c o.seat trump) w.tricks (all_tokens qs)).state)
-    × ((out_all (walked c o trump) w qs).entries ≡ (out_all (played_token c o.seat trump) w.tricks (all_tokens qs)).entries)
+plays_tokens : (c : Conventions) (o : Option Open) (trump : ℕ) (w : Walk) (qs : List Piece) → kind_of o ≡ 2
+    → ((out_all (walked c o trump) w qs).state.tricks ≡ (out_all (played_token c (opener o) trump) w.tricks (all_tokens qs)).state)
+    × ((out_all (walked c o trump) w qs).entries ≡ (out_all (played_token c (opener o) trump) w.tricks (all_tokens qs)).entries)
 plays_tokens c o trump w [] k = (refl, refl)
 plays_tokens c o trump w (q ∷ qs) k =
-    let x = out_all (played_token c o.seat trump) w.tricks (tokens_of q) in
+    let x = out_all (played_token c (opener o) trump) w.tricks (tokens_of q) in
     let v : Walk = record { bidding = w.bidding; tricks = x.state; rows = w.rows } in
     let e : walked c o trump w q ≡ record { state = v; entries = x.entries } = one_played c o trump w q k in
     let h = plays_tokens c o trump v qs k in
-    let a = out_append (played_token c o.seat trump) w.tricks (tokens_of q) (all_tokens qs) in
+    let a = out_append (played_token c (opener o) trump) w.tricks (tokens_of q) (all_tokens qs) in
     rw (e, a) (h.0, ap (λ (es : List Entry). x.entries ++ es) h.1)
 
-pub plays_walked : (c : Conventions) (o : Open) (trump : ℕ) (w : Walk) (qs : List Piece) → o.kind ≡ 2
-    → ((out_all (walked c o trump) w qs).state.tricks ≡ (out_all (played_bytes c o.seat trump) w.tricks (texts (all_tokens qs))).state)
-    × ((out_all (walked c o trump) w qs).entries ≡ (out_all (played_bytes c o.seat trump) w.tricks (texts (all_tokens qs))).entries)
+pub plays_walked : (c : Conventions) (o : Option Open) (trump : ℕ) (w : Walk) (qs : List Piece) → kind_of o ≡ 2
+    → ((out_all (walked c o trump) w qs).state.tricks ≡ (out_all (played_bytes c (opener o) trump) w.tricks (texts (all_tokens qs))).state)
+    × ((out_all (walked c o trump) w qs).entries ≡ (out_all (played_bytes c (opener o) trump) w.tricks (texts (all_tokens qs))).entries)
 plays_walked c o trump w qs k =
     let h = plays_tokens c o trump w qs k in
-    let e = bytes_played c o.seat trump w.tricks (all_tokens qs) in
+    let e = bytes_played c (opener o) trump w.tricks (all_tokens qs) in
     (h.0 ∙ ap (λ (x : Out Tricks). x.state) e, h.1 ∙ ap (λ (x : Out Tricks). x.entries) e)
 
 -- ---- the data of a section

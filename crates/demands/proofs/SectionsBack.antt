@@ -1,5 +1,9 @@
 -- A record of written lines, read line by line: the auction and the play that are in force, and the trump of the contract, after each tag
 -- with its data lines.
+use Rattle.reader.specs.Boards.{in_block}
+use Rattle.std.specs.Prelude.{None}
+use Rattle.std.specs.Prelude.{Option as Maybe, Some}
+use Rattle.reader.specs.declared.section.Kind.TheVariants.{Auction, Play}
 use Prim.Native.Nat.{ℕ, ◌+◌, ◌-◌, ◌≤◌, ◌<◌}
 use mathlib.Core.Path.{◌≡◌, refl, sym, ap, ◌∙◌}
 use mathlib.Core.Bool.{Bool, true, false, cond, ◌||◌}
@@ -34,7 +38,7 @@ use Rattle.reader.specs.Names.{tag_number, auction_name, play_name, optimum_resu
 use Rattle.reader.proofs.NamePins.{name_auction, name_play}
 use Rattle.reader.specs.Pieces.{Out, entry, raw_lines}
 use Rattle.reader.specs.Play.{last_trick}
-use Rattle.reader.specs.Sections.{stops_at, data_in, split_piece, lines_data, section_data, walked_all}
+use Rattle.reader.specs.Sections.{stops_at, data_in, split_piece, lines_data, section_data, walked_all, kind_of, opener, lines_at, split_off}
 use Rattle.reader.specs.Boards.{applied, contract_by, data_entries, with_sections, board_closed, closed_entries, closed_state, closed_by, open_by, no_open, no_board, no_span, closed, tagged, tag_line_out, in_commentary, line_by, line_out, lines_out, no_state, record_out}
 use Rattle.reader.specs.Plain.{Item, item_of, items_of, in_force, items_within, PlainCall, calls_in, plain_auction, PlainTrick, PlainPlay, plain_play, tricks_in, plain_by, plain_of}
 use Rattle.reader.proofs.Seams.{flat_raw}
@@ -126,16 +130,16 @@ pub record At (c : Conventions) (r : List ℕ) (text : List ℕ) (a : Option Cal
   pub entries : List Entry
   pub place : ℕ
   pub reached : LinesRead c r state entries place text
-  pub quiet : state.commentary ≡ false
+  pub quiet : in_block state ≡ false
   pub settled : SectionSettled r entries (closed c r state) a p trump
 
 -- Within the section o.
-pub record InSection (c : Conventions) (r : List ℕ) (o : Open) (text : List ℕ) (a : Option Calls) (p : Option PlainPlay) (trump : ℕ) : Type 0 where
+pub record InSection (c : Conventions) (r : List ℕ) (o : Maybe Open) (text : List ℕ) (a : Option Calls) (p : Option PlainPlay) (trump : ℕ) : Type 0 where
   pub state : State
   pub entries : List Entry
   pub place : ℕ
   pub reached : LinesRead c r state entries place text
-  pub quiet : state.commentary ≡ false
+  pub quiet : in_block state ≡ false
   pub section_is : state.section ≡ o
   pub counted : state.n ≡ length entries
   pub seen : Seen r state.board entries a p trump
@@ -155,7 +159,7 @@ reach_line c r s es q text m rest h e f =
       left = sym (drop-drop (length m) q r) ∙ ap (drop (length m)) (h.left ∙ f) ∙ drop-append_seam m rest;
     }
 
-line_by_lem : (c : Conventions) (r : List ℕ) (s : State) (q : ℕ) (m : List ℕ) (k : Line) → s.commentary ≡ false → line_kind m ≡ k → line_out c r s q m ≡ line_by c r s q m k
+line_by_lem : (c : Conventions) (r : List ℕ) (s : State) (q : ℕ) (m : List ℕ) (k : Line) → in_block s ≡ false → line_kind m ≡ k → line_out c r s q m ≡ line_by c r s q m k
 unfolding line_out
 line_by_lem c r s q m k n e =
     ap (λ (b : Bool). cond {A = Out State} b (in_commentary r s q m) (line_by c r s q m (line_kind m))) n ∙ ap (line_by c r s q m) e
@@ -170,7 +174,7 @@ moved : {c : Conventions} {r : List ℕ} (es : List Entry) {q : ℕ} {text : Lis
 moved es e h = rw e at h
 
 -- What closing the section o comes to, w being its data walked.
-abbrev pub closed_with : State → Open → Out Walk → Out State
+abbrev pub closed_with : State → Maybe Open → Out Walk → Out State
 closed_with s o w = record { state = closed_state s (board_closed s.board o s.n w.state) (length (closed_entries o w)); entries = closed_entries o w }
 
 settled_by : {r : List ℕ} {es : List Entry} {x y : Out State} {a : Option Calls} {p : Option PlainPlay} {trump : ℕ} → x ≡ y → SectionSettled r es y a p trump → SectionSettled r es x a p trump
@@ -225,7 +229,7 @@ module _ (c : Conventions) (r : List ℕ) {a : Option Calls} {p : Option PlainPl
 
   -- ---- its data lines
 
-  data_by : (o : Open) (d rest : List ℕ) (ls : List (List ℕ)) → raw_lines (line_text (data_line d)) ≡ ls → ReadsAs (data_line d) ls → InSection c r o (line_text (data_line d) ++ rest) a p trump → InSection c r o rest a p trump
+  data_by : (o : Maybe Open) (d rest : List ℕ) (ls : List (List ℕ)) → raw_lines (line_text (data_line d)) ≡ ls → ReadsAs (data_line d) ls → InSection c r o (line_text (data_line d) ++ rest) a p trump → InSection c r o rest a p trump
   data_by o d rest [] e a h = elim a [ ]
   data_by o d rest (m ∷ (_ ∷ _)) e a h = elim a [ ]
   data_by o d rest (m ∷ []) e (section {s = t} k x) h =
@@ -235,7 +239,7 @@ module _ (c : Conventions) (r : List ℕ) {a : Option Calls} {p : Option PlainPl
       let f = one_line (data_line d) m rest e in
       let w = reach_line c r s es q (line_text (data_line d) ++ rest) m rest h.reached f.0 f.1 in
       let u = moved es (line_by_lem c r s q m (Data t) h.quiet k) w in
-      let more = data_entries s.section.kind q t in
+      let more = data_entries s.section q t in
       record {
         state = _;
         entries = es ++ more;
@@ -247,7 +251,7 @@ module _ (c : Conventions) (r : List ℕ) {a : Option Calls} {p : Option PlainPl
         seen = seen_more r s.board es more h.seen;
       }
 
-  pub data_read : (o : Open) (ds : List (List ℕ)) (rest : List ℕ) → all good_data ds ≡ true → InSection c r o (lines_text (map data_line ds) ++ rest) a p trump → InSection c r o rest a p trump
+  pub data_read : (o : Maybe Open) (ds : List (List ℕ)) (rest : List ℕ) → all good_data ds ≡ true → InSection c r o (lines_text (map data_line ds) ++ rest) a p trump → InSection c r o rest a p trump
   data_read o [] rest e h = h
   data_read o (d ∷ ds) rest e h =
       let g = both (good_data d) (all good_data ds) e in
@@ -258,11 +262,11 @@ module _ (c : Conventions) (r : List ℕ) {a : Option Calls} {p : Option PlainPl
   -- ---- the end of a section
 
   -- No section: nothing is left to close.
-  pub none_closes : (o : Open) (rest : List ℕ) → o.kind ≡ 0 → InSection c r o rest a p trump → At c r rest a p trump
+  pub none_closes : (o : Maybe Open) (rest : List ℕ) → kind_of o ≡ 0 → InSection c r o rest a p trump → At c r rest a p trump
   unfolding closed
   none_closes o rest k h =
       let s = h.state in
-      let e : closed c r s ≡ record { state = s; entries = [] } = ap (λ (x : Open). cond {A = Out State} (eqb x.kind 0) (record { state = s; entries = [] }) (closed_by s (walked_all c r s.section s.board.contract))) h.section_is ∙ rw k in
+      let e : closed c r s ≡ record { state = s; entries = [] } = ap (λ (x : Maybe Open). cond {A = Out State} (eqb (kind_of x) 0) (record { state = s; entries = [] }) (closed_by s (walked_all c r s.section s.board.contract))) h.section_is ∙ rw k in
       record {
         state = s;
         entries = h.entries;
@@ -273,24 +277,24 @@ module _ (c : Conventions) (r : List ℕ) {a : Option Calls} {p : Option PlainPl
       }
 
   -- A section with data.
-  pub section_closes : (o : Open) (rest : List ℕ) {b : Option Calls} {d : Option PlainPlay} {trump' : ℕ} (h : InSection c r o rest a p trump) → eqb o.kind 0 ≡ false
+  pub section_closes : (o : Maybe Open) (rest : List ℕ) {b : Option Calls} {d : Option PlainPlay} {trump' : ℕ} (h : InSection c r o rest a p trump) → eqb (kind_of o) 0 ≡ false
       → SectionSettled r h.entries (closed_with h.state o (walked_all c r o trump)) b d trump' → At c r rest b d trump'
   unfolding closed
   section_closes o rest h k g =
       let s = h.state in
       let e : closed c r s ≡ closed_with s o (walked_all c r o trump) =
-      ap (λ (x : Open). cond {A = Out State} (eqb x.kind 0) (record { state = s; entries = [] }) (closed_with s x (walked_all c r x s.board.contract))) h.section_is
+      ap (λ (x : Maybe Open). cond {A = Out State} (eqb (kind_of x) 0) (record { state = s; entries = [] }) (closed_with s x (walked_all c r x s.board.contract))) h.section_is
       ∙ ap (λ (b : Bool). cond {A = Out State} b (record { state = s; entries = [] }) (closed_with s o (walked_all c r o s.board.contract))) k
       ∙ ap (λ (t : ℕ). closed_with s o (walked_all c r o t)) h.seen.contract_is in
       record { state = s; entries = h.entries; place = h.place; reached = h.reached; quiet = h.quiet; settled = settled_by e g }
 
 -- The data of a section are the lines that were written.
-section_texts : (r : List ℕ) (o : Open) (ds : List (List ℕ)) (rest : List ℕ) → o.split ≡ no_span → drop o.at r ≡ lines_text (map data_line ds) ++ rest → all good_data ds ≡ true → Stops rest → texts (section_data r o) ≡ ds
+section_texts : (r : List ℕ) (o : Maybe Open) (ds : List (List ℕ)) (rest : List ℕ) → split_off o ≡ no_span → drop (lines_at o) r ≡ lines_text (map data_line ds) ++ rest → all good_data ds ≡ true → Stops rest → texts (section_data r o) ≡ ds
 unfolding section_data
 section_texts r o ds rest n e g s =
     ap (λ (x : Span). texts (split_piece r x ++ lines_data r o)) n
-    ∙ ap (λ (x : List ℕ). texts (data_in false o.at (raw_lines x))) e
-    ∙ DataBack ds rest g s o.at
+    ∙ ap (λ (x : List ℕ). texts (data_in false (lines_at o) (raw_lines x))) e
+    ∙ DataBack ds rest g s (lines_at o)
 
 -- ---- an auction, and a play
 
@@ -312,16 +316,16 @@ play_own r x es fs ts f n z h =
     ∙ ap (λ (us : List PlainTrick). some (record { leader = x.seat; end = 0; tricks = us })) h
 
 -- What closing comes to, once its board and its entries are known.
-closed_as : (s : State) (o : Open) (w : Out Walk) (b : Board) (fs : List Entry) → board_closed s.board o s.n w.state ≡ b → closed_entries o w ≡ fs → closed_with s o w ≡ record { state = closed_state s b (length fs); entries = fs }
+closed_as : (s : State) (o : Maybe Open) (w : Out Walk) (b : Board) (fs : List Entry) → board_closed s.board o s.n w.state ≡ b → closed_entries o w ≡ fs → closed_with s o w ≡ record { state = closed_state s b (length fs); entries = fs }
 closed_as s o w b fs e f =
     ap (λ (d : Board). record { state = closed_state s d (length (closed_entries o w)); entries = closed_entries o w }) e
     ∙ ap (λ (gs : List Entry). record { state = closed_state s b (length gs); entries = gs }) f
 
 module _ (r : List ℕ) {a : Option Calls} {p : Option PlainPlay} {trump : ℕ} where
-  auction_settled : (s : State) (o : Open) (w : Out Walk) (es : List Entry) (k : ℕ) (ks : List ℕ) → o.kind ≡ 1 → AuctionRead (k ∷ ks) w → s.n ≡ length es → Seen r s.board es a p trump
-      → SectionSettled r es (closed_with s o w) (some (o.seat, map plain_call (k ∷ ks))) p trump
+  auction_settled : (s : State) (o : Maybe Open) (w : Out Walk) (es : List Entry) (k : ℕ) (ks : List ℕ) → kind_of o ≡ 1 → AuctionRead (k ∷ ks) w → s.n ≡ length es → Seen r s.board es a p trump
+      → SectionSettled r es (closed_with s o w) (some (opener o, map plain_call (k ∷ ks))) p trump
   auction_settled s o w es k ks z h n v =
-      let x : Section = record { first = s.n + 1; count = w.state.bidding.count; seat = o.seat; end = w.state.bidding.end } in
+      let x : Section = record { first = s.n + 1; count = w.state.bidding.count; seat = opener o; end = w.state.bidding.end } in
       let b = with_sections s.board s.board.table x s.board.play s.board.trump in
       let l = calls_length (k ∷ ks) w.entries h.given in
       let m = length-append es w.entries in
@@ -339,10 +343,10 @@ module _ (r : List ℕ) {a : Option Calls} {p : Option PlainPlay} {trump : ℕ} 
             };
       }
 
-  play_settled : (s : State) (o : Open) (w : Out Walk) (es : List Entry) (t : PlainTrick) (ts : List PlainTrick) → o.kind ≡ 2 → PlayRead (t ∷ ts) w → tricks_in (items_of r (map entry_of (t ∷ ts))) ≡ t ∷ ts → s.n ≡ length es
-      → Seen r s.board es a p trump → SectionSettled r es (closed_with s o w) a (some (record { leader = o.seat; end = 0; tricks = t ∷ ts })) trump
+  play_settled : (s : State) (o : Maybe Open) (w : Out Walk) (es : List Entry) (t : PlainTrick) (ts : List PlainTrick) → kind_of o ≡ 2 → PlayRead (t ∷ ts) w → tricks_in (items_of r (map entry_of (t ∷ ts))) ≡ t ∷ ts → s.n ≡ length es
+      → Seen r s.board es a p trump → SectionSettled r es (closed_with s o w) a (some (record { leader = opener o; end = 0; tricks = t ∷ ts })) trump
   play_settled s o w es t ts z h q n v =
-      let x : Section = record { first = s.n + 1; count = (last_trick w.state.tricks).state.count; seat = o.seat; end = w.state.tricks.end } in
+      let x : Section = record { first = s.n + 1; count = (last_trick w.state.tricks).state.count; seat = opener o; end = w.state.tricks.end } in
       let b = with_sections s.board s.board.table s.board.auction x s.board.contract in
       let new = map entry_of (t ∷ ts) in
       let l = length-map (t ∷ ts) entry_of in
@@ -382,7 +386,7 @@ tag_stops n v rest g = tag_stops_by n v rest (raw_lines (line_text (tag_line n v
 abbrev pub is_section : ℕ → Bool
 is_section k = eqb k auction_name || (eqb k play_name || eqb k optimum_result_table_name)
 
-none_opens : (c : Conventions) (k : ℕ) (v : List ℕ) (q : ℕ) → is_section k ≡ false → (open_by c k v q no_span).kind ≡ 0
+none_opens : (c : Conventions) (k : ℕ) (v : List ℕ) (q : ℕ) → is_section k ≡ false → kind_of (open_by c k v q no_span) ≡ 0
 unfolding open_by
 none_opens c k v q e =
     let x = neither (eqb k auction_name) _ e in
@@ -393,11 +397,11 @@ pub seat_read : (c : Conventions) → Accepted c → (d : ℕ) → d < 4 → sea
 unfolding seat_text
 seat_read c ok d h = rw (lt-ltb d 4 h) (seat_back c ok d h)
 
-auction_opens : (c : Conventions) → Accepted c → (d q : ℕ) → d < 4 → open_by c auction_name (seat_text c d) q no_span ≡ record { kind = 1; seat = d; at = q; split = no_span }
+auction_opens : (c : Conventions) → Accepted c → (d q : ℕ) → d < 4 → open_by c auction_name (seat_text c d) q no_span ≡ Some (record { kind = Auction d; at = q; split = no_span })
 unfolding open_by
 auction_opens c ok d q h = rw (seat_read c ok d h, lt-ltb d 4 h)
 
-play_opens : (c : Conventions) → Accepted c → (d q : ℕ) → d < 4 → open_by c play_name (seat_text c d) q no_span ≡ record { kind = 2; seat = d; at = q; split = no_span }
+play_opens : (c : Conventions) → Accepted c → (d q : ℕ) → d < 4 → open_by c play_name (seat_text c d) q no_span ≡ Some (record { kind = Play d; at = q; split = no_span })
 unfolding open_by
 play_opens c ok d q h = rw (seat_read c ok d h, lt-ltb d 4 h)
 
@@ -406,25 +410,25 @@ unfolding line_kind is_blank trimmed is_white
 blank_kind = refl
 
 module _ (c : Conventions) (ok : Accepted c) (r : List ℕ) {a : Option Calls} {p : Option PlainPlay} {trump : ℕ} where
-  auction_closes : (o : Open) (k : ℕ) (ks : List ℕ) (rest : List ℕ) → o.kind ≡ 1 → o.split ≡ no_span → every (λ j. ltb j 47) (k ∷ ks) ≡ true → Stops rest
-      → drop o.at r ≡ lines_text (map data_line (rounds (map (call_token c) (k ∷ ks)))) ++ rest
-      → InSection c r o rest a p trump → At c r rest (some (o.seat, map plain_call (k ∷ ks))) p trump
+  auction_closes : (o : Maybe Open) (k : ℕ) (ks : List ℕ) (rest : List ℕ) → kind_of o ≡ 1 → split_off o ≡ no_span → every (λ j. ltb j 47) (k ∷ ks) ≡ true → Stops rest
+      → drop (lines_at o) r ≡ lines_text (map data_line (rounds (map (call_token c) (k ∷ ks)))) ++ rest
+      → InSection c r o rest a p trump → At c r rest (some (opener o, map plain_call (k ∷ ks))) p trump
   unfolding walked_all
   auction_closes o k ks rest z n e s d h =
       let q = section_texts r o (rounds (map (call_token c) (k ∷ ks))) rest n d (calls_good c ok (k ∷ ks) e) s in
       section_closes c r o rest h (rw z)
       (auction_settled r h.state o (walked_all c r o trump) h.entries k ks z (AuctionBack c ok o trump (section_data r o) (k ∷ ks) z e q) h.counted h.seen)
 
-  play_closes : (o : Open) (ks : List ℕ) (t : PlainTrick) (ts : List PlainTrick) (rest : List ℕ) → o.kind ≡ 2 → o.split ≡ no_span → o.seat < 4 → every (λ j. ltb j 52) ks ≡ true → Stops rest
-      → tricks_from trump o.seat ks ≡ t ∷ ts
-      → drop o.at r ≡ lines_text (map data_line (trick_lines c o.seat (t ∷ ts))) ++ rest
-      → InSection c r o rest a p trump → At c r rest a (some (record { leader = o.seat; end = 0; tricks = t ∷ ts })) trump
+  play_closes : (o : Maybe Open) (ks : List ℕ) (t : PlainTrick) (ts : List PlainTrick) (rest : List ℕ) → kind_of o ≡ 2 → split_off o ≡ no_span → opener o < 4 → every (λ j. ltb j 52) ks ≡ true → Stops rest
+      → tricks_from trump (opener o) ks ≡ t ∷ ts
+      → drop (lines_at o) r ≡ lines_text (map data_line (trick_lines c (opener o) (t ∷ ts))) ++ rest
+      → InSection c r o rest a p trump → At c r rest a (some (record { leader = opener o; end = 0; tricks = t ∷ ts })) trump
   unfolding walked_all
   play_closes o ks t ts rest z n l e s m d h =
-      let q = section_texts r o (trick_lines c o.seat (t ∷ ts)) rest n d (tricks_good c ok o.seat (t ∷ ts)) s in
-      let b = rw m at (PlayBack c ok o trump (section_data r o) ks z l e (q ∙ ap (trick_lines c o.seat) (sym m))) in
+      let q = section_texts r o (trick_lines c (opener o) (t ∷ ts)) rest n d (tricks_good c ok (opener o) (t ∷ ts)) s in
+      let b = rw m at (PlayBack c ok o trump (section_data r o) ks z l e (q ∙ ap (trick_lines c (opener o)) (sym m))) in
       section_closes c r o rest h (rw z)
-      (play_settled r h.state o (walked_all c r o trump) h.entries t ts z b (rw m at (TricksIn r trump o.seat ks e)) h.counted h.seen)
+      (play_settled r h.state o (walked_all c r o trump) h.entries t ts z b (rw m at (TricksIn r trump (opener o) ks e)) h.counted h.seen)
 
   -- A tag that opens no section.
   pub plain_tag : (n v rest : List ℕ) → good_line (tag_line n v) ≡ true → is_section (tag_number n) ≡ false → At c r (line_text (tag_line n v) ++ rest) a p trump → At c r rest a p (contract_by c (tag_number n) v trump)
@@ -438,7 +442,7 @@ module _ (c : Conventions) (ok : Accepted c) (r : List ℕ) {a : Option Calls} {
   auction_tag_lem d k ks rest l e s h =
       let ds = rounds (map (call_token c) (k ∷ ks)) in
       let t = tag_read c r (ascii "Auction") (seat_text c d) (lines_text (map data_line ds) ++ rest) (rw (seat_good c ok d)) h in
-      let o : Open = record { kind = 1; seat = d; at = t.from; split = no_span } in
+      let o : Maybe Open = Some (record { kind = Auction d; at = t.from; split = no_span }) in
       let q : open_by c (tag_number (ascii "Auction")) (seat_text c d) t.from no_span ≡ o = ap (λ (i : ℕ). open_by c i (seat_text c d) t.from no_span) name_auction ∙ auction_opens c ok d t.from l in
       let w : InSection c r o (lines_text (map data_line ds) ++ rest) a p trump = rw (q, name_auction) at t.inside in
       auction_closes o k ks rest refl refl e s t.here (data_read c r o ds rest (calls_good c ok (k ∷ ks) e) w)
@@ -451,7 +455,7 @@ module _ (c : Conventions) (ok : Accepted c) (r : List ℕ) {a : Option Calls} {
   play_tag lead ks t ts rest l e s m h =
       let ds = trick_lines c lead (t ∷ ts) in
       let i = tag_read c r (ascii "Play") (seat_text c lead) (lines_text (map data_line ds) ++ rest) (rw (seat_good c ok lead)) h in
-      let o : Open = record { kind = 2; seat = lead; at = i.from; split = no_span } in
+      let o : Maybe Open = Some (record { kind = Play lead; at = i.from; split = no_span }) in
       let q : open_by c (tag_number (ascii "Play")) (seat_text c lead) i.from no_span ≡ o = ap (λ (j : ℕ). open_by c j (seat_text c lead) i.from no_span) name_play ∙ play_opens c ok lead i.from l in
       let w : InSection c r o (lines_text (map data_line ds) ++ rest) a p trump = rw (q, name_play) at i.inside in
       play_closes o ks t ts rest refl refl l e s m i.here (data_read c r o ds rest (tricks_good c ok lead (t ∷ ts)) w)
@@ -502,7 +506,7 @@ pub header_at : (c : Conventions) (text : List ℕ) → At c (built_in_header ++
 unfolding record_out closed built_in_header line_out line_kind is_blank trimmed is_white trim_span
 header_at c text =
     record {
-      state = record { board = no_board; section = no_open; tags = 0; n = 2; commentary = false; block = 0 };
+      state = record { board = no_board; section = no_open; tags = 0; n = 2; commentary = None };
       entries = entry 3 0 9 0 ∷ entry 3 10 8 0 ∷ [];
       place = 20;
       reached = record { so_far = refl; left = refl };

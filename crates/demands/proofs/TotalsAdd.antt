@@ -37,7 +37,3 @@ sum_is (j ∷ js) = ap suc (sum_is js) ∙ one j.state (count_of 0 js) (count_of
 pub totals_add_up : TotalsAddUp
 unfolding totals_of
 totals_add_up js = record { sum = sum_is js; slips = slips_count js }
-
-pub boards_all : (olds news : List (List ℕ)) → length (board_plans olds news) ≡ length news
-unfolding board_plans
-boards_all olds news = plans_count olds news 1 [] news

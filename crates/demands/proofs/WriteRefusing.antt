@@ -1,16 +1,15 @@
 -- Demand 1 of golavimes_write.
 use Prim.Native.Nat.{ℕ, ◌<◌}
-use mathlib.Core.Path.{◌≡◌, refl, ap, ◌∙◌}
+use mathlib.Core.Path.{◌≡◌, refl, ◌∙◌}
 use mathlib.Core.Bool.{false}
 use mathlib.Core.List.{List, [], ◌∷◌, ◌++◌}
-use lib.ListN.{length, get_or}
+use lib.ListN.{length}
 use borrow.Author.Tests.{ltb-true, ltb-false, lt-leb, le-leb}
-use Rattle.std.specs.Prelude.{Ok, Err, Result, is_ok}
+use Rattle.std.specs.Prelude.{Ok, Err, is_ok}
 use Rattle.tables.specs.declared.letters.Conventions.{Conventions}
 use Rattle.reader.specs.declared.edition.Counts.{Counts}
 use Rattle.reader.specs.declared.edition.ReadRefusal.{ReadRefusal}
 use Rattle.reader.specs.Editions.{read_number, read_carries, reading_of}
-use Rattle.writer.specs.declared.write.WriteRefusal.{WriteRefusal}
 use Rattle.writer.specs.declared.write.WriteRefusal.TheVariants.{Edition, PageFull}
 use Rattle.writer.specs.Pages.{written_text}
 use Rattle.writer.specs.Writings.{writing_of}

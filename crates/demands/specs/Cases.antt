@@ -1,4 +1,5 @@
 -- The cases that document 01 marks with a dot, as one table about the definitions, in its order. proofs/Cases.antt computes them.
+use Rattle.reader.specs.Boards.{in_block}
 use Rattle.std.specs.Prelude.{ℕ, ◌≡◌, false, List, [], ◌∷◌, map, get_or, Some, None, Ok, Err}
 use Rattle.tables.specs.Refusals.{refusal_number, refusal_carries}
 use Rattle.tables.specs.Text.{ascii}
@@ -34,7 +35,7 @@ pub record Cases : Type 0 where
   pub comment_directive : entries_of built_in (ascii "[Event \"x\"] ;c") ≡ (1 ∷ 1 ∷ 5 ∷ 0 ∷ []) ∷ (2 ∷ 8 ∷ 1 ∷ 0 ∷ []) ∷ (3 ∷ 12 ∷ 2 ∷ 1 ∷ []) ∷ []
   -- `[Event "x"] {c` drops `{c`: there is the name and the value, and no commentary is open.
   pub brace_dropped : entries_of built_in (ascii "[Event \"x\"] {c") ≡ (1 ∷ 1 ∷ 5 ∷ 0 ∷ []) ∷ (2 ∷ 8 ∷ 1 ∷ 0 ∷ []) ∷ []
-  pub brace_opens_nothing : (record_out built_in (ascii "[Event \"x\"] {c")).state.commentary ≡ false
+  pub brace_opens_nothing : (in_block (record_out built_in (ascii "[Event \"x\"] {c")).state) ≡ false
   -- In a row: result 13 taken, 14 refused 14, 256 refused 13, +9 taken.
   pub result_13 : row_numbers (row_of built_in 0 (ascii "N NT 13")) ≡ 0 ∷ 0 ∷ 13 ∷ []
   pub result_14 : row_numbers (row_of built_in 0 (ascii "N NT 14")) ≡ 14 ∷ 0 ∷ []

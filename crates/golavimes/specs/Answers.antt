@@ -1,7 +1,7 @@
 -- What the C functions hand back. An answer array is: refusal number (0 none), edition (0 none), carried number, then the values, which
 -- are 0 after a refusal. Each function also returns the refusal number.
 use Rattle.std.specs.Prelude.{ℕ, ◌-◌, ◌≡◌, List, [], ◌∷◌, length, get_or, replicate, Option, Some, None, Result, Ok, Err, is_ok}
-use Rattle.tables.specs.Refusals.{refusal_number, refusal_carries}
+use Rattle.tables.specs.Refusals.{refusal_number, refusal_carries, edition_number}
 use Rattle.tables.specs.Page.{answer_of, page_of}
 use Rattle.tables.specs.Tables.{TableReading}
 use Rattle.tables.specs.declared.letters.Conventions.{Conventions}
@@ -14,7 +14,7 @@ use Rattle.planning.specs.declared.behind.Behind.{Behind}
 use Rattle.planning.specs.declared.plan.PlanRefusal.{PlanRefusal}
 use Rattle.planning.specs.declared.plan.PlanRefusal.TheVariants.{Edition}
 use Rattle.planning.specs.States.{state_number, from_of}
-use Rattle.planning.specs.Slips.{slips_of, edition_number}
+use Rattle.planning.specs.Slips.{slips_of}
 use Rattle.planning.specs.Plans.{plan_number, plan_edition, plan_carries, Boxes, editions_of, planning_of, plans_of, BoxesAfter, state_by, behind_by, boards_after, searches_after, words_by, Editions, Planning}
 use Rattle.writer.specs.declared.write.WriteRefusal.{WriteRefusal}
 use Rattle.writer.specs.Writings.{write_number, write_carries, writing_of, IsWritten}
@@ -23,13 +23,16 @@ use Rattle.writer.specs.Finishings.{finish_number, finish_edition, finish_carrie
 use Rattle.lin.specs.declared.convert.Converted.{Converted}
 use Rattle.lin.specs.declared.convert.LinRefusal.{LinRefusal}
 use Rattle.lin.specs.Conversions.{lin_number, lin_carries, converted_of, IsConverted}
-use Rattle.golavimes.specs.declared.Head.{Head}
 use Rattle.tables.specs.declared.refusal.Refusal.{Refusal}
 
--- A writer's answer: the value is the bytes written.
+-- The answer of what was written: the bytes. What a refusal tells is given.
+abbrev pub bytes_numbers : {E : Type 0} → (E → ℕ) → (E → ℕ) → (E → ℕ) → Result ℕ E → List ℕ
+bytes_numbers number edition carries (Ok n) = 0 ∷ 0 ∷ 0 ∷ n ∷ []
+bytes_numbers number edition carries (Err f) = number f ∷ edition f ∷ carries f ∷ 0 ∷ []
+
+-- A writer's answer.
 abbrev pub written_numbers : Result ℕ Refusal → List ℕ
-written_numbers (Ok n) = 0 ∷ 0 ∷ 0 ∷ n ∷ []
-written_numbers (Err f) = refusal_number f ∷ 0 ∷ refusal_carries f ∷ 0 ∷ []
+written_numbers r = bytes_numbers refusal_number (λ f. 0) refusal_carries r
 
 -- A reader's answer has no values.
 abbrev pub decoded_numbers : TableReading → List ℕ
@@ -46,11 +49,6 @@ abbrev pub reading_numbers : Result Counts ReadRefusal → List ℕ
 reading_numbers (Ok n) = 0 ∷ 0 ∷ 0 ∷ n.boards ∷ n.entries ∷ []
 reading_numbers (Err f) = read_number f ∷ 0 ∷ read_carries f ∷ 0 ∷ 0 ∷ []
 
--- The answer of what was written: the bytes. What a refusal tells is given.
-abbrev pub bytes_numbers : {E : Type 0} → (E → ℕ) → (E → ℕ) → (E → ℕ) → Result ℕ E → List ℕ
-bytes_numbers number edition carries (Ok n) = 0 ∷ 0 ∷ 0 ∷ n ∷ []
-bytes_numbers number edition carries (Err f) = number f ∷ edition f ∷ carries f ∷ 0 ∷ []
-
 -- A written edition's answer, and a finished one's.
 abbrev pub writing_numbers : Result ℕ WriteRefusal → List ℕ
 writing_numbers r = bytes_numbers write_number (λ f. 0) write_carries r
@@ -64,6 +62,11 @@ converted_numbers (Ok k) = 0 ∷ 0 ∷ 0 ∷ k.bytes ∷ k.boards ∷ []
 converted_numbers (Err f) = lin_number f ∷ 0 ∷ lin_carries f ∷ 0 ∷ 0 ∷ []
 
 -- The first three numbers of planning's answers: refusal, edition (0 none, 1 old, 2 new), carried number.
+pub record Head : Type 0 where
+  pub refusal : ℕ
+  pub edition : ℕ
+  pub carried : ℕ
+
 abbrev pub refused_head : PlanRefusal → Head
 refused_head f = record { refusal = plan_number f; edition = plan_edition f; carried = plan_carries f }
 

@@ -1,20 +1,19 @@
 // The boundary: thin functions on byte and number slices over the layers. golavimes_c exports them to C.
+// Each lent box is a parameter of its own, since C lends it as a pointer and a length. Each function stands here and in golavimes_c: a crate is a
+// library or a static library, C needs the second, and demands, which proves its theorems of these functions, can depend on a library alone.
+// LentBoxes is written out in six functions: made by a function of its own (tried), the check does not find what the four boxes hold after the call.
 #![tactic(auto)]
 
 ghost use Rattle.std.specs.Prelude.{◌≡◌, ◌+◌, ◌-◌, ◌≤◌, ◌∷◌, length, get_or, replicate};
-ghost use Rattle.golavimes.specs.Answers.{written_numbers, decoded_numbers, table_left, bytes_numbers, refused_head, plan_numbers, boards_numbers, WroteOut, ReadOut, EditionOut, WritingOut, LinOut, PlanOut, StateOut, BehindOut, BoardsOut, SearchesOut, FinishOut};
-ghost use Rattle.planning.specs.Plans.{words_of, SameLent};
-ghost use Rattle.golavimes.specs.AnswerSteps.{told_state, told_behind, told_searches};
+ghost use Rattle.golavimes.specs.Answers.{decoded_numbers, table_left, bytes_numbers, part_numbers, WroteOut, ReadOut, EditionOut, WritingOut, LinOut, PlanOut, StateOut, BehindOut, BoardsOut, SearchesOut, FinishOut};
+ghost use Rattle.planning.specs.Plans.{four};
 ghost use Rattle.tables.specs.Letters.{built_in};
 ghost use Rattle.tables.specs.Tables.{digits_text, header_text, rows_text, table_of_digits, table_of_rows};
 
 use planning::behind::Behind;
-use planning::editions::{Both, EditionsRefusal, LentBoxes};
-use planning::plan::{PlanRefusal, Totals};
-use planning::searches::Searched;
-use planning::state::BoardState;
+use planning::editions::LentBoxes;
 use tables::refusal::Refusal;
-use tables::refused::Refused;
+use tables::refused::{Edition, Refused};
 
 // Tells the caller values, and that nothing is refused.
 fn tell(values: &[u64], answer: &mut [u64]) -> u64
@@ -33,7 +32,7 @@ fn refuse<R: Refused>(refusal: R, answer: &mut [u64]) -> u64
 {
     answer.fill(0);
     answer[0] = refusal.number();
-    answer[1] = refusal.edition();
+    answer[1] = refusal.edition().map_or(0, Edition::number);
     answer[2] = refusal.carried();
     answer[0]
 }
@@ -48,31 +47,11 @@ fn tell_bytes<R: Refused>(written: Result<u64, R>, answer: &mut [u64; 4]) -> u64
     }
 }
 
-fn written_numbers(written: Result<u64, Refusal>) -> [u64; 4]
-    ensures { result ≡ written_numbers written }
-{
-    match written {
-        Ok(length) => [0, 0, 0, length],
-        Err(f) => [f.number(), 0, f.carried(), 0],
-    }
-}
-
-fn decoded_numbers(read: Result<[u8; 20], Refusal>) -> [u64; 3]
-    ensures { result ≡ decoded_numbers read }
-{
-    match read {
-        Ok(_) => [0, 0, 0],
-        Err(f) => [f.number(), 0, f.carried()],
-    }
-}
-
 // The digits of a table, the value of a DoubleDummyTricks tag.
 pub fn golavimes_dd_table_to_pbn(table: &[u8; 20], page: &mut [u8], answer: &mut [u64; 4]) -> u64
     ensures { WroteOut (digits_text table.now) page.old page.new answer.new result }
 {
-    let numbers = written_numbers(tables::dd::dd_table_to_pbn(table, page));
-    *answer = numbers;
-    numbers[0]
+    tell_bytes(tables::dd::dd_table_to_pbn(table, page), answer)
 }
 
 // The value of an OptimumResultTable tag.
@@ -83,9 +62,7 @@ pub fn golavimes_optimum_result_table_header(
 ) -> u64
     ensures { WroteOut (header_text table.now) page.old page.new answer.new result }
 {
-    let numbers = written_numbers(tables::dd::optimum_result_table_header(table, page));
-    *answer = numbers;
-    numbers[0]
+    tell_bytes(tables::dd::optimum_result_table_header(table, page), answer)
 }
 
 // The twenty rows of an OptimumResultTable section, an LF after each.
@@ -96,22 +73,18 @@ pub fn golavimes_optimum_result_table_rows(
 ) -> u64
     ensures { WroteOut (rows_text built_in table.now) page.old page.new answer.new result }
 {
-    let numbers = written_numbers(tables::dd::optimum_result_table_rows(table, page));
-    *answer = numbers;
-    numbers[0]
+    tell_bytes(tables::dd::optimum_result_table_rows(table, page), answer)
 }
 
 // Hands a table that was read to the caller's: zeros after a refusal.
 fn hand_out(read: Result<[u8; 20], Refusal>, table: &mut [u8; 20], answer: &mut [u64; 3]) -> u64
     ensures { (table.new ≡ table_left read) × (answer.new ≡ decoded_numbers read) × (result ≡ get_or (decoded_numbers read) 0 0) }
 {
-    let numbers = decoded_numbers(read);
-    *table = match read {
-        Ok(cells) => cells,
-        Err(_) => [0; 20],
-    };
-    *answer = numbers;
-    numbers[0]
+    *table = read.unwrap_or([0; 20]);
+    match read {
+        Ok(_) => tell(&[], answer),
+        Err(f) => refuse(f, answer),
+    }
 }
 
 // Reads the value of a DoubleDummyTricks tag.
@@ -174,38 +147,6 @@ pub fn golavimes_lin_to_pbn(text: &[u8], page: &mut [u8], answer: &mut [u64; 5])
     }
 }
 
-// The first three numbers of planning's answers.
-#[derive(Clone, Copy)]
-pub struct Head {
-    pub refusal: u64,
-    pub edition: u64,
-    pub carried: u64,
-}
-
-fn refused_head(f: PlanRefusal) -> Head
-    ensures { result ≡ refused_head f }
-{
-    Head {
-        refusal: planning::plan::plan_number(f),
-        edition: planning::plan::plan_edition(f),
-        carried: planning::plan::plan_carried(f),
-    }
-}
-
-fn plan_numbers(p: Result<Totals, PlanRefusal>) -> [u64; 10]
-    ensures { result ≡ plan_numbers p }
-{
-    match p {
-        Ok(t) => [
-            0, 0, 0, t.boards, t.blank, t.own, t.old, t.near, t.twin, t.solve,
-        ],
-        Err(f) => {
-            let h = refused_head(f);
-            [h.refusal, h.edition, h.carried, 0, 0, 0, 0, 0, 0, 0]
-        }
-    }
-}
-
 // Plans two editions: totals, and a slip for each board to solve.
 pub fn golavimes_plan(
     old: &[u8],
@@ -218,9 +159,9 @@ pub fn golavimes_plan(
     answer: &mut [u64; 10],
 ) -> u64
     ensures { PlanOut built_in old.now new.now
-        (record { old_cards = old_cards.old; old_entries = old_entries.old; new_cards = new_cards.old; new_entries = new_entries.old })
+        (four old_cards.old old_entries.old new_cards.old new_entries.old)
         slips.old
-        (record { old_cards = old_cards.new; old_entries = old_entries.new; new_cards = new_cards.new; new_entries = new_entries.new })
+        (four old_cards.new old_entries.new new_cards.new new_entries.new)
         slips.new answer.new result }
 {
     let mut boxes = LentBoxes {
@@ -229,29 +170,13 @@ pub fn golavimes_plan(
         new_cards,
         new_entries,
     };
-    let numbers = plan_numbers(planning::plan::plan(old, new, &mut boxes, slips));
-    *answer = numbers;
-    numbers[0]
-}
-
-fn state_numbers(r: Result<(Both, BoardState), EditionsRefusal>) -> [u64; 5]
-    ensures { result ≡ told_state r }
-{
-    match r {
-        Ok((_, s)) => [0, 0, 0, s.number(), s.source()],
-        Err(f) => {
-            let h = refused_head(PlanRefusal::Edition(f));
-            [h.refusal, h.edition, h.carried, 0, 0]
-        }
+    match planning::plan::plan(old, new, &mut boxes, slips) {
+        Ok(t) => tell(
+            &[t.boards, t.blank, t.own, t.old, t.near, t.twin, t.solve],
+            answer,
+        ),
+        Err(f) => refuse(f, answer),
     }
-}
-
-// The numbers of the state at a position.
-fn tell_state(old: &[u8], new: &[u8], boxes: &mut LentBoxes, position: u64) -> [u64; 5]
-    ensures told { StateOut built_in old.now new.now (words_of boxes.old) (words_of boxes.new) position result (get_or result 0 0) }
-    ensures same { SameLent boxes.old boxes.new }
-{
-    state_numbers(planning::state_at::state_at(old, new, boxes, position))
 }
 
 // The state of the new edition's board at a position from 1.
@@ -266,8 +191,8 @@ pub fn golavimes_state(
     answer: &mut [u64; 5],
 ) -> u64
     ensures { StateOut built_in old.now new.now
-        (record { old_cards = old_cards.old; old_entries = old_entries.old; new_cards = new_cards.old; new_entries = new_entries.old })
-        (record { old_cards = old_cards.new; old_entries = old_entries.new; new_cards = new_cards.new; new_entries = new_entries.new })
+        (four old_cards.old old_entries.old new_cards.old new_entries.old)
+        (four old_cards.new old_entries.new new_cards.new new_entries.new)
         position answer.new result }
 {
     let mut boxes = LentBoxes {
@@ -276,37 +201,20 @@ pub fn golavimes_state(
         new_cards,
         new_entries,
     };
-    let numbers = tell_state(old, new, &mut boxes, position);
-    *answer = numbers;
-    numbers[0]
-}
-
-fn behind_numbers(r: Result<(Both, Option<Behind>), EditionsRefusal>) -> [u64; 6]
-    ensures { result ≡ told_behind r }
-{
-    match r {
-        Ok((_, Some(p))) => [
-            0,
-            0,
-            0,
-            p.edition.number(),
-            p.start,
-            p.end.saturating_sub(p.start),
-        ],
-        Ok((_, None)) => [0, 0, 0, 0, 0, 0],
-        Err(f) => {
-            let h = refused_head(PlanRefusal::Edition(f));
-            [h.refusal, h.edition, h.carried, 0, 0, 0]
-        }
+    match planning::state_at::state_at(old, new, &mut boxes, position) {
+        Ok((_, s)) => tell(&[s.number(), s.source()], answer),
+        Err(f) => refuse(f, answer),
     }
 }
 
-// The numbers of the record behind the board at a position.
-fn tell_behind(old: &[u8], new: &[u8], boxes: &mut LentBoxes, position: u64) -> [u64; 6]
-    ensures told { BehindOut built_in old.now new.now (words_of boxes.old) (words_of boxes.new) position result (get_or result 0 0) }
-    ensures same { SameLent boxes.old boxes.new }
+// The part of an edition that is behind a board: its edition, its start and its length.
+fn part_numbers(b: Option<Behind>) -> [u64; 3]
+    ensures { result ≡ part_numbers b }
 {
-    behind_numbers(planning::behind::place_behind(old, new, boxes, position))
+    match b {
+        Some(b) => [b.edition.number(), b.start, b.end.saturating_sub(b.start)],
+        None => [0; 3],
+    }
 }
 
 // The record behind the new edition's board at a position from 1: which edition's, its start and its length.
@@ -321,8 +229,8 @@ pub fn golavimes_record_behind(
     answer: &mut [u64; 6],
 ) -> u64
     ensures { BehindOut built_in old.now new.now
-        (record { old_cards = old_cards.old; old_entries = old_entries.old; new_cards = new_cards.old; new_entries = new_entries.old })
-        (record { old_cards = old_cards.new; old_entries = old_entries.new; new_cards = new_cards.new; new_entries = new_entries.new })
+        (four old_cards.old old_entries.old new_cards.old new_entries.old)
+        (four old_cards.new old_entries.new new_cards.new new_entries.new)
         position answer.new result }
 {
     let mut boxes = LentBoxes {
@@ -331,20 +239,9 @@ pub fn golavimes_record_behind(
         new_cards,
         new_entries,
     };
-    let numbers = tell_behind(old, new, &mut boxes, position);
-    *answer = numbers;
-    numbers[0]
-}
-
-fn boards_numbers(r: Result<Both, EditionsRefusal>) -> [u64; 4]
-    ensures { result ≡ boards_numbers r }
-{
-    match r {
-        Ok(both) => [0, 0, 0, both.new.boards as u64],
-        Err(f) => {
-            let h = refused_head(PlanRefusal::Edition(f));
-            [h.refusal, h.edition, h.carried, 0]
-        }
+    match planning::behind::place_behind(old, new, &mut boxes, position) {
+        Ok((_, b)) => tell(&part_numbers(b), answer),
+        Err(f) => refuse(f, answer),
     }
 }
 
@@ -360,40 +257,21 @@ pub fn golavimes_boards(
     answer: &mut [u64; 4],
 ) -> u64
     ensures { BoardsOut built_in old.now new.now
-        (record { old_cards = old_cards.old; old_entries = old_entries.old; new_cards = new_cards.old; new_entries = new_entries.old })
+        (four old_cards.old old_entries.old new_cards.old new_entries.old)
         boards.old
-        (record { old_cards = old_cards.new; old_entries = old_entries.new; new_cards = new_cards.new; new_entries = new_entries.new })
+        (four old_cards.new old_entries.new new_cards.new new_entries.new)
         boards.new answer.new result }
 {
-    let mut lent = LentBoxes {
+    let mut boxes = LentBoxes {
         old_cards,
         old_entries,
         new_cards,
         new_entries,
     };
-    let numbers = boards_numbers(planning::boards::plan_boards(old, new, &mut lent, boards));
-    *answer = numbers;
-    numbers[0]
-}
-
-fn searches_numbers(r: Result<Searched, EditionsRefusal>) -> [u64; 5]
-    ensures { result ≡ told_searches r }
-{
-    match r {
-        Ok(s) => [0, 0, 0, s.both.new.boards as u64, s.words],
-        Err(f) => {
-            let h = refused_head(PlanRefusal::Edition(f));
-            [h.refusal, h.edition, h.carried, 0, 0]
-        }
+    match planning::boards::plan_boards(old, new, &mut boxes, boards) {
+        Ok(both) => tell(&[both.new.boards as u64], answer),
+        Err(f) => refuse(f, answer),
     }
-}
-
-// The numbers of all searches.
-fn tell_searches(old: &[u8], new: &[u8], boxes: &mut LentBoxes, searches: &mut [u64]) -> [u64; 5]
-    ensures told { SearchesOut built_in old.now new.now (words_of boxes.old) searches.old (words_of boxes.new) searches.new result (get_or result 0 0) }
-    ensures same { SameLent boxes.old boxes.new }
-{
-    searches_numbers(planning::searches::plan_searches(old, new, boxes, searches))
 }
 
 // Five numbers for each board of the new edition: state, source board, and the hand words compared in the searches for old, near and twin.
@@ -408,9 +286,9 @@ pub fn golavimes_searches(
     answer: &mut [u64; 5],
 ) -> u64
     ensures { SearchesOut built_in old.now new.now
-        (record { old_cards = old_cards.old; old_entries = old_entries.old; new_cards = new_cards.old; new_entries = new_entries.old })
+        (four old_cards.old old_entries.old new_cards.old new_entries.old)
         searches.old
-        (record { old_cards = old_cards.new; old_entries = old_entries.new; new_cards = new_cards.new; new_entries = new_entries.new })
+        (four old_cards.new old_entries.new new_cards.new new_entries.new)
         searches.new answer.new result }
 {
     let mut boxes = LentBoxes {
@@ -419,9 +297,10 @@ pub fn golavimes_searches(
         new_cards,
         new_entries,
     };
-    let numbers = tell_searches(old, new, &mut boxes, searches);
-    *answer = numbers;
-    numbers[0]
+    match planning::searches::plan_searches(old, new, &mut boxes, searches) {
+        Ok(s) => tell(&[s.both.new.boards as u64, s.words], answer),
+        Err(f) => refuse(f, answer),
+    }
 }
 
 // Finishes the new edition on a page, given an old one and 20 answers for each board to solve.
@@ -437,9 +316,9 @@ pub fn golavimes_finish(
     answer: &mut [u64; 4],
 ) -> u64
     ensures { FinishOut built_in old.now new.now
-        (record { old_cards = old_cards.old; old_entries = old_entries.old; new_cards = new_cards.old; new_entries = new_entries.old })
+        (four old_cards.old old_entries.old new_cards.old new_entries.old)
         answers.now page.old
-        (record { old_cards = old_cards.new; old_entries = old_entries.new; new_cards = new_cards.new; new_entries = new_entries.new })
+        (four old_cards.new old_entries.new new_cards.new new_entries.new)
         page.new answer.new result }
 {
     let mut boxes = LentBoxes {

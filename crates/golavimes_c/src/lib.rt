@@ -1,7 +1,10 @@
 // The exports of libgolavimes.a: the functions of golavimes under the same names, for C. include/golavimes.h is kept by hand beside this file.
+// Each lent box is a parameter of its own, since C lends it as a pointer and a length. Each function of golavimes stands here once more, with its
+// contract: a crate is a library or a static library, no other crate can depend on this one, and a C symbol's contract stands at the symbol.
 #![tactic(auto)]
 
 ghost use Rattle.golavimes.specs.Answers.{WroteOut, ReadOut, EditionOut, WritingOut, LinOut, PlanOut, StateOut, BehindOut, BoardsOut, SearchesOut, FinishOut};
+ghost use Rattle.planning.specs.Plans.{four};
 ghost use Rattle.tables.specs.Letters.{built_in};
 ghost use Rattle.tables.specs.Tables.{digits_text, header_text, rows_text, table_of_digits, table_of_rows};
 
@@ -113,9 +116,9 @@ pub extern "C" fn golavimes_plan(
     answer: &mut [u64; 10],
 ) -> u64
     ensures { PlanOut built_in old.now new.now
-        (record { old_cards = old_cards.old; old_entries = old_entries.old; new_cards = new_cards.old; new_entries = new_entries.old })
+        (four old_cards.old old_entries.old new_cards.old new_entries.old)
         slips.old
-        (record { old_cards = old_cards.new; old_entries = old_entries.new; new_cards = new_cards.new; new_entries = new_entries.new })
+        (four old_cards.new old_entries.new new_cards.new new_entries.new)
         slips.new answer.new result }
 {
     golavimes::golavimes_plan(
@@ -143,8 +146,8 @@ pub extern "C" fn golavimes_state(
     answer: &mut [u64; 5],
 ) -> u64
     ensures { StateOut built_in old.now new.now
-        (record { old_cards = old_cards.old; old_entries = old_entries.old; new_cards = new_cards.old; new_entries = new_entries.old })
-        (record { old_cards = old_cards.new; old_entries = old_entries.new; new_cards = new_cards.new; new_entries = new_entries.new })
+        (four old_cards.old old_entries.old new_cards.old new_entries.old)
+        (four old_cards.new old_entries.new new_cards.new new_entries.new)
         position answer.new result }
 {
     golavimes::golavimes_state(
@@ -172,8 +175,8 @@ pub extern "C" fn golavimes_record_behind(
     answer: &mut [u64; 6],
 ) -> u64
     ensures { BehindOut built_in old.now new.now
-        (record { old_cards = old_cards.old; old_entries = old_entries.old; new_cards = new_cards.old; new_entries = new_entries.old })
-        (record { old_cards = old_cards.new; old_entries = old_entries.new; new_cards = new_cards.new; new_entries = new_entries.new })
+        (four old_cards.old old_entries.old new_cards.old new_entries.old)
+        (four old_cards.new old_entries.new new_cards.new new_entries.new)
         position answer.new result }
 {
     golavimes::golavimes_record_behind(
@@ -201,9 +204,9 @@ pub extern "C" fn golavimes_boards(
     answer: &mut [u64; 4],
 ) -> u64
     ensures { BoardsOut built_in old.now new.now
-        (record { old_cards = old_cards.old; old_entries = old_entries.old; new_cards = new_cards.old; new_entries = new_entries.old })
+        (four old_cards.old old_entries.old new_cards.old new_entries.old)
         boards.old
-        (record { old_cards = old_cards.new; old_entries = old_entries.new; new_cards = new_cards.new; new_entries = new_entries.new })
+        (four old_cards.new old_entries.new new_cards.new new_entries.new)
         boards.new answer.new result }
 {
     golavimes::golavimes_boards(
@@ -231,9 +234,9 @@ pub extern "C" fn golavimes_searches(
     answer: &mut [u64; 5],
 ) -> u64
     ensures { SearchesOut built_in old.now new.now
-        (record { old_cards = old_cards.old; old_entries = old_entries.old; new_cards = new_cards.old; new_entries = new_entries.old })
+        (four old_cards.old old_entries.old new_cards.old new_entries.old)
         searches.old
-        (record { old_cards = old_cards.new; old_entries = old_entries.new; new_cards = new_cards.new; new_entries = new_entries.new })
+        (four old_cards.new old_entries.new new_cards.new new_entries.new)
         searches.new answer.new result }
 {
     golavimes::golavimes_searches(
@@ -262,9 +265,9 @@ pub extern "C" fn golavimes_finish(
     answer: &mut [u64; 4],
 ) -> u64
     ensures { FinishOut built_in old.now new.now
-        (record { old_cards = old_cards.old; old_entries = old_entries.old; new_cards = new_cards.old; new_entries = new_entries.old })
+        (four old_cards.old old_entries.old new_cards.old new_entries.old)
         answers.now page.old
-        (record { old_cards = old_cards.new; old_entries = old_entries.new; new_cards = new_cards.new; new_entries = new_entries.new })
+        (four old_cards.new old_entries.new new_cards.new new_entries.new)
         page.new answer.new result }
 {
     golavimes::golavimes_finish(

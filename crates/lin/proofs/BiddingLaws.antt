@@ -1,18 +1,17 @@
 -- Laws of alerts and calls.
 use Prim.Native.Nat.{ℕ}
-use mathlib.Core.Path.{◌≡◌, refl}
-use mathlib.Core.Bool.{Bool, true, false, cond, ◌&&◌}
+use mathlib.Core.Path.{◌≡◌}
+use mathlib.Core.Bool.{true, false, ◌&&◌}
 use mathlib.Core.List.{List, [], ◌∷◌, ◌++◌}
 use lib.Dec.{eqb, ltb}
 use Rattle.tables.specs.declared.letters.Conventions.{Conventions}
-use Rattle.std.proofs.Common.{Some, None}
 use Rattle.lin.specs.declared.pairs.Command.TheVariants.{Mb}
-use Rattle.lin.specs.declared.pairs.PairAt.{PairAt}
-use Rattle.lin.specs.declared.pairs.Pairs.{Pairs}
-use Rattle.lin.specs.Pairs.{Pair, is_pair}
-use Rattle.lin.specs.PairSteps.{pair_of, pairs_left, IsNext}
-use Rattle.lin.specs.Bidding.{unalerted, call_in, calls_from}
+use Rattle.lin.specs.declared.bidding.Contract.{Contract}
+use Rattle.lin.specs.Pairs.{is_pair}
+use Rattle.lin.specs.Bidding.{unalerted, call_in, calls_from, next_seat, with_call, contract_from}
 use Rattle.lin.specs.BiddingSteps.{call_at}
+use Rattle.tables.proofs.Laws.{by_cases}
+use Rattle.lin.proofs.PairLaws.{Gives}
 
 -- ---- alerts
 
@@ -25,28 +24,14 @@ alert_last [] b e = rw e
 alert_last (x ∷ []) b e = rw e
 alert_last (x ∷ y ∷ ys) b e = rw (alert_last (y ∷ ys) b e)
 
--- ---- the calls, where the next pair is p
+-- ---- the calls
 
-module _ (c : Conventions) (p : Pair) (ps : List Pair) where
-  call_met : (code : ℕ) → call_at c p ≡ Some code → calls_from c (p ∷ ps) ≡ code ∷ calls_from c ps
-  unfolding call_at
-  call_met code e = met (is_pair Mb p && ltb (call_in c p.value) 47) e
-    where
-      met : (b : Bool) → cond b (Some (call_in c p.value)) None ≡ Some code → cond b (call_in c p.value ∷ calls_from c ps) (calls_from c ps) ≡ code ∷ calls_from c ps
-      met true h = cc
-      met false h = cc
+pub calls_given : (c : Conventions) → Gives (call_at c) (calls_from c)
+unfolding call_at
+calls_given c = record { first = λ p ps. by_cases (is_pair Mb p && ltb (call_in c p.value) 47) (λ t. rw t) (λ t. rw t) }
 
-  call_none : call_at c p ≡ None → calls_from c (p ∷ ps) ≡ calls_from c ps
-  unfolding call_at
-  call_none e = none (is_pair Mb p && ltb (call_in c p.value) 47) e
-    where
-      none : (b : Bool) → cond b (Some (call_in c p.value)) None ≡ None → cond b (call_in c p.value ∷ calls_from c ps) (calls_from c ps) ≡ calls_from c ps
-      none true h = cc
-      none false h = refl
-
-module _ (c : Conventions) (s : Pairs) (p : PairAt) (r : Pairs) (n : IsNext s p r) where
-  pub calls_met : (code : ℕ) → call_at c (pair_of p) ≡ Some code → calls_from c (pairs_left s) ≡ code ∷ calls_from c (pairs_left r)
-  calls_met code e = rw n.pairs_are (call_met c (pair_of p) (pairs_left r) code e)
-
-  pub calls_none : call_at c (pair_of p) ≡ None → calls_from c (pairs_left s) ≡ calls_from c (pairs_left r)
-  calls_none e = rw n.pairs_are (call_none c (pair_of p) (pairs_left r) e)
+-- What each call keeps of a contract holds of the last.
+pub contract_keeps : (P : Contract → Type 0) → ((seat : ℕ) (k : Contract) (code : ℕ) → P k → P (with_call seat k code)) → (seat : ℕ) (k : Contract) (codes : List ℕ) → P k
+    → P (contract_from seat k codes)
+contract_keeps P f seat k [] h = h
+contract_keeps P f seat k (code ∷ codes) h = contract_keeps P f (next_seat seat) (with_call seat k code) codes (f seat k code h)

@@ -33,6 +33,7 @@ use Rattle.lin.specs.Bidding.{vulnerability_from, calls_from, no_contract, contr
 use Rattle.lin.specs.BiddingSteps.{last_text}
 use Rattle.lin.specs.Playing.{cards_played, slots, full_trick, part_trick, tricks_from, trick_line, trick_lines}
 use Rattle.lin.specs.PlayingSteps.{trick_text, empty_trick, last_line, trick_texts}
+use Rattle.lin.specs.PieceSteps.{is_any}
 use Rattle.lin.specs.LinBoards.{LinBoard, board_of, contract_of, declarer_in, opening_leader, trump_of, lin_tricks, plain_call, auction_of, play_with, play_of, lin_plain, lin_play, lin_lines}
 use Rattle.lin.specs.BoardSteps.{lin_head_text, lin_result_text, call_tokens, lin_auction_text, played_text, lin_play_text, survey_text}
 
@@ -107,11 +108,6 @@ rounds_text : (c : Conventions) (dealer : ℕ) (ks : List ℕ)
 unfolding auction_lines end_lines
 rounds_text c dealer ks =
     rw (either_none (ends_continued (map plain_call ks)), append-nil, calls_plain c ks) (sym (tokens_rounds 0 (call_tokens c ks)))
-
--- There is one.
-abbrev pub is_any : List ℕ → Bool
-is_any [] = false
-is_any (k ∷ ks) = true
 
 auction_text_lem : (c : Conventions) (dealer : ℕ) (ks : List ℕ) (ws : List WrittenTag)
     → tags_text (auction_tags c [] (auction_of dealer ks) ++ ws) ≡ cond (is_any ks) (lin_auction_text c dealer ks) [] ++ tags_text ws

@@ -7,63 +7,46 @@ use mathlib.Core.List.{List, [], ◌∷◌, ◌++◌}
 use native.Mathlib.Omega.{arith}
 use native.Mathlib.Nat.{pow-succ', one-le-pow}
 use lib.Dec.{eqb, ltb}
-use lib.ListN.{length, drop, get_or, length-append}
-use borrow.Author.Tests.{lt-ltb, ltb-true, ltb-false, eqb-true, ne_eqb, leb-true, le-leb, lt-leb}
+use lib.ListN.{length, drop, get_or}
+use borrow.Author.Tests.{lt-ltb, ltb-true, ltb-false, ne_eqb, leb-true}
 use Rattle.tables.specs.declared.letters.Conventions.{Conventions}
-use Rattle.tables.specs.Text.{before, prepend, single, is_inside, starts, characters, first_character, trimmed}
+use Rattle.tables.specs.Text.{before, prepend, single, starts, characters, first_character, trimmed}
 use Rattle.tables.specs.Letters.{suit_of, rank_of, among, distinct, every}
-use Rattle.tables.proofs.Laws.{by_cases, both, either, neither, clash, step, stop}
+use Rattle.tables.proofs.Laws.{by_cases, both, clash}
 use Rattle.tables.proofs.RowLaws.{every_append}
-use Rattle.std.specs.Prelude.{Option, Some, None, option_and_then}
+use Rattle.std.specs.Prelude.{Option, Some, None, option_and_then, unwrap_or}
 use Rattle.reader.specs.declared.deal.Hands.{Hands}
 use Rattle.reader.specs.Words.{card_number}
 use Rattle.reader.specs.Deals.{bit, has, hand_bits, ones, card_count, Proper}
-use Rattle.reader.specs.DealSteps.{HandRead, place}
+use Rattle.reader.specs.DealSteps.{HandRead, place, IsGrown}
 use Rattle.reader.proofs.DealLaws.{never_held, all_dealt}
 use Rattle.reader.proofs.CardSets.{bit_small, bit_high, times, times_append, distinct_times, times_distinct, distinct_front, distinct_back, bit_total, in_pack, total_below, count_total, count_deck, place_all, place_sum, place_append, down, down_none, down_more, total_deck, times_deck, count_down, among_times}
-use Rattle.lin.specs.declared.dealing.LinHand.{LinHand}
 use Rattle.lin.specs.declared.dealing.LinDealing.{LinDealing}
 use Rattle.lin.specs.declared.pairs.Command.TheVariants.{Md}
 use Rattle.lin.specs.Pairs.{parts, Pair, is_pair}
 use Rattle.lin.specs.Dealing.{Dealing, no_dealing, dealer_of, hand_cards, hand_of, unheld, is_thirteen, east_of, dealt_by, dealing_in, dealing_from, all_cards, has_card, is_hand, is_deal, dealt_hands}
-use Rattle.lin.specs.DealingSteps.{letter_step, hand_run, start_part, held_count, hand_read, IsSoundHand, field_first, fields_behind, dealt_as, hands_dealt, fields_dealt, told, told_in}
+use Rattle.lin.specs.DealingSteps.{letter_step, hand_run, start_part, are_few, field_first, fields_behind, dealt_as, hands_dealt, fields_dealt, told, told_in}
 use Rattle.lin.specs.PieceSteps.{any_bits}
 
 -- ---- a hand
 
-abbrev held : ℕ → ℕ → Option LinHand
-held x n = Some (record { cards = x; count = n })
-
-hand_run_lem : (c : Conventions) (x n s : ℕ) (bs : List ℕ)
-    → hand_run c (record { cards = x; count = n; suit = s }) bs ≡ held_count (n + length (hand_cards c s bs)) (place x (hand_cards c s bs))
+hand_run_lem : (c : Conventions) (x : ℕ) (s : Option ℕ) (bs : List ℕ) → hand_run c (record { cards = x; suit = s }) bs ≡ place x (hand_cards c (unwrap_or s 4) bs)
 unfolding letter_step
-hand_run_lem c x n s [] = ap (λ (m : ℕ). held x m) (omega arith)
-hand_run_lem c x n s (b ∷ bs) =
+hand_run_lem c x s [] = refl
+hand_run_lem c x s (b ∷ bs) =
     by_cases (ltb (suit_of c b) 4)
-    (λ t. rw t (hand_run_lem c x n (suit_of c b) bs))
+    (λ t. rw t (hand_run_lem c x (Some (suit_of c b)) bs))
     (λ t.
-    let k = card_number s (rank_of c b) in
+    let k = card_number (unwrap_or s 4) (rank_of c b) in
     by_cases (ltb k 52)
-    (λ u.
-    by_cases (has k x)
-    (λ h. rw (t, u, h))
-    (λ h.
-    let m : n + 1 + length (hand_cards c s bs) ≡ n + suc (length (hand_cards c s bs)) = omega arith in
-    rw (t, u, h, hand_run_lem c (x + 2 ^ k) (n + 1) s bs, m)))
-    (λ u. rw (t, u) (hand_run_lem c x n s bs)))
+    (λ u. by_cases (has k x) (λ h. rw (t, u, h)) (λ h. rw (t, u, h) (hand_run_lem c (x + 2 ^ k) s bs)))
+    (λ u. rw (t, u) (hand_run_lem c x s bs)))
 
 -- A field without a byte.
-pub hand_none : (c : Conventions) (x : ℕ) (s : List ℕ) → length s ≡ 0 → held x 0 ≡ hand_read x (hand_of c s)
-unfolding hand_read hand_of
+pub hand_none : (c : Conventions) (x : ℕ) (s : List ℕ) → length s ≡ 0 → Some x ≡ place x (hand_of c s)
+unfolding hand_of
 hand_none c x [] h = refl
 hand_none c x (b ∷ bs) h = absurd (omega arith)
-
-hand_read_lem : (c : Conventions) (x : ℕ) (s : List ℕ) → hand_run c (start_part x) (characters s) ≡ hand_read x (hand_of c s)
-unfolding hand_read hand_of
-hand_read_lem c x s =
-    let ks = hand_cards c 4 (characters s) in
-    let m : 0 + length ks ≡ length ks = omega arith in
-    hand_run_lem c x 0 4 (characters s) ∙ ap (λ (n : ℕ). held_count n (place x ks)) m
 
 -- Its first character, and the others.
 characters_some : (s : List ℕ) → (length s ≡ 0 → ⊥) → characters s ≡ first_character s ∷ starts (drop 1 s)
@@ -71,18 +54,9 @@ characters_some [] h = absurd (h refl)
 characters_some (b ∷ bs) h = refl
 
 pub hand_some : (c : Conventions) (x : ℕ) (s : List ℕ) → (length s ≡ 0 → ⊥)
-    → option_and_then (λ g. hand_run c g (starts (drop 1 s))) (letter_step c (start_part x) (first_character s)) ≡ hand_read x (hand_of c s)
-hand_some c x s h = ap (λ (l : List ℕ). hand_run c (start_part x) l) (sym (characters_some s h)) ∙ hand_read_lem c x s
-
--- The characters from the place i on.
-pub starts_inside : (s : List ℕ) (i : ℕ) → i < length s → is_inside (get_or s i 0) ≡ true → starts (drop i s) ≡ starts (drop (i + 1) s)
-starts_inside s i h e = rw (step s i h, e)
-
-pub starts_first : (s : List ℕ) (i : ℕ) → i < length s → is_inside (get_or s i 0) ≡ false → starts (drop i s) ≡ first_character (drop i s) ∷ starts (drop (i + 1) s)
-starts_first s i h e = rw (step s i h, e)
-
-pub starts_end : (s : List ℕ) (i : ℕ) → length s ≤ i → starts (drop i s) ≡ []
-starts_end s i h = rw (stop s i h)
+    → option_and_then (λ g. hand_run c g (starts (drop 1 s))) (letter_step c (start_part x) (first_character s)) ≡ place x (hand_of c s)
+unfolding hand_of
+hand_some c x s h = ap (λ (l : List ℕ). hand_run c (start_part x) l) (sym (characters_some s h)) ∙ hand_run_lem c x None (characters s)
 
 -- ---- fields
 
@@ -209,28 +183,6 @@ pack_hand : (c : Conventions) (field : List ℕ) → every in_pack (hand_of c fi
 unfolding hand_of
 pack_hand c field = pack_cards c 4 (characters field)
 
-counted_held : (r : HandRead) (m : ℕ) {h : LinHand} → held_count m r ≡ Some h → (r ≡ Some h.cards) × (m ≡ h.count)
-counted_held (Some z) m {h} e =
-    let k : ◌≡◌ {A = LinHand} (record { cards = z; count = m }) h = cc in
-    (ap (λ (x : LinHand). Some x.cards) k, ap (λ (x : LinHand). x.count) k)
-counted_held None m e = let z : ◌≡◌ {A = ℕ} 0 1 = cc in absurd (omega arith)
-
-counted_none : (r : HandRead) (m : ℕ) → held_count m r ≡ None → r ≡ None
-counted_none (Some z) m e = let z : ◌≡◌ {A = ℕ} 0 1 = cc in absurd (omega arith)
-counted_none None m e = refl
-
-read_held : (x : ℕ) (ks : List ℕ) {h : LinHand} → hand_read x ks ≡ Some h → (place x ks ≡ Some h.cards) × (length ks ≡ h.count)
-unfolding hand_read
-read_held x ks e = counted_held (place x ks) (length ks) e
-
-read_none : (x : ℕ) (ks : List ℕ) → hand_read x ks ≡ None → place x ks ≡ None
-unfolding hand_read
-read_none x ks e = counted_none (place x ks) (length ks) e
-
-and_off : (a b : Bool) → b ≡ false → (a && b) ≡ false
-and_off true b e = e
-and_off false b e = refl
-
 abbrev of_hands : List ℕ → List ℕ → List ℕ → List ℕ → Dealing
 of_hands s w n e = record { dealer = 0; north = n; east = e; south = s; west = w }
 
@@ -240,25 +192,9 @@ undealt s w n e h =
     (λ t. never_held (sym (rw (place_all (s ++ (w ++ (n ++ e))), t) at h)))
     (λ t. rw t)
 
-module _ (s w n e : List ℕ) where
-  many_south : 13 < length s → None ≡ dealt_as (of_hands s w n e)
-  many_south h = rw (lt-leb (length s) 13 h, and_off (distinct (s ++ (w ++ (n ++ e)))) false refl)
-
-  many_west : 13 < length w → None ≡ dealt_as (of_hands s w n e)
-  many_west h = rw (lt-leb (length w) 13 h, and_off (is_hand s) false refl, and_off (distinct (s ++ (w ++ (n ++ e)))) false refl)
-
-  many_north : 13 < length n → None ≡ dealt_as (of_hands s w n e)
-  many_north h = rw (lt-leb (length n) 13 h, and_off (is_hand w) false refl, and_off (is_hand s) false refl, and_off (distinct (s ++ (w ++ (n ++ e)))) false refl)
-
-  many_east : 13 < length e → None ≡ dealt_as (of_hands s w n e)
-  many_east h = rw (lt-leb (length e) 13 h, and_off (is_hand n) false refl, and_off (is_hand w) false refl, and_off (is_hand s) false refl, and_off (distinct (s ++ (w ++ (n ++ e)))) false refl)
-
-  few_all : distinct (s ++ (w ++ (n ++ e))) ≡ true → length s ≤ 13 → length w ≤ 13 → length n ≤ 13 → length e ≤ 13 → Some (dealt_hands (of_hands s w n e)) ≡ dealt_as (of_hands s w n e)
-  few_all d hs hw hn he = rw (d, le-leb (length s) 13 hs, le-leb (length w) 13 hw, le-leb (length n) 13 hn, le-leb (length e) 13 he)
-
-pub sound_more : (x y : ℕ) (r : Option LinHand) → x ≤ y → IsSoundHand y r → IsSoundHand x r
-sound_more x y (Some z) h g = (omega (arith, g.0), g.1)
-sound_more x y None h g = tt
+pub grown_more : (x y : ℕ) (r : HandRead) → x ≤ y → IsGrown y r → IsGrown x r
+grown_more x y (Some z) h g = (omega (arith, g.0), g.1)
+grown_more x y None h g = tt
 
 east_all : (c : Conventions) (e s w n : List ℕ) → (eqb (length (trimmed e)) 0 && (is_thirteen s && (is_thirteen w && is_thirteen n))) ≡ true
     → east_of c e s w n ≡ unheld (s ++ (w ++ n)) 52
@@ -269,6 +205,19 @@ east_named : (c : Conventions) (e s w n : List ℕ) → (eqb (length (trimmed e)
     → east_of c e s w n ≡ hand_of c e
 unfolding east_of
 east_named c e s w n t = rw t
+
+pack_unheld : (held : List ℕ) (k : ℕ) → k ≤ 52 → every in_pack (unheld held k) ≡ true
+unfolding unheld
+pack_unheld held zero h = refl
+pack_unheld held (suc k) h =
+    let i = pack_unheld held k (omega arith) in
+    by_cases (among k held) (λ t. rw (t, i)) (λ t. rw (t, lt-ltb k 52 (omega arith), i))
+
+pack_east : (c : Conventions) (e s w n : List ℕ) → every in_pack (east_of c e s w n) ≡ true
+pack_east c e s w n =
+    by_cases (eqb (length (trimmed e)) 0 && (is_thirteen s && (is_thirteen w && is_thirteen n)))
+    (λ t. rw (east_all c e s w n t) (pack_unheld (s ++ (w ++ n)) 52 (omega arith)))
+    (λ t. rw (east_named c e s w n t) (pack_hand c e))
 
 -- The hands as they are read: a, b, d and x are the cards of one, two, three and four of them.
 module _ (c : Conventions) (s w n e : List ℕ) where
@@ -284,132 +233,89 @@ module _ (c : Conventions) (s w n e : List ℕ) where
   abbrev east : List ℕ
   east = east_of c e south west north
 
-  pub no_south : hand_read 0 (hand_of c s) ≡ None → None ≡ hands_dealt c s w n e
+  pub no_south : place 0 (hand_of c s) ≡ None → None ≡ hands_dealt c s w n e
   unfolding hands_dealt
-  no_south h = undealt south west north east (place_append 0 south (west ++ (north ++ east)) ∙ rw (read_none 0 south h))
+  no_south h = undealt south west north east (place_append 0 south (west ++ (north ++ east)) ∙ rw h)
 
-  module _ {fs : LinHand} (f : hand_read 0 (hand_of c s) ≡ Some fs) where
-    abbrev a : ℕ
-    a = fs.cards
-
-    abbrev i : ℕ
-    i = fs.count
-
-    pub no_west : hand_read a (hand_of c w) ≡ None → None ≡ hands_dealt c s w n e
+  module _ {a : ℕ} (f : place 0 (hand_of c s) ≡ Some a) where
+    pub no_west : place a (hand_of c w) ≡ None → None ≡ hands_dealt c s w n e
     unfolding hands_dealt
     no_west h =
-        undealt south west north east
-        (place_append 0 south (west ++ (north ++ east)) ∙ rw (read_held 0 south f).0 (place_append a west (north ++ east) ∙ rw (read_none a west h)))
+        undealt south west north east (place_append 0 south (west ++ (north ++ east)) ∙ rw f (place_append a west (north ++ east) ∙ rw h))
 
-    module _ {fw : LinHand} (g : hand_read a (hand_of c w) ≡ Some fw) where
-      abbrev b : ℕ
-      b = fw.cards
-
-      abbrev j : ℕ
-      j = fw.count
-
+    module _ {b : ℕ} (g : place a (hand_of c w) ≡ Some b) where
       -- The cards of S and W, and more.
       two_placed : (l : List ℕ) → place 0 (south ++ (west ++ l)) ≡ place b l
-      two_placed l = place_append 0 south (west ++ l) ∙ rw (read_held 0 south f).0 (place_append a west l ∙ rw (read_held a west g).0)
+      two_placed l = place_append 0 south (west ++ l) ∙ rw f (place_append a west l ∙ rw g)
 
-      pub no_north : hand_read b (hand_of c n) ≡ None → None ≡ hands_dealt c s w n e
+      pub no_north : place b (hand_of c n) ≡ None → None ≡ hands_dealt c s w n e
       unfolding hands_dealt
-      no_north h = undealt south west north east (two_placed (north ++ east) ∙ place_append b north east ∙ rw (read_none b north h))
+      no_north h = undealt south west north east (two_placed (north ++ east) ∙ place_append b north east ∙ rw h)
 
-      module _ {fn : LinHand} (h : hand_read b (hand_of c n) ≡ Some fn) where
-        abbrev d : ℕ
-        d = fn.cards
-
-        abbrev k : ℕ
-        k = fn.count
-
+      module _ {d : ℕ} (h : place b (hand_of c n) ≡ Some d) where
         three_placed : (l : List ℕ) → place 0 (south ++ (west ++ (north ++ l))) ≡ place d l
-        three_placed l = two_placed (north ++ l) ∙ place_append b north l ∙ rw (read_held b north h).0
+        three_placed l = two_placed (north ++ l) ∙ place_append b north l ∙ rw h
 
-        -- One of three hands has more than 13 cards.
-        pub no_room : (ltb 13 i || (ltb 13 j || ltb 13 k)) ≡ true → None ≡ hands_dealt c s w n e
+        abbrev held : List ℕ
+        held = south ++ (west ++ north)
+
+        held_placed : place 0 held ≡ Some d
+        held_placed = two_placed north ∙ h
+
+        once : distinct held ≡ true
+        once = all_dealt held held_placed
+
+        pack : every in_pack held ≡ true
+        pack = every_append in_pack south (west ++ north) (pack_hand c s) (every_append in_pack west north (pack_hand c w) (pack_hand c n))
+
+        south_is : a ≡ hand_bits south
+        south_is = omega (arith, place_sum 0 south f)
+
+        west_is : b - a ≡ hand_bits west
+        west_is = omega (arith, place_sum a west g)
+
+        north_is : d - b ≡ hand_bits north
+        north_is = omega (arith, place_sum b north h)
+
+        south_count : card_count a ≡ length south
+        south_count = rw south_is (count_total south (distinct_front south (west ++ north) once) (pack_hand c s))
+
+        west_count : card_count (b - a) ≡ length west
+        west_count = rw west_is (count_total west (distinct_front west north (distinct_back south (west ++ north) once)) (pack_hand c w))
+
+        north_count : card_count (d - b) ≡ length north
+        north_count = rw north_is (count_total north (distinct_back west north (distinct_back south (west ++ north) once)) (pack_hand c n))
+
+        -- What the three do not hold makes the pack.
+        others_placed : Some 4503599627370495 ≡ place d (unheld held 52)
+        others_placed =
+            let u = unheld held 52 in
+            let o : distinct (held ++ u) ≡ true = times_distinct (held ++ u) (λ i. omega (arith, unheld_apart held once pack i, times_append i held u)) in
+            let y : place d u ≡ Some (hand_bits (held ++ u)) = sym (place_append 0 held u ∙ rw held_placed) ∙ (place_all (held ++ u) ∙ rw o) in
+            sym (y ∙ ap Some (omega (arith, place_sum d u y, place_sum 0 held held_placed, unheld_bits held once pack, total_below held once pack)))
+
+        -- East's hand, put to the three.
+        pub east_placed : cond (eqb (length (trimmed e)) 0 && (eqb (card_count a) 13 && (eqb (card_count (b - a)) 13 && eqb (card_count (d - b)) 13))) (Some 4503599627370495) (place d (hand_of c e))
+            ≡ place d (east_of c e (hand_of c s) (hand_of c w) (hand_of c n))
+        east_placed =
+            rw (south_count, west_count, north_count)
+            (by_cases (eqb (length (trimmed e)) 0 && (is_thirteen south && (is_thirteen west && is_thirteen north)))
+            (λ t. rw (t, east_all c e south west north t) others_placed)
+            (λ t. rw (t, east_named c e south west north t)))
+
+        pub no_east : place d (east_of c e (hand_of c s) (hand_of c w) (hand_of c n)) ≡ None → None ≡ hands_dealt c s w n e
         unfolding hands_dealt
-        no_room t =
-            either (ltb 13 i) (ltb 13 j || ltb 13 k) t
-            (λ u. many_south south west north east (omega (arith, ltb-true 13 i u, (read_held 0 south f).1)))
-            (λ u.
-            either (ltb 13 j) (ltb 13 k) u
-            (λ v. many_west south west north east (omega (arith, ltb-true 13 j v, (read_held a west g).1)))
-            (λ v. many_north south west north east (omega (arith, ltb-true 13 k v, (read_held b north h).1))))
+        no_east u = undealt south west north east (three_placed east ∙ u)
 
-        -- East holds what the others do not.
-        pub east_others : (eqb (length (trimmed e)) 0 && (eqb i 13 && (eqb j 13 && eqb k 13))) ≡ true
-            → Some (record { north = d - b; east = 4503599627370495 - d; south = a; west = b - a }) ≡ hands_dealt c s w n e
+        pub all_read : {x : ℕ} → place d (east_of c e (hand_of c s) (hand_of c w) (hand_of c n)) ≡ Some x
+            → let r : Hands = record { north = d - b; east = x - d; south = a; west = b - a } in cond (are_few r) (Some r) None ≡ hands_dealt c s w n e
         unfolding hands_dealt
-        east_others t =
-            let o = both (eqb (length (trimmed e)) 0) (eqb i 13 && (eqb j 13 && eqb k 13)) t in
-            let p = both (eqb i 13) (eqb j 13 && eqb k 13) o.1 in
-            let q = both (eqb j 13) (eqb k 13) p.1 in
-            let li : length south ≡ 13 = (read_held 0 south f).1 ∙ eqb-true i 13 p.0 in
-            let lj : length west ≡ 13 = (read_held a west g).1 ∙ eqb-true j 13 q.0 in
-            let lk : length north ≡ 13 = (read_held b north h).1 ∙ eqb-true k 13 q.1 in
-            let held = south ++ (west ++ north) in
-            let y : east ≡ unheld held 52 = east_all c e south west north (rw (o.0, li, lj, lk)) in
-            let z : place 0 held ≡ Some d = two_placed north ∙ (read_held b north h).0 in
-            let once = all_dealt held z in
-            let pack = every_append in_pack south (west ++ north) (pack_hand c s) (every_append in_pack west north (pack_hand c w) (pack_hand c n)) in
-            let sa = place_sum 0 south (read_held 0 south f).0 in
-            let sb = place_sum a west (read_held a west g).0 in
-            let sd = place_sum b north (read_held b north h).0 in
-            let sh = place_sum 0 held z in
-            let x1 : a ≡ hand_bits south = omega arith in
-            let x2 : b - a ≡ hand_bits west = omega arith in
-            let x3 : d - b ≡ hand_bits north = omega arith in
-            let x4 : 4503599627370495 - d ≡ hand_bits (unheld held 52) = rw (unheld_bits held once pack) (omega arith) in
-            let m : length (unheld held 52) ≤ 13 = omega (arith, unheld_count held once pack, length-append south (west ++ north), length-append west north) in
-            rw (y, x2, x3, x4, x1)
-            (few_all south west north (unheld held 52)
-            (times_distinct (south ++ (west ++ (north ++ unheld held 52)))
-            (λ u.
-            omega (arith, unheld_apart held once pack u, times_append u south (west ++ north), times_append u west north, times_append u south (west ++ (north ++ unheld held 52)), times_append u west (north ++ unheld held 52), times_append u north (unheld held 52))))
-            (omega arith) (omega arith) (omega arith) m)
-
-        -- East has a field of its own.
-        module _ (t : (eqb (length (trimmed e)) 0 && (eqb i 13 && (eqb j 13 && eqb k 13))) ≡ false) where
-          east_own : east ≡ hand_of c e
-          east_own = east_named c e south west north (rw ((read_held 0 south f).1, (read_held a west g).1, (read_held b north h).1) t)
-
-          pub no_east : hand_read d (hand_of c e) ≡ None → None ≡ hands_dealt c s w n e
-          unfolding hands_dealt
-          no_east u = undealt south west north east (three_placed east ∙ rw east_own (read_none d (hand_of c e) u))
-
-          module _ {fe : LinHand} (u : hand_read d (hand_of c e) ≡ Some fe) where
-            abbrev x : ℕ
-            x = fe.cards
-
-            abbrev l : ℕ
-            l = fe.count
-
-            pub no_room_east : 13 < l → None ≡ hands_dealt c s w n e
-            unfolding hands_dealt
-            no_room_east v = rw east_own (many_east south west north (hand_of c e) (omega (arith, (read_held d (hand_of c e) u).1)))
-
-            pub all_four : (ltb 13 i || (ltb 13 j || ltb 13 k)) ≡ false → l ≤ 13
-                → Some (record { north = d - b; east = x - d; south = a; west = b - a }) ≡ hands_dealt c s w n e
-            unfolding hands_dealt
-            all_four v m =
-                let p = neither (ltb 13 i) (ltb 13 j || ltb 13 k) v in
-                let q = neither (ltb 13 j) (ltb 13 k) p.1 in
-                let once = all_dealt (south ++ (west ++ (north ++ hand_of c e))) (three_placed (hand_of c e) ∙ (read_held d (hand_of c e) u).0) in
-                let sa = place_sum 0 south (read_held 0 south f).0 in
-                let sb = place_sum a west (read_held a west g).0 in
-                let sd = place_sum b north (read_held b north h).0 in
-                let se = place_sum d (hand_of c e) (read_held d (hand_of c e) u).0 in
-                let x1 : a ≡ hand_bits south = omega arith in
-                let x2 : b - a ≡ hand_bits west = omega arith in
-                let x3 : d - b ≡ hand_bits north = omega arith in
-                let x4 : x - d ≡ hand_bits (hand_of c e) = omega arith in
-                rw (east_own, x2, x3, x4, x1)
-                (few_all south west north (hand_of c e) once
-                (omega (arith, ltb-false 13 i p.0, (read_held 0 south f).1))
-                (omega (arith, ltb-false 13 j q.0, (read_held a west g).1))
-                (omega (arith, ltb-false 13 k q.1, (read_held b north h).1))
-                (omega (arith, (read_held d (hand_of c e) u).1)))
+        all_read {x} u =
+            let o = all_dealt (south ++ (west ++ (north ++ east))) (three_placed east ∙ u) in
+            let east_is : x - d ≡ hand_bits east = omega (arith, place_sum d east u) in
+            let t : distinct east ≡ true = distinct_back north east (distinct_back west (north ++ east) (distinct_back south (west ++ (north ++ east)) o)) in
+            let east_count : card_count (x - d) ≡ length east = rw east_is (count_total east t (pack_east c e south west north)) in
+            rw (o, south_count, west_count, north_count, east_count, west_is, north_is, east_is, south_is)
 
 -- ---- the md in force
 
@@ -423,19 +329,6 @@ pub told_in_lem : (c : Conventions) (d : Dealing) (v : List ℕ) → told_in c (
 unfolding told_in fields_dealt
 told_in_lem c d [] = refl
 told_in_lem c d (b ∷ bs) = by_cases (ltb (dealer_of (single b bs)) 4) (λ t. rw t) (λ t. rw t)
-
--- The walk over the pairs.
-abbrev pub told_from : Conventions → LinDealing → List Pair → LinDealing
-told_from c t [] = t
-told_from c t (p ∷ ps) = told_from c (cond (is_pair Md p) (told_in c t (trimmed p.value)) t) ps
-
-pub told_step : (c : Conventions) (d : Dealing) (p : Pair)
-    → cond (is_pair Md p) (told_in c (told d) (trimmed p.value)) (told d) ≡ told (cond (is_pair Md p) (dealing_in c d (trimmed p.value)) d)
-told_step c d p = by_cases (is_pair Md p) (λ t. rw t (told_in_lem c d (trimmed p.value))) (λ t. rw t)
-
-pub told_from_lem : (c : Conventions) (d : Dealing) (ps : List Pair) → told_from c (told d) ps ≡ told (dealing_from c d ps)
-told_from_lem c d [] = refl
-told_from_lem c d (p ∷ ps) = rw (told_step c d p) (told_from_lem c (cond (is_pair Md p) (dealing_in c d (trimmed p.value)) d) ps)
 
 -- Hands that make a deal, and those that make none.
 pub dealt_some : (d : Dealing) (h : Hands) → dealt_as d ≡ Some h → (is_deal d ≡ true) × (dealt_hands d ≡ h)
@@ -453,34 +346,7 @@ dealt_none d e = by_cases (is_deal d) (λ t. some_none (rw t at e)) (λ t. t)
     some_none : ◌≡◌ {A = Option Hands} (Some (dealt_hands d)) None → is_deal d ≡ false
     some_none z = cc
 
-dealer_in : (c : Conventions) (d : Dealing) (v : List ℕ) → d.dealer ≤ 3 → (dealing_in c d v).dealer ≤ 3
-dealer_in c d [] h = h
-dealer_in c d (b ∷ bs) h =
-    by_cases (ltb (dealer_of (single b bs)) 4) (λ t. rw t (omega (arith, ltb-true (dealer_of (single b bs)) 4 t))) (λ t. rw t h)
-
-pub dealer_from : (c : Conventions) (d : Dealing) (ps : List Pair) → d.dealer ≤ 3 → (dealing_from c d ps).dealer ≤ 3
-dealer_from c d [] h = h
-dealer_from c d (p ∷ ps) h =
-    dealer_from c (cond (is_pair Md p) (dealing_in c d (trimmed p.value)) d) ps
-    (by_cases (is_pair Md p) (λ t. rw t (dealer_in c d (trimmed p.value) h)) (λ t. rw t h))
-
-pub told_dealer_low : (c : Conventions) (ps : List Pair) → (told (dealing_from c no_dealing ps)).dealer ≤ 3
-told_dealer_low c ps = dealer_from c no_dealing ps (omega arith)
-
 -- ---- the hands of a deal
-
-pack_unheld : (held : List ℕ) (k : ℕ) → k ≤ 52 → every in_pack (unheld held k) ≡ true
-unfolding unheld
-pack_unheld held zero h = refl
-pack_unheld held (suc k) h =
-    let i = pack_unheld held k (omega arith) in
-    by_cases (among k held) (λ t. rw (t, i)) (λ t. rw (t, lt-ltb k 52 (omega arith), i))
-
-pack_east : (c : Conventions) (e s w n : List ℕ) → every in_pack (east_of c e s w n) ≡ true
-pack_east c e s w n =
-    by_cases (eqb (length (trimmed e)) 0 && (is_thirteen s && (is_thirteen w && is_thirteen n)))
-    (λ t. rw (east_all c e s w n t) (pack_unheld (s ++ (w ++ n)) 52 (omega arith)))
-    (λ t. rw (east_named c e s w n t) (pack_hand c e))
 
 -- All cards of a dealing are cards of the pack.
 pub record Packed (d : Dealing) : Type 0 where

@@ -28,7 +28,7 @@ use Rattle.lin.specs.SurveySteps.{no_survey, survey_from}
 use Rattle.lin.specs.BoardSteps.{survey_text}
 use Rattle.lin.specs.LinBoards.{LinBoard, board_of, any_card, all_deals, lin_lines, lin_next, lin_page}
 use Rattle.lin.specs.PieceSteps.{no_progress, above_text, any_bits, part_text, BoardPut, Goes, GoesIf, Gone, GoesAll}
-use Rattle.lin.proofs.DealingLaws.{told_in_lem, dealt_some, dealt_none, told_dealer_low, any_card_lem}
+use Rattle.lin.proofs.DealingLaws.{told_in_lem, dealt_some, dealt_none, any_card_lem}
 use Rattle.lin.proofs.SurveyLaws.{survey_is, dealer_low, vulnerability_low}
 use Rattle.lin.proofs.BoardTextLaws.{board_text}
 
@@ -40,7 +40,8 @@ module _ (c : Conventions) (ps : List Pair) where
   dealing = dealing_from c no_dealing ps
 
   pub survey_dealer : (survey_from c no_survey ps).deal.dealer ≤ 3
-  survey_dealer = rw (survey_is c (told_in_lem c) ps).deal_is (told_dealer_low c ps)
+  unfolding board_of
+  survey_dealer = rw (survey_is c (told_in_lem c) ps).deal_is (omega (arith, dealer_low c ps))
 
   survey_hands : (s : Survey) → s ≡ survey_from c no_survey ps → s.deal.hands ≡ dealt_as (board_of c ps).dealing
   unfolding board_of

@@ -1,28 +1,25 @@
 -- Laws of commands and pairs.
 use Prim.Native.Nat.{ℕ, suc, ◌+◌, ◌-◌, ◌≤◌, ◌<◌}
 use mathlib.Core.Path.{◌≡◌, refl, sym, ap, ◌∙◌}
-use mathlib.Core.Bool.{Bool, true, false, cond, ◌&&◌}
+use mathlib.Core.Bool.{true, false, cond}
 use mathlib.Core.List.{List, [], ◌∷◌, ◌++◌, append_assoc}
 use native.Mathlib.Omega.{arith}
 use lib.Dec.{eqb, ltb}
 use denote.Enum.Bare.{sameb, same_true, same_false}
-use lib.ListN.{length, take, drop, get_or, length-drop, length-append}
+use lib.ListN.{length, take, drop, length-drop, length-append}
 use lib.Seq.{drop-drop, take_all, drop-append_seam, take-append_seam}
 use borrow.Author.Tests.{ltb-true, ltb-false, lt-ltb, le-ltb, eqb-true, eq-eqb, ne_eqb}
 use Rattle.std.specs.Prelude.{Option, Some, None, IfSome, unwrap_or}
-use Rattle.tables.specs.Text.{ascii, differs, before, prepend, trimmed}
-use Rattle.tables.specs.Letters.{capital}
+use Rattle.tables.specs.Text.{differs, before, prepend}
 use Rattle.tables.proofs.Laws.{by_cases, stop}
 use Rattle.tables.proofs.TextLaws.{front_few, take_front}
-use Rattle.reader.specs.Words.{same_word}
-use Rattle.reader.proofs.WordLaws.{word_long}
 use Rattle.lin.specs.declared.pairs.PairAt.{PairAt}
 use Rattle.lin.specs.declared.pairs.Pairs.{Pairs}
 use Rattle.lin.specs.declared.pairs.Command.{Command}
 use Rattle.lin.specs.contracts.pairs.Command.{the_type}
 use Rattle.lin.specs.declared.pairs.Command.TheVariants.{Qx, Heading, Md, Sv, Mb, Pc, Other}
-use Rattle.lin.specs.Pairs.{parts, place_of, command_named, command_of, Pair, paired, pairs_of}
-use Rattle.lin.specs.PairSteps.{two_same, command_two, Sealed, IsNext}
+use Rattle.lin.specs.Pairs.{parts, place_of, command_of, Pair, paired, pairs_of}
+use Rattle.lin.specs.PairSteps.{Sealed, pair_of, pairs_left, IsNext}
 
 -- ---- commands
 
@@ -57,36 +54,6 @@ same_place k m =
 pub coded : (o : Option ℕ) (k n : ℕ) → unwrap_or o n ≡ k → IfSome o (λ x. x < n) → o ≡ cond (ltb k n) (Some k) None
 coded (Some x) k n e h = rw (← e, lt-ltb x n h)
 coded None k n e h = rw (← e, le-ltb n n (omega arith))
-
-and_true : (p : Bool) → (p && true) ≡ p
-and_true true = refl
-and_true false = refl
-
-two_is : (x y a b : ℕ) → same_word (x ∷ y ∷ []) (a ∷ b ∷ []) ≡ two_same x y a b
-unfolding two_same
-two_is x y a b = rw (and_true (eqb y (capital b)))
-
--- A command of two bytes, and of any other number.
-named_two : (a b : ℕ) → command_named (a ∷ b ∷ []) ≡ command_two a b
-unfolding command_two two_same
-named_two a b = rw (and_true (eqb 88 (capital b)), and_true (eqb 78 (capital b)), and_true (eqb 68 (capital b)), and_true (eqb 86 (capital b)), and_true (eqb 66 (capital b)), and_true (eqb 67 (capital b)))
-
-two_bytes : (t : List ℕ) → length t ≡ 2 → t ≡ get_or t 0 0 ∷ get_or t 1 0 ∷ []
-two_bytes [] e = absurd (omega arith)
-two_bytes (a ∷ []) e = absurd (omega arith)
-two_bytes (a ∷ b ∷ []) e = refl
-two_bytes (a ∷ b ∷ d ∷ ds) e = absurd (omega arith)
-
-pub command_two_lem : (s : List ℕ) → length (trimmed s) ≡ 2 → command_of s ≡ command_two (get_or (trimmed s) 0 0) (get_or (trimmed s) 1 0)
-unfolding command_of
-command_two_lem s e = ap command_named (two_bytes (trimmed s) e) ∙ named_two (get_or (trimmed s) 0 0) (get_or (trimmed s) 1 0)
-
-pub command_none : (s : List ℕ) → (length (trimmed s) ≡ 2 → ⊥) → command_of s ≡ Other
-unfolding command_of
-command_none s e =
-    let t = trimmed s in
-    let long : (w : List ℕ) → length w ≡ 2 → same_word w t ≡ false = λ w h. word_long w t (λ z. e (sym z ∙ h)) in
-    rw (long (ascii "QX") refl, long (ascii "MN") refl, long (ascii "PN") refl, long (ascii "MD") refl, long (ascii "SV") refl, long (ascii "MB") refl, long (ascii "PC") refl)
 
 -- ---- parts
 
@@ -300,3 +267,21 @@ next_is s p t h k v e same place =
       behind = omega (arith, e);
       inside = omega (arith, e, few, h, whole, most);
     }
+
+-- ---- the values that pairs give, one after the other
+
+-- What stands first, where there is a value.
+abbrev pub put_first : Option ℕ → List ℕ → List ℕ
+put_first None ks = ks
+put_first (Some k) ks = k ∷ ks
+
+pub record Gives (at : Pair → Option ℕ) (from : List Pair → List ℕ) : Type 0 where
+  pub first : (p : Pair) (ps : List Pair) → from (p ∷ ps) ≡ put_first (at p) (from ps)
+
+-- Where the next pair is p.
+module _ {at : Pair → Option ℕ} {from : List Pair → List ℕ} (g : Gives at from) {s : Pairs} {p : PairAt} {r : Pairs} (n : IsNext s p r) where
+  pub value_met : {k : ℕ} → at (pair_of p) ≡ Some k → from (pairs_left s) ≡ k ∷ from (pairs_left r)
+  value_met e = rw (n.pairs_are, g.first (pair_of p) (pairs_left r), e)
+
+  pub value_none : at (pair_of p) ≡ None → from (pairs_left s) ≡ from (pairs_left r)
+  value_none e = rw (n.pairs_are, g.first (pair_of p) (pairs_left r), e)

@@ -6,7 +6,7 @@ use Rattle.tables.proofs.Laws.{by_cases, clash}
 use Rattle.lin.specs.declared.pairs.Command.TheVariants.{Qx, Heading}
 use Rattle.lin.specs.Pairs.{Pair, is_pair}
 use Rattle.lin.specs.Pieces.{opens, pair_before, split, with_deal}
-use Rattle.lin.specs.PieceSteps.{has_pairs, split_from}
+use Rattle.lin.specs.PieceSteps.{is_any, split_from}
 use Rattle.lin.proofs.PairLaws.{same_command}
 
 -- Pairs put before the first piece, or as the only one.
@@ -39,16 +39,16 @@ run_ends xs p ps =
     (λ e. rw (e, join_none ps e))
     (λ e. rw (e, append-nil (xs ++ p ∷ []), join_before xs p (split ps)))
 
-some_last : (xs : List Pair) (p : Pair) → has_pairs (xs ++ p ∷ []) ≡ true
+pub some_last : (xs : List Pair) (p : Pair) → is_any (xs ++ p ∷ []) ≡ true
 some_last [] p = refl
 some_last (x ∷ xs) p = refl
 
-some_more : (xs ys : List Pair) → has_pairs xs ≡ true → has_pairs (xs ++ ys) ≡ true
+some_more : (xs ys : List Pair) → is_any xs ≡ true → is_any (xs ++ ys) ≡ true
 some_more [] ys e = clash e
 some_more (x ∷ xs) ys e = refl
 
 -- Behind pairs of a piece, and behind none.
-split_behind : (own run ps : List Pair) → has_pairs own ≡ true
+split_behind : (own run ps : List Pair) → is_any own ≡ true
     → split_from own run ps ≡ cond (opens ps) (own ∷ join_all run (split ps)) (join_all (own ++ run) (split ps))
 split_behind own run [] s = refl
 split_behind own run (p ∷ ps) s =

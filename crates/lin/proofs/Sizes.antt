@@ -28,14 +28,16 @@ use Rattle.lin.specs.Pairs.{parts, place_of, command_named, command_of, Pair, pa
 use Rattle.lin.specs.Pieces.{opens, pair_before, split, with_deal, line_pieces, board_pieces}
 use Rattle.lin.specs.Dealing.{no_dealing, dealt_hands}
 use Rattle.lin.specs.declared.bidding.Contract.{Contract}
-use Rattle.lin.specs.Bidding.{call_in, calls_from, is_bid, next_seat, no_contract, with_call, contract_from, contract_token, doubling_text}
+use Rattle.lin.specs.Bidding.{call_in, calls_from, is_bid, no_contract, with_call, contract_from, contract_token, doubling_text}
 use Rattle.lin.specs.BiddingSteps.{last_text}
 use Rattle.lin.specs.Playing.{card_in, cards_played, slot_at, slot_word}
 use Rattle.lin.specs.PlayingSteps.{word_text, trick_text, empty_trick, taken, next_trick, last_line, trick_texts}
 use Rattle.lin.specs.BoardSteps.{lin_head_text, lin_result_text, call_tokens, lin_auction_text, played_text}
 use Rattle.lin.specs.LinBoards.{LinBoard, board_of, lin_boards, contract_of, declarer_in, opening_leader, trump_of, lin_lines, lin_next, lin_page, lin_text}
-use Rattle.lin.proofs.BoardTextLaws.{is_any, lines_text_lem}
+use Rattle.lin.specs.PieceSteps.{is_any}
+use Rattle.lin.proofs.BoardTextLaws.{lines_text_lem}
 use Rattle.lin.proofs.PairLaws.{same_command}
+use Rattle.lin.proofs.BiddingLaws.{contract_keeps}
 use Rattle.lin.proofs.SurveyLaws.{dealer_low, vulnerability_low}
 
 -- ---- the contract
@@ -59,10 +61,6 @@ with_low seat k code l =
           (λ u. omega (arith, eqb-true code 36 u)) (λ u. omega (arith, eqb-true code 37 u));
     })
     (λ t. l))
-
-contract_low : (seat : ℕ) (k : Contract) (ks : List ℕ) → LowContract k → LowContract (contract_from seat k ks)
-contract_low seat k [] l = l
-contract_low seat k (code ∷ ks) l = contract_low (next_seat seat) (with_call seat k code) ks (with_low seat k code l)
 
 last_few : (c : Conventions) (k : Contract) → LowContract k → length (last_text c k) ≤ 16
 unfolding last_text
@@ -189,7 +187,7 @@ unfolding board_of contract_of
 board_few c ps =
     let b = board_of c ps in
     let k = contract_from 0 no_contract (calls_from c ps) in
-    let l = contract_low 0 no_contract (calls_from c ps) (record { bid_low = omega arith; doubling_low = omega arith }) in
+    let l = contract_keeps LowContract with_low 0 no_contract (calls_from c ps) (record { bid_low = omega arith; doubling_low = omega arith }) in
     omega (
       arith,
       lines_few c ps,

@@ -5,25 +5,47 @@ use mathlib.Core.Bool.{Bool, true, false, ◌&&◌}
 use mathlib.Core.List.{List, [], ◌∷◌, ◌++◌, append_assoc, append-nil}
 use native.Mathlib.Omega.{arith}
 use lib.Dec.{eqb}
-use lib.ListN.{length, take, drop}
+use lib.ListN.{length, take, drop, length-drop}
 use lib.Seq.{drop-drop, take-add}
-use borrow.Author.Tests.{ne_eqb}
-use Rattle.tables.specs.Text.{trimmed}
+use Rattle.std.proofs.lemmas.List.{length-take}
+use borrow.Author.Tests.{ne_eqb, leb-true, leb-false}
+use Rattle.tables.specs.declared.lines.Lines.{Lines}
+use Rattle.tables.specs.Text.{trimmed, before, line}
+use Rattle.tables.specs.LineWalk.{IsNextLine, at_end}
+use Rattle.tables.proofs.Laws.{stop}
+use Rattle.tables.proofs.WalkLaws.{line_trimmed, lines_walk}
 use Rattle.lin.specs.declared.pairs.PairAt.{PairAt}
 use Rattle.lin.specs.declared.pairs.Pairs.{Pairs}
 use Rattle.lin.specs.declared.pairs.Command.TheVariants.{Qx, Heading}
 use Rattle.lin.specs.Pairs.{Pair, place_of, pairs_of}
 use Rattle.lin.specs.PairSteps.{between, pair_of, Sealed, IsNext}
 use Rattle.lin.specs.Pieces.{split, with_deal, line_pieces}
-use Rattle.lin.specs.PieceSteps.{has_pairs, split_from}
+use Rattle.lin.specs.PieceSteps.{lines_left, is_any, split_from}
 use Rattle.lin.proofs.PairLaws.{nothing_paired, same_command, other_command}
-use Rattle.lin.proofs.PieceLaws.{split_is}
+use Rattle.lin.proofs.PieceLaws.{some_last, split_is}
 
 -- ---- lines
 
--- A line that is not blank is a piece.
-pub line_some : {ls ms : List (List ℕ)} {l t : List ℕ} → ls ≡ l ∷ ms → t ≡ trimmed l → 0 < length t → line_pieces ls ≡ pairs_of t ∷ line_pieces ms
-line_some {ls} {ms} {l} {t} e k h = rw (e, ← k, ne_eqb (length t) 0 (λ z. omega (arith, z, h)))
+module _ {w v : Lines} {l : List ℕ} (s : IsNextLine w l v) where
+  trimmed_line : trimmed l ≡ trimmed (before 10 (drop w.next w.text.now))
+  trimmed_line = ap trimmed s.line_is ∙ line_trimmed (drop w.next w.text.now)
+
+  -- A line that is not blank is a piece, a blank one is none.
+  pub line_some : {t : List ℕ} → t ≡ trimmed l → (length t ≡ 0 → ⊥) → line_pieces (lines_left w) ≡ pairs_of t ∷ line_pieces (lines_left v)
+  line_some {t} k h = rw (lines_walk s, ← trimmed_line, ← k, ne_eqb (length t) 0 h)
+
+  pub line_none : {t : List ℕ} → t ≡ trimmed l → length t ≡ 0 → line_pieces (lines_left w) ≡ line_pieces (lines_left v)
+  line_none {t} k h = rw (lines_walk s, ← trimmed_line, ← k, h)
+
+  -- No line is without a byte.
+  pub line_behind : (w.next < v.next) × (w.next < length w.text.now)
+  line_behind =
+      let left = leb-false (length w.text.now) w.next s.left in
+      let rest = drop w.next w.text.now in
+      (rw s.walk_is (omega (arith, left, length-take (length (line rest) + 1) rest, length-drop w.next w.text.now)), left)
+
+pub no_lines : (w : Lines) → at_end w ≡ true → lines_left w ≡ []
+no_lines w e = rw (stop w.text.now w.next (leb-true (length w.text.now) w.next e))
 
 -- ---- parts
 
@@ -48,11 +70,10 @@ sealed_join x u s t y =
     ap pairs_of (append_assoc x u y) ∙ s (u ++ y) ∙ ap (λ (ps : List Pair). pairs_of x ++ ps) (t y)
     ∙ sym (append_assoc (pairs_of x) (pairs_of u) (pairs_of y)) ∙ ap (λ (ps : List Pair). ps ++ pairs_of y) (sym (s u))
 
-some_last : (ps : List Pair) (p : Pair) → has_pairs (ps ++ p ∷ []) ≡ true
-some_last [] p = refl
-some_last (q ∷ ps) p = refl
+sealed_more : (text : List ℕ) {a b d : ℕ} → a ≤ b → b ≤ d → Sealed (between text a b) → Sealed (between text b d) → Sealed (between text a d)
+sealed_more text {a} {b} {d} h k x y = rw (between_more text a b d h k) (sealed_join (between text a b) (between text b d) x y)
 
-some_behind : (ps qs : List Pair) → has_pairs qs ≡ true → has_pairs (ps ++ qs) ≡ true
+some_behind : (ps qs : List Pair) → is_any qs ≡ true → is_any (ps ++ qs) ≡ true
 some_behind [] qs e = e
 some_behind (p ∷ ps) qs e = refl
 
@@ -63,7 +84,7 @@ pub record Places (text : List ℕ) (start run here : ℕ) : Type 0 where
   pub here_in : here ≤ length text + 1
   pub own_whole : pairs_of (drop start text) ≡ pairs_of (between text start run) ++ pairs_of (drop run text)
   pub run_whole : pairs_of (drop run text) ≡ pairs_of (between text run here) ++ pairs_of (drop here text)
-  pub own_some : start < run → has_pairs (pairs_of (between text start run)) ≡ true
+  pub own_some : start < run → is_any (pairs_of (between text start run)) ≡ true
   pub own_sealed : run ≤ length text → Sealed (between text start run)
   pub run_sealed : here ≤ length text → Sealed (between text run here)
 
@@ -132,7 +153,7 @@ module _ (start run : ℕ) (s : Pairs) (p : PairAt) (r : Pairs) (t : Places s.te
   run_more = ap pairs_of (between_more text run here next t.run_here here_next) ∙ t.run_sealed before_next (between text here next) ∙ ap (λ (ps : List Pair). titles ++ ps) i.alone
 
   run_more_sealed : next ≤ length text → Sealed (between text run next)
-  run_more_sealed h = rw (between_more text run here next t.run_here here_next) (sealed_join (between text run here) (between text here next) (t.run_sealed before_next) (pair_sealed h))
+  run_more_sealed h = sealed_more text t.run_here here_next (t.run_sealed before_next) (pair_sealed h)
 
   run_next : run ≤ next
   run_next = omega (arith, t.run_here, here_next)
@@ -141,7 +162,7 @@ module _ (start run : ℕ) (s : Pairs) (p : PairAt) (r : Pairs) (t : Places s.te
   own_more = ap pairs_of (between_more text start run next t.start_run run_next) ∙ t.own_sealed run_to (between text run next) ∙ ap (λ (ps : List Pair). own ++ ps) run_more
 
   own_more_sealed : next ≤ length text → Sealed (between text start next)
-  own_more_sealed h = rw (between_more text start run next t.start_run run_next) (sealed_join (between text start run) (between text run next) (t.own_sealed run_to) (run_more_sealed h))
+  own_more_sealed h = sealed_more text t.start_run run_next (t.own_sealed run_to) (run_more_sealed h)
 
   whole_more : pairs_of (drop run text) ≡ pairs_of (between text run next) ++ pairs_of (drop next text)
   whole_more =
@@ -214,7 +235,7 @@ module _ (start run : ℕ) (s : Pairs) (p : PairAt) (r : Pairs) (t : Places s.te
       same_place g = omega (arith, g, t.start_run)
 
       -- A qx here is the first pair of its piece.
-      goes_on : (q : Bool) → eqb (place_of p.command) 1 ≡ q → (eqb (place_of p.command) 1 && has_pairs own) ≡ false
+      goes_on : (q : Bool) → eqb (place_of p.command) 1 ≡ q → (eqb (place_of p.command) 1 && is_any own) ≡ false
       goes_on false z = rw z
       goes_on true z =
           let same : run ≡ start = same_place (f (same_command p.command Qx z)) in

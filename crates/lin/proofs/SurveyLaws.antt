@@ -21,7 +21,8 @@ use Rattle.lin.specs.Bidding.{vulnerability_in, vulnerability_from, call_in, cal
 use Rattle.lin.specs.Playing.{card_in, cards_played}
 use Rattle.lin.specs.SurveySteps.{no_survey, survey_call, surveyed, survey_from}
 use Rattle.lin.specs.LinBoards.{board_of}
-use Rattle.lin.proofs.BoardTextLaws.{is_any, SurveyIs}
+use Rattle.lin.specs.PieceSteps.{is_any}
+use Rattle.lin.proofs.BoardTextLaws.{SurveyIs}
 use Rattle.lin.proofs.PairLaws.{same_command}
 
 -- ---- a pair

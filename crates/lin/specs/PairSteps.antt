@@ -1,28 +1,9 @@
 -- How the code goes from pair to pair.
-use Rattle.std.specs.Prelude.{ℕ, ◌+◌, ◌-◌, ◌≤◌, ◌<◌, ◌≡◌, Bool, cond, ◌&&◌, ◌||◌, Option, Some, None, List, [], ◌∷◌, ◌++◌, eqb, length, take, drop}
+use Rattle.std.specs.Prelude.{ℕ, ◌+◌, ◌-◌, ◌≤◌, ◌<◌, ◌≡◌, Option, Some, None, List, [], ◌∷◌, ◌++◌, length, take, drop}
 use Rattle.std.specs.Iterator.{Count, at_most}
-use Rattle.tables.specs.Letters.{capital}
 use Rattle.lin.specs.declared.pairs.PairAt.{PairAt}
 use Rattle.lin.specs.declared.pairs.Pairs.{Pairs}
-use Rattle.lin.specs.declared.pairs.Command.{Command}
-use Rattle.lin.specs.declared.pairs.Command.TheVariants.{Qx, Heading, Md, Sv, Mb, Pc, Other}
 use Rattle.lin.specs.Pairs.{Pair, pairs_of}
-
--- ---- commands
-
--- Two letters, in either case, and the word of two capitals.
-unfoldable pub two_same : ℕ → ℕ → ℕ → ℕ → Bool
-two_same x y a b = eqb x (capital a) && eqb y (capital b)
-
--- The command of two letters: QX is 81, 88; MN 77, 78 and PN 80, 78; MD 77, 68; SV 83, 86; MB 77, 66; PC 80, 67.
-unfoldable pub command_two : ℕ → ℕ → Command
-command_two a b =
-    cond (two_same 81 88 a b) Qx
-    (cond (two_same 77 78 a b || two_same 80 78 a b) Heading
-    (cond (two_same 77 68 a b) Md
-    (cond (two_same 83 86 a b) Sv
-    (cond (two_same 77 66 a b) Mb
-    (cond (two_same 80 67 a b) Pc Other)))))
 
 -- ---- pairs
 

@@ -1,15 +1,13 @@
 -- How the code puts board after board.
-use Rattle.std.specs.Prelude.{ℕ, ◌+◌, ◌<◌, ◌≡◌, Bool, true, false, cond, ◌&&◌, ◌||◌, not, Option, Some, None, IfSome, is_some, List, [], ◌∷◌, ◌++◌, map, eqb, length}
+use Rattle.std.specs.Prelude.{ℕ, ◌+◌, ◌≡◌, Bool, true, false, cond, ◌&&◌, ◌||◌, not, Option, Some, IfSome, is_some, List, [], ◌∷◌, ◌++◌, map, eqb, length, drop}
 use Rattle.tables.specs.declared.letters.Conventions.{Conventions}
 use Rattle.reader.specs.declared.deal.Hands.{Hands}
 use Rattle.tables.specs.declared.page.Page.{Page}
 use Rattle.tables.specs.Puts.{Puts}
 use Rattle.writer.specs.Pages.{built_in_header}
 use Rattle.writer.specs.Remarks.{lines_text}
-use Rattle.std.specs.Borrow.{Bor}
-use Rattle.std.specs.Iterator.{Count, at_most}
 use Rattle.tables.specs.Text.{lines}
-use Rattle.lin.specs.declared.pieces.Lines.{Lines}
+use Rattle.tables.specs.declared.lines.Lines.{Lines}
 use Rattle.lin.specs.declared.pieces.Progress.{Progress}
 use Rattle.lin.specs.declared.pairs.Command.TheVariants.{Qx, Heading, Md}
 use Rattle.lin.specs.Pairs.{Pair, is_pair, has_pair}
@@ -20,32 +18,20 @@ use Rattle.lin.specs.LinBoards.{LinBoard, board_of, any_card, all_deals, lin_lin
 
 -- The lines that are left.
 abbrev pub lines_left : Lines → List (List ℕ)
-lines_left s = lines s.rest.now
-
--- The line l is the first of them; the others stand behind its LF.
-pub record IsLine (s : Lines) (l : Bor (List ℕ)) (t : Lines) : Type 0 where
-  pub lines_are : lines_left s ≡ l.now ∷ lines_left t
-  pub behind : length t.rest.now < length s.rest.now
-
-abbrev pub NextLine : Lines → Option (Bor (List ℕ)) → Lines → Type 0
-NextLine s (Some l) t = IsLine s l t
-NextLine s None t = lines_left s ≡ []
-
--- No more lines come than bytes.
-abbrev pub lines_room : Lines → Count
-lines_room s = at_most (length s.rest.now)
+lines_left s = lines (drop s.next s.text.now)
 
 -- ---- pieces, pair by pair: own are the pairs of the piece so far, run the mn and pn behind them
 
-abbrev pub has_pairs : List Pair → Bool
-has_pairs [] = false
-has_pairs (p ∷ ps) = true
+-- There is one.
+abbrev pub is_any : {A : Type 0} → List A → Bool
+is_any [] = false
+is_any (x ∷ xs) = true
 
 abbrev pub split_from : List Pair → List Pair → List Pair → List (List Pair)
 split_from own run [] = (own ++ run) ∷ []
 split_from own run (p ∷ ps) =
     cond (is_pair Heading p) (split_from own (run ++ p ∷ []) ps)
-    (cond (is_pair Qx p && has_pairs own) (own ∷ split_from (run ++ p ∷ []) [] ps) (split_from (own ++ (run ++ p ∷ [])) [] ps))
+    (cond (is_pair Qx p && is_any own) (own ∷ split_from (run ++ p ∷ []) [] ps) (split_from (own ++ (run ++ p ∷ [])) [] ps))
 
 -- ---- progress
 

@@ -14,7 +14,7 @@ unfoldable pub card_at : Conventions → Pair → Option ℕ
 card_at c p = cond (is_pair Pc p && ltb (card_in c (trimmed p.value)) 52) (Some (card_in c (trimmed p.value))) None
 
 pub record FineTrick (t : LinTrick) : Type 0 where
-  pub leader_low : t.leader ≤ 4
+  pub leader_low : t.leader ≤ 255
   pub slots_low : Low t.slots
 
 abbrev pub word_text : Conventions → ℕ → LinTrick → ℕ → List ℕ

@@ -1,4 +1,5 @@
-// The vulnerability (parse_sv), the calls, the contract and its declarer.
+// The vulnerability (parse_sv), the calls, the contract and its declarer. A contract says `unwrap_or result 47` since the definition of a
+// LIN call ends in that of a PBN call, whose number for none is 47.
 ghost use Rattle.std.specs.Prelude.{◌≡◌, ◌≤◌, ◌<◌, IfSome, unwrap_or};
 ghost use Rattle.tables.specs.Puts.{Puts};
 ghost use Rattle.lin.specs.Bidding.{vulnerability_in, unalerted, call_in, calls_from, is_bid, strain, next_seat, with_call, names, first_to_name};
@@ -7,16 +8,12 @@ ghost use Rattle.lin.specs.Pairs.{pairs_of};
 ghost use Rattle.lin.specs.PairSteps.{pair_of};
 
 use crate::pairs::{Command, PairAt, pairs_in};
-use reader::words::{call_code, same_word};
+use reader::words::{X, XX, call_code, same_word};
 use tables::letters::Conventions;
 use tables::page::Page;
 use writer::tokens::put_call;
 
-const X: u8 = 36;
-
-const XX: u8 = 37;
-
-// n or ns is 1, e or ew 2, b, both or all 3, anything else 0.
+// n or ns is 1, e or ew 2, b, both or all 3, anything else 0, as put_vulnerability takes it: its one use would make an enum the number again.
 #[tactic(auto, unfolding(crate::specs::Bidding::vulnerability_in))]
 pub(crate) fn vulnerability_in(t: &[u8]) -> u8
     ensures { (result ≡ vulnerability_in t.now) × (result ≤ 3) }
@@ -73,7 +70,8 @@ pub(crate) fn call_at(c: Conventions, p: PairAt) -> Option<u8>
 }
 
 // The last bid, 0 where there is none; the seat that made it, counted from the dealer; the last X or XX behind it, or 0. An Option would be
-// no plainer: the plain board that the specs compare with has codes for none too, 4 for declarer and trump, to which each use would go back.
+// no plainer: put_contract, put_play and declarer_of would each match it where they test `bid == 0`, and since the theorems speak of the
+// contract with 0, a second type with a function to the first would stand in the specs.
 #[derive(Clone, Copy)]
 pub struct Contract {
     pub bid: u8,
@@ -129,7 +127,8 @@ fn is_named(k: Contract, seat: u8, code: u8) -> bool
     is_bid(code) & ((strain_of(code) == strain_of(k.bid)) & (seat % 2 == k.bidder % 2))
 }
 
-// The first of the last bid's side to name its strain, counted from the dealer; 4 where there is none.
+// The first of the last bid's side to name its strain, counted from the dealer. Where there is a bid there is one; 4, and no Option, behind
+// the last call, since declarer_of would only unwrap it to 4, with which its definition counts.
 pub(crate) fn first_to_name(c: Conventions, text: &[u8], k: Contract) -> u8
     ensures { (result ≡ first_to_name k 0 (calls_from c (pairs_of text.now))) × (result ≤ 4) }
 {

@@ -1,4 +1,5 @@
-// A board's lines on the page.
+// A board's lines on the page. Page and conventions are two parameters, as of the writer's functions that are called here: the walks over
+// pairs take the conventions without a page, and most texts the page without conventions.
 ghost use Rattle.std.specs.Prelude.{◌≡◌, [], cond, ◌≤◌, ◌<◌};
 ghost use Rattle.tables.specs.Puts.{Puts};
 ghost use Rattle.writer.specs.Items.{tokens_text};
@@ -11,6 +12,7 @@ use crate::pairs::pairs_in;
 use crate::playing::put_tricks;
 use crate::survey::Survey;
 use reader::deal::Hands;
+use reader::play::Terms;
 use tables::letters::Conventions;
 use tables::page::Page;
 use writer::auction::{put_before, put_last};
@@ -80,15 +82,16 @@ fn put_play(page: &mut Page, c: Conventions, text: &[u8], s: Survey, declarer: u
         return;
     }
     if s.played {
-        let lead = next_seat(declarer) as usize;
+        let lead = next_seat(declarer);
         page.put_text(b"[Play \"");
-        put_seat(page, c, lead);
+        put_seat(page, c, usize::from(lead));
         page.put_text(b"\"]\n");
-        put_tricks(page, c, text, lead, strain_of(bid) as usize);
+        let trump = strain_of(bid) as usize;
+        put_tricks(page, Terms { c, lead, trump }, text);
     }
 }
 
-// The declarer, 4 without a bid.
+// The declarer; 4 without a bid, for which put_seat puts nothing: put_play, the other use, has asked for a bid.
 #[tactic(auto, unfolding(crate::specs::Bidding::declarer_of))]
 fn declarer_of(c: Conventions, text: &[u8], dealer: usize, k: Contract) -> u8
     requires { dealer ≤ 3 }

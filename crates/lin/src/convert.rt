@@ -6,9 +6,8 @@ ghost use Rattle.lin.specs.ConversionSteps.{ConvertingEnded};
 
 use crate::pieces::{Progress, put_boards};
 use tables::letters::{Conventions, built_in};
-use tables::page::{Page, finish};
-use tables::refused::Refused;
-use writer::write::clear;
+use tables::page::Page;
+use tables::refused::{Edition, Refused};
 
 // 1 with the text's length, 16, and 7 with the bytes needed; specs/Conversions.antt gives the numbers.
 #[derive(Clone, Copy, Debug, PartialEq, Eq)]
@@ -40,8 +39,8 @@ impl Refused for LinRefusal {
         }
     }
 
-    fn edition(self) -> u64 {
-        0
+    fn edition(self) -> Option<Edition> {
+        None
     }
 
     fn carried(self) -> u64 {
@@ -52,25 +51,19 @@ impl Refused for LinRefusal {
     }
 }
 
-// The answer for what was put, n bytes; the page is set to 0 where it is a refusal.
-fn end_converting(put: Option<Progress>, n: usize, page: &mut [u8]) -> Result<Converted, LinRefusal>
-    ensures { ConvertingEnded put n page.old result page.new }
+// Ends the page on which a text was put: the answer, and nothing but zeros after a refusal.
+fn end_converting(put: Option<Progress>, page: &mut Page) -> Result<Converted, LinRefusal>
+    ensures ended { ConvertingEnded put page.old.at page.old.bytes.now result page.new.bytes.now }
+    ensures same { page.new.bytes.ghost_name ≡ page.old.bytes.ghost_name }
 {
-    if let Some(g) = put {
-        if g.any {
-            if n <= page.len() {
-                let _ = finish(page, n);
-                return Ok(Converted {
-                    bytes: n as u64,
-                    boards: g.boards,
-                });
-            }
-            clear(page);
-            return Err(LinRefusal::PageFull(n as u64));
-        }
+    let Some(Progress { boards, any: true }) = put else {
+        page.bytes.fill(0);
+        return Err(LinRefusal::NoDeal);
+    };
+    match page.finish() {
+        Ok(bytes) => Ok(Converted { bytes, boards }),
+        Err(f) => Err(LinRefusal::PageFull(f.carried())),
     }
-    clear(page);
-    Err(LinRefusal::NoDeal)
 }
 
 // Converts a text, by the given conventions. A refusal leaves the page zero.
@@ -83,16 +76,15 @@ pub fn lin_to_pbn_with(
 {
     let n = text.len();
     if 16777215 < n {
-        clear(page);
+        page.fill(0);
         return Err(LinRefusal::Overlong(n as u64));
     }
     let mut out = Page::new(page);
     let put = put_boards(&mut out, c, text);
-    let size = out.at;
-    end_converting(put, size, page)
+    end_converting(put, &mut out)
 }
 
-// Converts a text.
+// Converts a text by the built-in letters. It stands beside lin_to_pbn_with since there are no default arguments, and hosts know these alone.
 pub fn lin_to_pbn(text: &[u8], page: &mut [u8]) -> Result<Converted, LinRefusal>
     ensures { IsConverted built_in text.now page.old result page.new }
 {

@@ -1,12 +1,17 @@
 // The deal of a board: a dealer's digit, then the hands of S, W, N, E (parse_md, parse_lin_hand, calculate_fourth_hand).
-ghost use Rattle.std.specs.Prelude.{◌≡◌, ◌≤◌, ◌<◌, ◌^◌, IfSome, unwrap_or};
-ghost use Rattle.tables.specs.Text.{starts};
-ghost use Rattle.reader.specs.Deals.{InDeck};
+// Contracts say `unwrap_or result 4` and 52: the definitions take a dealer, a suit and a card by the numbers of tables and reader, where 4
+// and 52 are none, so that they compare below 4 and 52 what an Option would have to be matched for.
+ghost use Rattle.std.specs.Prelude.{◌≡◌, ◌≤◌, ◌<◌, ◌^◌, ◌&&◌, cond, eqb, length, Some, IfSome, unwrap_or};
+ghost use Rattle.tables.specs.Letters.{rank_of};
+ghost use Rattle.tables.specs.Text.{starts, trimmed};
+ghost use Rattle.reader.specs.Deals.{InDeck, card_count};
+ghost use Rattle.reader.specs.DealSteps.{IsGrown, place};
+ghost use Rattle.reader.specs.Words.{card_number};
 ghost use Rattle.lin.specs.Dealing.{dealer_of, hand_of};
-ghost use Rattle.lin.specs.DealingSteps.{SoundPart, card_to, letter_step, IsSoundStep, hand_run, hand_read, IsSoundHand, hands_dealt, fields_dealt, told_in};
+ghost use Rattle.lin.specs.DealingSteps.{letter_step, IsGrownPart, hand_run, are_few, hands_dealt, fields_dealt, told_in};
 
 use crate::pairs::cut;
-use reader::deal::{Hands, holds, power};
+use reader::deal::{Hands, card_added};
 use reader::words::card_number;
 use tables::letters::{Conventions, rank_of, suit_of};
 use tables::text::{first_character, from, is_inside, trim};
@@ -14,20 +19,12 @@ use tables::text::{first_character, from, is_inside, trim};
 // All 52 cards.
 const DECK: u64 = 4503599627370495;
 
-// A hand that is being read: the cards so far, with those of the hands before it, how many are its own, and its suit. That it is sound
-// stands in the contracts, and not in a ghost field, since the specs make parts too and would have to prove it at each.
+// A hand that is being read: the cards so far, with those of the hands before it, and its suit. That they are below 2 ^ 52 stands in the
+// contracts of four functions, and not in a ghost field: each part that specs/DealingSteps.antt makes would have to prove it.
 #[derive(Clone, Copy)]
 pub struct LinPart {
     pub cards: u64,
-    pub count: usize,
-    pub suit: u8,
-}
-
-// A hand once it is read: the cards, with those of the hands before it, and how many are its own.
-#[derive(Clone, Copy)]
-pub struct LinHand {
-    pub cards: u64,
-    pub count: usize,
+    pub suit: Option<u8>,
 }
 
 // What is kept of the md in force: its dealer; its hands, where no card stands twice and no hand has more than 13.
@@ -51,43 +48,36 @@ fn dealer_of(b: u8) -> Option<usize>
     }
 }
 
-// The card k put to a hand.
-fn card_to(h: LinPart, k: u8) -> Option<LinPart>
-    requires { SoundPart h × (k < 52) × (h.count < 2 ^ 63) }
-    ensures { (result ≡ card_to h k) × IsSoundStep h result }
+// The card of a rank's letter in the suit before it.
+fn card_of(c: Conventions, suit: Option<u8>, b: u8) -> Option<u8>
+    ensures { (unwrap_or result 52 ≡ card_number (unwrap_or suit 4) (rank_of c b)) × IfSome result (λ k. k < 52) }
 {
-    if holds(h.cards, k) {
-        return None; // the card stands twice
-    }
-    Some(LinPart {
-        cards: h.cards + power(k),
-        count: h.count + 1,
-        suit: h.suit,
-    })
+    card_number(suit?, rank_of(c, b)?)
 }
 
-// One character of a hand: a suit's letter, a rank's, or another.
-#[tactic(auto, unfolding(crate::specs::DealingSteps::letter_step, reader::specs::Words::card_number))]
+// One character of a hand: a suit's letter, a rank's, or another; None where a card stands twice.
+#[tactic(auto, unfolding(crate::specs::DealingSteps::letter_step))]
 fn hand_step(c: Conventions, h: LinPart, b: u8) -> Option<LinPart>
-    requires { SoundPart h × (h.count < 2 ^ 63) }
-    ensures { (result ≡ letter_step c h b) × IsSoundStep h result }
+    requires { h.cards < 2 ^ 52 }
+    ensures { (result ≡ letter_step c h b) × IsGrownPart h.cards result }
 {
     if let Some(suit) = suit_of(c, b) {
-        return Some(LinPart { suit, ..h });
+        return Some(LinPart {
+            suit: Some(suit),
+            ..h
+        });
     }
-    let Some(rank) = rank_of(c, b) else {
+    let Some(k) = card_of(c, h.suit, b) else {
         return Some(h);
     };
-    let Some(k) = card_number(h.suit, rank) else {
-        return Some(h);
-    };
-    card_to(h, k)
+    let cards = card_added(h.cards, k)?;
+    Some(LinPart { cards, ..h })
 }
 
 // The characters that start in s, which follows a hand's first byte.
-fn hand_rest(c: Conventions, start: LinPart, s: &[u8]) -> Option<LinHand>
-    requires { SoundPart start × (start.count ≤ 1) }
-    ensures { (result ≡ hand_run c start (starts s.now)) × IsSoundHand start.cards result }
+fn hand_rest(c: Conventions, start: LinPart, s: &[u8]) -> Option<u64>
+    requires { start.cards < 2 ^ 52 }
+    ensures { (result ≡ hand_run c start (starts s.now)) × IsGrown start.cards result }
 {
     let mut h = start;
     for (i, b) in s.iter().enumerate() {
@@ -95,60 +85,69 @@ fn hand_rest(c: Conventions, start: LinPart, s: &[u8]) -> Option<LinHand>
             h = hand_step(c, h, first_character(from(s, i)))?;
         }
     }
-    Some(LinHand {
-        cards: h.cards,
-        count: h.count,
-    })
+    Some(h.cards)
 }
 
 // The hand of a field, put to the cards of the hands before it.
-fn read_hand(c: Conventions, seen: u64, field: &[u8]) -> Option<LinHand>
+fn read_hand(c: Conventions, seen: u64, field: &[u8]) -> Option<u64>
     requires { seen < 2 ^ 52 }
-    ensures { (result ≡ hand_read seen (hand_of c field.now)) × IsSoundHand seen result }
+    ensures { (result ≡ place seen (hand_of c field.now)) × IsGrown seen result }
 {
     if field.is_empty() {
-        return Some(LinHand {
-            cards: seen,
-            count: 0,
-        });
+        return Some(seen);
     }
     let start = LinPart {
         cards: seen,
-        count: 0,
-        suit: 4,
+        suit: None,
     };
     let h = hand_step(c, start, first_character(field))?;
     hand_rest(c, h, from(field, 1))
 }
 
-// The hands of four fields, S, W, N, E. East's may be all the cards that the others do not hold.
+#[tactic(auto, using(reader::proofs::CardSets::count_is))]
+fn has_thirteen(x: u64) -> bool
+    ensures { result ≡ eqb (card_count x) 13 }
+{
+    x.count_ones() == 13
+}
+
+// No hand has more than 13 cards.
+#[tactic(auto, using(reader::proofs::CardSets::count_is))]
+fn are_few(h: Hands) -> bool
+    ensures { result ≡ are_few h }
+{
+    (h.south.count_ones() <= 13)
+        & ((h.west.count_ones() <= 13)
+            & ((h.north.count_ones() <= 13) & (h.east.count_ones() <= 13)))
+}
+
+// East's hand, which is all other cards where its field is missing or white and the other hands are full.
+fn read_east(c: Conventions, seen: u64, full: bool, field: &[u8]) -> Option<u64>
+    requires { seen < 2 ^ 52 }
+    ensures { (result ≡ cond (eqb (length (trimmed field.now)) 0 && full) (Some 4503599627370495) (place seen (hand_of c field.now))) × IsGrown seen result }
+{
+    if trim(field).is_empty() & full {
+        return Some(DECK);
+    }
+    read_hand(c, seen, field)
+}
+
+// The hands of four fields, S, W, N, E.
 fn read_hands(c: Conventions, s: &[u8], w: &[u8], n: &[u8], e: &[u8]) -> Option<Hands>
     ensures { (result ≡ hands_dealt c s.now w.now n.now e.now) × IfSome result InDeck }
 {
-    let south = read_hand(c, 0, s)?;
-    let west = read_hand(c, south.cards, w)?;
-    let north = read_hand(c, west.cards, n)?;
-    if (13 < south.count) | ((13 < west.count) | (13 < north.count)) {
-        return None;
-    }
-    if (trim(e).len() == 0) & ((south.count == 13) & ((west.count == 13) & (north.count == 13))) {
-        return Some(Hands {
-            north: north.cards - west.cards,
-            east: DECK - north.cards,
-            south: south.cards,
-            west: west.cards - south.cards,
-        });
-    }
-    let east = read_hand(c, north.cards, e)?;
-    if 13 < east.count {
-        return None;
-    }
-    Some(Hands {
-        north: north.cards - west.cards,
-        east: east.cards - north.cards,
-        south: south.cards,
-        west: west.cards - south.cards,
-    })
+    let a = read_hand(c, 0, s)?;
+    let b = read_hand(c, a, w)?;
+    let d = read_hand(c, b, n)?;
+    let full = has_thirteen(a) & (has_thirteen(b - a) & has_thirteen(d - b));
+    let x = read_east(c, d, full, e)?;
+    let hands = Hands {
+        north: d - b,
+        east: x - d,
+        south: a,
+        west: b - a,
+    };
+    are_few(hands).then_some(hands)
 }
 
 // The hands behind a dealer's digit.

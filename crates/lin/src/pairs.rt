@@ -2,9 +2,9 @@
 ghost use Rattle.std.specs.Prelude.{◌≡◌, ◌+◌, length, drop};
 ghost use Rattle.tables.specs.Text.{before};
 ghost use Rattle.lin.specs.Pairs.{command_of, pairs_of, has_pair};
-ghost use Rattle.lin.specs.PairSteps.{two_same, command_two, NextIs, pairs_room, pairs_left};
+ghost use Rattle.lin.specs.PairSteps.{NextIs, pairs_room, pairs_left};
 
-use tables::letters::to_capital;
+use reader::words::same_word;
 use tables::text::{from, index_of, trim, upto};
 
 // The commands that count: Heading is mn or pn, Other any that does not count.
@@ -43,47 +43,31 @@ pub(crate) fn cut(s: &[u8], x: u8) -> (&[u8], &[u8])
     (upto(s, n), from(s, n + 1))
 }
 
-// The letters a and b, in either case, are the word of the capitals x and y.
-#[tactic(auto, unfolding(crate::specs::PairSteps::two_same))]
-fn is_word(x: u8, y: u8, a: u8, b: u8) -> bool
-    ensures { result ≡ two_same x y a b }
+// The command of a name, trimmed and taken in either case.
+#[tactic(auto, unfolding(crate::specs::Pairs::command_of))]
+fn command_of(name: &[u8]) -> Command
+    ensures { result ≡ command_of name.now }
 {
-    (x == to_capital(a)) & (y == to_capital(b))
-}
-
-// The command of two letters.
-#[tactic(auto, unfolding(crate::specs::PairSteps::command_two))]
-fn command_of_two(a: u8, b: u8) -> Command
-    ensures { result ≡ command_two a b }
-{
-    if is_word(b'Q', b'X', a, b) {
+    let t = trim(name);
+    if same_word(b"QX", t) {
         return Command::Qx;
     }
-    if is_word(b'M', b'N', a, b) | is_word(b'P', b'N', a, b) {
+    if same_word(b"MN", t) | same_word(b"PN", t) {
         return Command::Heading;
     }
-    if is_word(b'M', b'D', a, b) {
+    if same_word(b"MD", t) {
         return Command::Md;
     }
-    if is_word(b'S', b'V', a, b) {
+    if same_word(b"SV", t) {
         return Command::Sv;
     }
-    if is_word(b'M', b'B', a, b) {
+    if same_word(b"MB", t) {
         return Command::Mb;
     }
-    if is_word(b'P', b'C', a, b) {
+    if same_word(b"PC", t) {
         return Command::Pc;
     }
     Command::Other
-}
-
-fn command_of(s: &[u8]) -> Command
-    ensures { result ≡ command_of s.now }
-{
-    match trim(s) {
-        [a, b] => command_of_two(*a, *b),
-        _ => Command::Other,
-    }
 }
 
 impl<'a> Iterator for Pairs<'a> {

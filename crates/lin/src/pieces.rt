@@ -1,20 +1,23 @@
 // Which pairs make a board (parse_lin_file, split_at_boards), and the boards put one after the other.
-ghost use Rattle.std.specs.Prelude.{◌≡◌, ◌≤◌, ◌^◌};
+ghost use Rattle.std.specs.Prelude.{◌≡◌, ◌≤◌, ◌^◌, eqb};
 ghost use Rattle.tables.specs.Text.{lines};
 ghost use Rattle.tables.specs.Puts.{Puts};
 ghost use Rattle.lin.specs.Pairs.{pairs_of};
 ghost use Rattle.lin.specs.Pieces.{split, with_deal, line_pieces, board_pieces};
-ghost use Rattle.lin.specs.PieceSteps.{NextLine, lines_room, no_progress, above_text, any_bits, Goes, GoesIf, GoesAll};
+ghost use Rattle.lin.specs.PieceSteps.{no_progress, above_text, any_bits, Goes, GoesIf, GoesAll};
 
 use crate::board::put_board;
-use crate::pairs::{Command, cut, has_pair, pairs_in};
+use crate::pairs::{Command, has_pair, pairs_in};
 use crate::survey::survey_of;
 use reader::deal::Hands;
 use tables::letters::Conventions;
+use tables::lines::lines_of;
 use tables::page::Page;
 use tables::text::{from, trim, upto};
+use writer::page::put_header;
 
-// How far the page has come: the boards, which all make deals, and whether one of them has a card.
+// How far the page has come: the boards, which all make deals, and whether one of them has a card. They are counted before one has, too:
+// the header stands above the first of all.
 #[derive(Clone, Copy)]
 pub struct Progress {
     pub boards: u64,
@@ -31,16 +34,16 @@ fn no_progress() -> Progress
     }
 }
 
-// The built-in header before the first board, an empty line before any other.
-#[tactic(auto, unfolding(crate::specs::PieceSteps::above_text, writer::specs::Pages::built_in_header))]
-fn put_above(page: &mut Page, first: bool)
-    ensures { Puts page.old (above_text first) page.new }
+// What stands above the next board: the built-in header, or an empty line.
+#[tactic(auto, unfolding(crate::specs::PieceSteps::above_text))]
+fn put_above(page: &mut Page, g: Progress)
+    ensures { Puts page.old (above_text (eqb g.boards 0)) page.new }
 {
-    if first {
-        page.put_text(b"% PBN 2.1\n% EXPORT\n\n");
+    if g.boards == 0 {
+        put_header(page);
         return;
     }
-    page.put_byte(10);
+    page.put_byte(b'\n');
 }
 
 #[tactic(auto, unfolding(crate::specs::PieceSteps::any_bits))]
@@ -57,7 +60,7 @@ fn put_piece(page: &mut Page, c: Conventions, text: &[u8], g: Progress) -> Optio
 {
     let s = survey_of(c, text);
     let hands = s.deal.hands?;
-    put_above(page, g.boards == 0);
+    put_above(page, g);
     put_board(page, c, text, s, hands);
     Some(Progress {
         boards: g.boards + 1,
@@ -76,40 +79,17 @@ fn put_dealt(page: &mut Page, c: Conventions, text: &[u8], g: Progress) -> Optio
     Some(g)
 }
 
-// The lines of a text that are left, without their LFs.
-#[derive(Clone, Copy)]
-pub(crate) struct Lines<'a> {
-    pub rest: &'a [u8],
-}
-
-impl<'a> Iterator for Lines<'a> {
-    type Item = &'a [u8];
-
-    ghost next_gives = { NextLine };
-
-    ghost remaining = { lines_room };
-
-    fn next(&mut self) -> Option<&'a [u8]> {
-        if self.rest.len() > 0 {
-            let (line, rest) = cut(self.rest, b'\n');
-            self.rest = rest;
-            return Some(line);
-        }
-        None
-    }
-}
-
 // The boards of a text without a qx: its lines.
 fn put_lines(page: &mut Page, c: Conventions, text: &[u8]) -> Option<Progress>
     ensures { GoesAll c (line_pieces (lines text.now)) page.old page.new result }
 {
     let mut g = no_progress();
-    for l in (Lines { rest: text }) {
+    for l in lines_of(text) {
         let line = trim(l);
-        if line.len() > 0 {
-            g = put_piece(page, c, line, g)?;
+        if line.is_empty() {
             continue;
         }
+        g = put_piece(page, c, line, g)?;
     }
     Some(g)
 }

@@ -1,4 +1,5 @@
-// The cards (parse_card), their tricks, and the data lines of the play.
+// The cards (parse_card), their tricks, and the data lines of the play. A contract says `unwrap_or result 52` since the definition of a card
+// is reader's for two characters, whose number for none is 52.
 ghost use Rattle.std.specs.Prelude.{◌≡◌, ◌≤◌, ◌<◌, IfSome, unwrap_or};
 ghost use Rattle.tables.specs.Puts.{Puts};
 ghost use Rattle.lin.specs.Pairs.{pairs_of};
@@ -7,7 +8,7 @@ ghost use Rattle.lin.specs.Playing.{card_in, cards_played, slot_at, slot_word};
 ghost use Rattle.lin.specs.PlayingSteps.{card_at, word_text, trick_text, FineTrick, taken, empty_trick, next_trick, trick_texts, last_line};
 
 use crate::pairs::{Command, PairAt, pairs_in};
-use reader::play::{Slots, no_slots, slot_of, winner, with_slot};
+use reader::play::{Slots, Terms, no_slots, slot_of, winner, with_slot};
 use reader::words::card_named;
 use tables::letters::Conventions;
 use tables::page::Page;
@@ -35,8 +36,8 @@ pub(crate) fn card_at(c: Conventions, p: PairAt) -> Option<u8>
     None
 }
 
-// A trick of at most four cards: its leader, its cards, and how many they are. That it is fine stands in the contracts, and not in a ghost
-// field, since the specs make tricks too and would have to prove it at each.
+// A trick of at most four cards: its leader, its cards, and how many they are. That it is fine stands in five contracts, and not in a ghost
+// field: specs/PlayingSteps.antt makes tricks of any leader and slots (`empty_trick`, `taken`), which then would have to ask for the bounds.
 #[derive(Clone, Copy)]
 pub struct LinTrick {
     pub leader: usize,
@@ -56,7 +57,8 @@ fn slot_at(s: Slots, k: usize) -> usize
     }
 }
 
-// A card, or `-`.
+// A card, or `-`. The writer's put_slot shares no more than put_card with it: for an empty slot it puts nothing, and before a card a blank
+// where it is not the first.
 #[tactic(auto, unfolding(crate::specs::Playing::slot_word))]
 fn put_slot(page: &mut Page, c: Conventions, k: usize)
     ensures { Puts page.old (slot_word c k) page.new }
@@ -69,38 +71,42 @@ fn put_slot(page: &mut Page, c: Conventions, k: usize)
 }
 
 // The word of the j-th seat from the opening leader on.
-fn put_word(page: &mut Page, c: Conventions, lead: usize, t: LinTrick, j: usize)
-    requires { (lead ≤ 3) × (j ≤ 4) × FineTrick t }
-    ensures { Puts page.old (word_text c lead t j) page.new }
+fn put_word(page: &mut Page, by: Terms, t: LinTrick, j: usize)
+    requires { (j ≤ 4) × FineTrick t }
+    ensures { Puts page.old (word_text by.c by.lead t j) page.new }
 {
-    put_slot(page, c, slot_at(t.slots, slot_of(lead, j, t.leader)));
+    put_slot(
+        page,
+        by.c,
+        slot_at(t.slots, slot_of(usize::from(by.lead), j, t.leader)),
+    );
 }
 
 // A trick's line: four words by seat from the opening leader on.
-fn put_line(page: &mut Page, c: Conventions, lead: usize, t: LinTrick)
-    requires { (lead ≤ 3) × FineTrick t }
-    ensures { Puts page.old (trick_text c lead t) page.new }
+fn put_line(page: &mut Page, by: Terms, t: LinTrick)
+    requires { FineTrick t }
+    ensures { Puts page.old (trick_text by.c by.lead t) page.new }
 {
-    put_word(page, c, lead, t, 0);
-    page.put_byte(32);
-    put_word(page, c, lead, t, 1);
-    page.put_byte(32);
-    put_word(page, c, lead, t, 2);
-    page.put_byte(32);
-    put_word(page, c, lead, t, 3);
-    page.put_byte(10);
+    put_word(page, by, t, 0);
+    page.put_byte(b' ');
+    put_word(page, by, t, 1);
+    page.put_byte(b' ');
+    put_word(page, by, t, 2);
+    page.put_byte(b' ');
+    put_word(page, by, t, 3);
+    page.put_byte(b'\n');
 }
 
 // The line of a last trick, where it has a card.
 #[tactic(auto, unfolding(crate::specs::PlayingSteps::last_line))]
-fn put_rest(page: &mut Page, c: Conventions, lead: usize, t: LinTrick)
-    requires { (lead ≤ 3) × FineTrick t }
-    ensures { Puts page.old (last_line c lead t) page.new }
+fn put_rest(page: &mut Page, by: Terms, t: LinTrick)
+    requires { FineTrick t }
+    ensures { Puts page.old (last_line by.c by.lead t) page.new }
 {
     if t.count == 0 {
         return;
     }
-    put_line(page, c, lead, t);
+    put_line(page, by, t);
 }
 
 // One more card.
@@ -119,7 +125,7 @@ fn take_card(t: LinTrick, card: u8) -> LinTrick
 
 // A trick without cards.
 fn new_trick(leader: usize) -> LinTrick
-    requires { leader ≤ 4 }
+    requires { leader ≤ 255 }
     ensures { (result ≡ empty_trick leader) × FineTrick result }
 {
     let slots = no_slots();
@@ -139,23 +145,22 @@ fn next_trick(trump: usize, t: LinTrick) -> LinTrick
     new_trick(winner(trump, t.leader, s))
 }
 
-// The lines of the tricks; lead is the opening leader.
-pub(crate) fn put_tricks(page: &mut Page, c: Conventions, text: &[u8], lead: usize, trump: usize)
-    requires { lead ≤ 3 }
-    ensures { Puts page.old (trick_texts c lead trump (empty_trick lead) (cards_played c (pairs_of text.now))) page.new }
+// The lines of the tricks.
+pub(crate) fn put_tricks(page: &mut Page, by: Terms, text: &[u8])
+    ensures { Puts page.old (trick_texts by.c by.lead by.trump (empty_trick by.lead) (cards_played by.c (pairs_of text.now))) page.new }
 {
-    let mut t = new_trick(lead);
+    let mut t = new_trick(usize::from(by.lead));
     for p in pairs_in(text) {
-        let Some(card) = card_at(c, p) else {
+        let Some(card) = card_at(by.c, p) else {
             continue;
         };
         let u = take_card(t, card);
         if u.count == 4 {
-            put_line(page, c, lead, u);
-            t = next_trick(trump, u);
+            put_line(page, by, u);
+            t = next_trick(by.trump, u);
             continue;
         }
         t = u;
     }
-    put_rest(page, c, lead, t);
+    put_rest(page, by, t);
 }

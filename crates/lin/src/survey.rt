@@ -12,7 +12,9 @@ use reader::deal::Hands;
 use tables::letters::Conventions;
 use tables::text::trim;
 
-// What is known of a board after some of its pairs; seat is the next caller's, counted from the dealer.
+// What is known of a board after some of its pairs: whether there are calls and cards; seat is the next caller's, counted from the dealer.
+// Seat and contract hold before the first call too, as the dealer's and none, with which it starts: an Option of them would be unwrapped to
+// these.
 #[derive(Clone, Copy)]
 pub struct Survey {
     pub deal: LinDealing,
@@ -49,7 +51,7 @@ fn no_survey() -> Survey
     }
 }
 
-// One more call, where there is one.
+// One more call, where there is one; 47 is none in the definition of calls.
 #[tactic(auto, unfolding(crate::specs::SurveySteps::survey_call))]
 fn survey_call(s: Survey, call: Option<u8>) -> Survey
     requires { IfSome call (λ k. k < 47) }

@@ -7,20 +7,19 @@ use lib.ListN.{length}
 use borrow.Author.Tests.{lt-ltb, le-ltb}
 use Rattle.std.specs.Prelude.{Result, Ok, Err, is_ok}
 use Rattle.tables.specs.declared.letters.Conventions.{Conventions}
+use Rattle.tables.specs.declared.refused.Edition.TheVariants.{Old}
 use Rattle.reader.specs.declared.edition.ReadRefusal.{ReadRefusal}
 use Rattle.reader.specs.declared.edition.ReadRefusal.TheVariants.{Overlong}
 use Rattle.reader.specs.declared.edition.Counts.{Counts}
 use Rattle.reader.specs.Editions.{IsRead}
-use Rattle.planning.specs.declared.editions.EditionsRefusal.TheVariants.{Old}
-use Rattle.planning.specs.Plans.{Boxes, both_after, editions_of, BothRead, Editions}
+use Rattle.planning.specs.Plans.{Boxes, four, both_after, editions_of, BothRead, Editions}
 use Rattle.planning.specs.PlanSteps.{BoxesKept}
-use Rattle.planning.proofs.BoxLaws.{four}
 use Rattle.listing_text.specs.Limited.{limited_of, limited_both}
 use Rattle.listing_text.specs.ListingSteps.{BothLimited}
 
 module _ {c : Conventions} {limit : ℕ} {old new : List ℕ} where
   pub old_long : {boxes boxes' : Boxes} → limit < length old → BoxesKept false boxes boxes'
-      → BothLimited c limit old new boxes boxes' (Err (Old (Overlong (length old))))
+      → BothLimited c limit old new boxes boxes' (Err (record { edition = Old; refusal = Overlong (length old) }))
   unfolding limited_both limited_of
   old_long h k = record {
     answer = rw (lt-ltb limit (length old) h);

@@ -1,37 +1,39 @@
 -- Laws of the listing: editions with a limit, the lines of all boards, and the page.
-use Prim.Native.Nat.{ℕ, ◌+◌, ◌*◌, ◌/◌, ◌≤◌, ◌<◌}
+use Prim.Native.Nat.{ℕ, ◌*◌, ◌/◌, ◌≤◌}
 use mathlib.Core.Path.{◌≡◌, refl, sym, ap, ◌∙◌, subst, subst⁻¹}
 use mathlib.Core.Bool.{Bool, true, false, cond}
 use mathlib.Core.List.{List, ◌++◌}
 use native.Mathlib.Omega.{arith}
 use lib.Dec.{ltb, leb}
-use lib.ListN.{length, take, replicate, length-replicate}
-use lib.Seq.{length-sets}
+use lib.ListN.{length, replicate, length-replicate, length-append}
 use Rattle.std.specs.Prelude.{is_ok, Ok, Err, Result}
+use Rattle.std.specs.Result.{is_err}
 use Rattle.tables.specs.declared.letters.Conventions.{Conventions}
 use Rattle.tables.specs.Page.{Wrote}
-use Rattle.tables.specs.PageSteps.{Put}
+use Rattle.tables.specs.PageSteps.{PageEnded}
+use Rattle.tables.specs.Puts.{Puts}
+use Rattle.tables.specs.declared.page.Page.{Page}
 use Rattle.tables.proofs.Laws.{by_cases, clash}
-use Rattle.tables.proofs.PageLaws.{ToPut, to_put, putting, put_all_lem, finished}
+use Rattle.tables.proofs.PutsLaws.{ended}
 use Rattle.reader.specs.Store.{zeros, put_all, lent}
 use Rattle.reader.specs.Editions.{reading_of}
 use Rattle.reader.proofs.StoreLaws.{Blocks, put_zeros}
 use Rattle.reader.proofs.Counts.{TextBoardsFew}
-use Rattle.planning.specs.declared.state.BoardState.{BoardState}
 use Rattle.planning.specs.declared.editions.EditionsRefusal.{EditionsRefusal}
 use Rattle.planning.specs.declared.plan.PlanRefusal.{PlanRefusal}
 use Rattle.planning.specs.declared.plan.PlanRefusal.TheVariants.{Edition}
 use Rattle.planning.specs.declared.editions.Both.{Both}
 use Rattle.planning.specs.declared.plan.Totals.{Totals}
 use Rattle.planning.specs.PlanSteps.{cards_in, BoxesKept, PlanEnded}
-use Rattle.planning.specs.States.{BoardPlan, board_plans, state_of}
-use Rattle.planning.specs.Slips.{slips_of, totals_of, card_from}
+use Rattle.planning.specs.States.{BoardPlan, board_plans}
+use Rattle.planning.specs.Slips.{slips_of, totals_of}
 use Rattle.planning.specs.Plans.{Boxes, editions_of, plans_of, slips_answer, planned_by, BoxesAfter, BothRead, Editions, Planning}
 use Rattle.listing_text.specs.Limited.{limited_of, limited_both}
 use Rattle.listing_text.specs.ListingSteps.{BothLimited, Countable, PageKept, BoardsOnPage}
-use Rattle.listing_text.specs.Listing.{board_line, listing_lines, total_line, refused_line, list_text, listing_plan, well_on, ListingFor, IsListing}
+use Rattle.listing_text.specs.Listing.{listing_lines, total_line, refused_line, list_text, listing_plan, well_on, ListingFor, IsListing}
+use Rattle.listing_text.proofs.LineLaws.{LinesFew, total_few}
 use Rattle.planning.proofs.BothLaws.{both_are_taken, taken_short}
-use Rattle.planning.proofs.BoardLaws.{boards_left, left_first, left_step, left_none, boards_count}
+use Rattle.planning.proofs.BoardLaws.{boards_count}
 use Rattle.planning.proofs.PlanLaws.{count_few}
 use Rattle.planning.proofs.SlipLaws.{slips_count, slips_five}
 use Rattle.planning.proofs.AnswerLaws.{SameRoom, boxes_kept, listed_fits, solve_sum, there, boards_are}
@@ -86,43 +88,6 @@ module _ {c : Conventions} {limit : ℕ} {old new : List ℕ} {boxes boxes' : Bo
         omega (arith, t.1.count, TextBoardsFew c new, (within e).new_short),
       )
 
--- ---- the lines of all boards, one after the other
-
-pub record Lines (os ns : List (List ℕ)) (page₀ page : List ℕ) (at k : ℕ) : Type 0 where
-  pub inside : k ≤ length ns
-  pub low : at ≤ 60 * k
-  pub left : ToPut page₀ 0 (listing_lines (board_plans os ns)) page at (listing_lines (boards_left os ns k))
-
-pub lines_first : (os ns : List (List ℕ)) (page : List ℕ) → Lines os ns page page 0 0
-lines_first os ns page =
-    record {
-      inside = omega arith;
-      low = omega arith;
-      left = subst (λ (js : List BoardPlan). ToPut page 0 (listing_lines (board_plans os ns)) page 0 (listing_lines js)) (left_first os ns) (to_put page 0 (listing_lines (board_plans os ns)));
-    }
-
-module _ {os ns : List (List ℕ)} {page₀ page : List ℕ} {at k : ℕ} (i : Lines os ns page₀ page at k) where
-  pub lines_next : {p : ℕ} {s : BoardState} {page' : List ℕ} {at' : ℕ} → k < length ns → p ≡ k + 1 → s ≡ state_of os ns (take k ns) (card_from ns k)
-      → Put page at (board_line p s) page' at' → at' ≤ at + 60 → Lines os ns page₀ page' at' (k + 1)
-  lines_next {p} {s} {page'} {at'} h ep es w hl =
-      let all = listing_lines (board_plans os ns) in
-      let rest = listing_lines (boards_left os ns (k + 1)) in
-      let here = board_line (k + 1) (state_of os ns (take k ns) (card_from ns k)) in
-      let l : ToPut page₀ 0 all page at (here ++ rest) = subst (λ (js : List BoardPlan). ToPut page₀ 0 all page at (listing_lines js)) (left_step os ns k h) i.left in
-      let w' : Put page at here page' at' = rw (ep, es) at w in
-      record {
-        inside = omega arith;
-        low = omega (arith, i.low);
-        left = putting here rest l w';
-      }
-
-  pub lines_end : length ns ≤ k → Put page₀ 0 (listing_lines (board_plans os ns)) page at × (at ≤ 60 * length ns)
-  lines_end h =
-      let all = listing_lines (board_plans os ns) in (
-        put_all_lem (subst (λ (js : List BoardPlan). ToPut page₀ 0 all page at (listing_lines js)) (left_none os ns k h) i.left),
-        omega (arith, i.low, i.inside),
-      )
-
 -- ---- totals fit 32 bits
 
 totals_low : (js : List BoardPlan) → length js ≤ 16777215 → Countable (totals_of js)
@@ -156,6 +121,20 @@ listed_low os ns {slips = slips} {t = t} {u = u} et h p e =
     subst⁻¹ Countable eu (totals_low js (rw (boards_count os ns) h))
 
 -- ---- the end
+
+-- A page is finished: the other lent words stay, unless the text does not fit.
+pub listing_fits : {n : ℕ} {page page' : List ℕ} {r : Result ℕ Refusal} (boxes : Boxes) (slips : List ℕ) → PageEnded n page page' r → is_err r ≡ false → PageKept n boxes slips page boxes slips page' r
+listing_fits {n} {page} boxes slips e t =
+    by_cases (leb n (length page))
+    (λ q. record { end = e; boxes_left = rw q (record { old_cards = refl; old_entries = refl; new_cards = refl; new_entries = refl }); slips_after = rw q })
+    (λ q. clash (sym t ∙ ap is_err e.told ∙ rw q))
+
+pub listing_full : {n : ℕ} {boxes boxes' : Boxes} {slips slips' page page' : List ℕ} {r : Result ℕ Refusal} → PageEnded n page page' r → is_err r ≡ true → BoxesKept false boxes boxes' → slips' ≡ zeros slips
+    → PageKept n boxes slips page boxes' slips' page' r
+listing_full {n} {page = page} e t k z =
+    by_cases (leb n (length page))
+    (λ q. clash (sym (ap is_err e.told ∙ rw q) ∙ t))
+    (λ q. record { end = e; boxes_left = rw q k; slips_after = rw q z })
 
 -- What the answer of the plan is called does not matter.
 listed_as : {js : List BoardPlan} {boxes : Boxes} {slips page : List ℕ} {boxes' : Boxes} {slips' page' : List ℕ} {r : Result ℕ Refusal} (q : Planning) → q ≡ slips_answer (length slips / 5) (totals_of js)
@@ -191,25 +170,26 @@ module _ (js : List BoardPlan) (slips : List ℕ) {boxes : Boxes} {ps : List ℕ
     subst (λ (x : Planning). slips' ≡ cond (is_ok x) ps (zeros ps)) e p.slips_after,
   )
 
-  pub boards_listed : (a b : ℕ) {u : Totals} {boxes'' : Boxes} {slips'' page page₁ page' : List ℕ} {n : ℕ} {r : Result ℕ Refusal} → js ≡ board_plans (cards_in a boxes.old_cards) (cards_in b boxes.new_cards) → q ≡ Ok u
-      → Put page 0 (listing_lines (board_plans (cards_in a boxes'.old_cards) (cards_in b boxes'.new_cards)) ++ total_line u) page₁ n
-      → PageKept n boxes' slips' page₁ boxes'' slips'' page' r
+  pub boards_listed : (a b : ℕ) {u : Totals} {boxes'' : Boxes} {slips'' page page₁ page' : List ℕ} {p₀ p₁ : Page} {r : Result ℕ Refusal} → js ≡ board_plans (cards_in a boxes.old_cards) (cards_in b boxes.new_cards) → q ≡ Ok u
+      → Puts p₀ (listing_lines (board_plans (cards_in a boxes'.old_cards) (cards_in b boxes'.new_cards)) ++ total_line u) p₁ → p₀.at ≡ 0 → p₀.bytes.now ≡ page → length js ≤ 16777215
+      → PageKept p₁.at boxes' slips' p₁.bytes.now boxes'' slips'' page₁ r → page₁ ≡ page'
       → BoardsOnPage js boxes slips page boxes'' slips'' page' r
   unfolding well_on
-  boards_listed a b {u} {boxes''} {slips''} {page} {page₁} {page'} {n} ej e w z =
+  boards_listed a b {u} {boxes''} {slips''} {page} {page'} {p₀} {p₁} ej e w at0 from few z left =
       let k = listed_boxes e in
       let same : board_plans (cards_in a boxes'.old_cards) (cards_in b boxes'.new_cards) ≡ js = rw (k.0.old_cards, k.0.new_cards) (sym ej) in
       let text = listing_lines js ++ total_line u in
-      let w' : Put page 0 text page₁ n = rw same at w in
-      let en : n ≡ length text = omega (arith, w'.next) in
-      let ep : length page₁ ≡ length page = rw (w'.after, length-sets) in
-      let fit : leb n (length page₁) ≡ leb (length text) (length page) = rw (en, ep) in
+      let w' : Puts p₀ text p₁ = rw same at w in
+      let short : length text ≤ 549755813888 = rw length-append (omega (arith, LinesFew js, total_few u, few)) in
+      let en : p₁.at ≡ length text = omega (arith, (w'.put (omega (arith, at0, short))).next, at0) in
+      let ep : length p₁.bytes.now ≡ length page = w'.kept ∙ ap length from in
+      let fit : leb p₁.at (length p₁.bytes.now) ≡ leb (length text) (length page) = rw (en, ep) in
       let z' : BoxesKept (leb (length text) (length page)) boxes' boxes'' = subst (λ (x : Bool). BoxesKept x boxes' boxes'') fit z.boxes_left in
       let well = leb (length text) (length page) in
       listed_as
       (Ok u)
       (sym e ∙ answer_is)
-      (finished w' z.end)
+      (ended z.end w' at0 from left short)
       record {
         old_cards = rw k.0.old_cards at z'.old_cards;
         old_entries = rw k.0.old_entries at z'.old_entries;

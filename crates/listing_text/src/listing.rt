@@ -2,7 +2,7 @@
 ghost use Rattle.std.specs.Prelude.{◌≡◌, ◌++◌, ◌*◌, ◌≤◌, length};
 ghost use Rattle.tables.specs.Letters.{built_in};
 ghost use Rattle.tables.specs.Page.{Wrote};
-ghost use Rattle.tables.specs.PageSteps.{Put};
+ghost use Rattle.tables.specs.Puts.{Puts};
 ghost use Rattle.planning.specs.PlanSteps.{cards_in};
 ghost use Rattle.planning.specs.States.{board_plans};
 ghost use Rattle.planning.specs.Plans.{words_of, SameLent};
@@ -17,55 +17,49 @@ use planning::numbers::zero_numbers;
 use planning::plan::{PlanRefusal, Totals, finish_plan, put_slips};
 use planning::state::state_of;
 use tables::letters::{Conventions, built_in};
-use tables::page::finish;
+use tables::page::Page;
 use tables::refusal::Refusal;
 
-// Puts the line of every board.
-fn put_lines(page: &mut [u8], olds: &[Card], news: &[Card]) -> usize
+// Puts the line of every board: by its index, since its state depends on the boards before it, and its position is put. The lengths are
+// those of texts that were read, so that a position has 32 bits; a struct of both would only be taken apart by state_of.
+fn put_lines(page: &mut Page, olds: &[Card], news: &[Card])
     requires { (length olds.now ≤ 16777215) × (length news.now ≤ 16777215) }
-    ensures { Put page.old 0 (listing_lines (board_plans olds.now news.now)) page.new result × (result ≤ 60 * length news.now) }
+    ensures { Puts page.old (listing_lines (board_plans olds.now news.now)) page.new }
 {
-    let mut at = 0;
     for k in 0..news.len() {
-        let s = state_of(olds, news, k);
-        at = put_board(page, at, (k + 1) as u64, s);
+        put_board(page, (k + 1) as u64, state_of(olds, news, k));
     }
-    at
 }
 
 // Puts the line of every board, and that of the totals.
-fn put_listing(page: &mut [u8], olds: &[Card], news: &[Card], t: Totals) -> usize
+fn put_listing(page: &mut Page, olds: &[Card], news: &[Card], t: Totals)
     requires { (length olds.now ≤ 16777215) × (length news.now ≤ 16777215) × Countable t }
-    ensures { Put page.old 0 (listing_lines (board_plans olds.now news.now) ++ total_line t) page.new result }
+    ensures { Puts page.old (listing_lines (board_plans olds.now news.now) ++ total_line t) page.new }
 {
-    let at = put_lines(page, olds, news);
-    put_total(page, at, t)
+    put_lines(page, olds, news);
+    put_total(page, t);
 }
 
 // Writes the line of a refusal, and nothing else.
 fn write_refused(page: &mut [u8], f: PlanRefusal) -> Result<u64, Refusal>
     ensures { Wrote (refused_line f) page.old page.new result }
 {
-    let n = put_refused(page, 0, f);
-    finish(page, n)
+    let mut page = Page::new(page);
+    put_refused(&mut page, f);
+    page.finish()
 }
 
-// The end of a page on which n bytes were put; all other lent words are set to 0 where they do not fit.
-fn finish_listing(
-    boxes: &mut LentBoxes,
-    slips: &mut [u64],
-    page: &mut [u8],
-    n: usize,
-) -> Result<u64, Refusal>
-    ensures kept { PageKept n (words_of boxes.old) slips.old page.old (words_of boxes.new) slips.new page.new result }
-    ensures same { SameLent boxes.old boxes.new }
+// The end of a page; all other lent words are set to 0 where the text does not fit.
+fn finish_listing(boxes: &mut LentBoxes, slips: &mut [u64], page: &mut Page) -> Result<u64, Refusal>
+    ensures kept { PageKept page.old.at (words_of boxes.old) slips.old page.old.bytes.now (words_of boxes.new) slips.new page.new.bytes.now result }
+    ensures same { SameLent boxes.old boxes.new × (page.new.bytes.ghost_name ≡ page.old.bytes.ghost_name) }
 {
-    if n <= page.len() {
-        return finish(page, n);
+    let written = page.finish();
+    if written.is_err() {
+        boxes.zero();
+        zero_numbers(slips);
     }
-    boxes.zero();
-    zero_numbers(slips);
-    finish(page, n)
+    written
 }
 
 // Lists the boards of two editions that were taken.
@@ -86,8 +80,9 @@ fn list_taken(
         Err(f) => write_refused(page, f),
         Ok(t) => {
             let (olds, news) = boxes.cards(both);
-            let n = put_listing(page, olds, news, t);
-            finish_listing(boxes, slips, page, n)
+            let mut page = Page::new(page);
+            put_listing(&mut page, olds, news, t);
+            finish_listing(boxes, slips, &mut page)
         }
     }
 }
@@ -112,8 +107,8 @@ pub fn list_with(
     }
 }
 
-// Lists a new edition, given an old one: a line for each board and the totals, or a refusal alone. An edition longer than the limit is
-// refused.
+// Lists a new edition, given an old one, by the built-in letters, which are all that the programs know; it stands beside list_with since
+// there are no default arguments. A line for each board and the totals, or a refusal alone. An edition longer than the limit is refused.
 pub fn list(
     old: &[u8],
     new: &[u8],

@@ -1,17 +1,18 @@
 -- Laws of the answers that rest on both editions read: one for each answer.
-use Prim.Native.Nat.{ℕ, ◌*◌, ◌/◌, ◌≤◌}
+use Prim.Native.Nat.{ℕ, ◌+◌, ◌*◌, ◌/◌, ◌≤◌}
 use mathlib.Core.Path.{◌≡◌, refl, sym, ap, ◌∙◌, subst}
 use mathlib.Core.Bool.{Bool, true, false, cond}
-use mathlib.Core.List.{List, []}
+use mathlib.Core.List.{List, [], ◌∷◌}
 use native.Mathlib.Omega.{arith}
 use borrow.Author.Tests.{ltb-false}
-use lib.Dec.{ltb}
+use lib.Dec.{ltb, leb}
 use lib.ListN.{length, replicate, length-replicate}
-use Rattle.std.specs.Prelude.{Option, None, Result, Ok, Err, is_ok}
+use lib.Seq.{length-sets}
+use Rattle.std.specs.Prelude.{Option, Result, Ok, Err, is_ok}
 use Rattle.std.specs.Result.{IsErrAnd}
 use Rattle.tables.specs.declared.letters.Conventions.{Conventions}
-use Rattle.tables.proofs.Laws.{clash}
-use Rattle.reader.specs.Store.{zeros, put_all}
+use Rattle.tables.proofs.Laws.{by_cases, clash}
+use Rattle.reader.specs.Store.{zeros, put, put_all}
 use Rattle.reader.specs.Editions.{cards_of}
 use Rattle.reader.proofs.EditionLaws.{ended}
 use Rattle.reader.proofs.CardLength.{CardsWhole}
@@ -27,8 +28,8 @@ use Rattle.planning.specs.declared.plan.Totals.{Totals}
 use Rattle.planning.specs.PlanSteps.{cards_in, BoxesKept, PlanEnded}
 use Rattle.planning.specs.States.{BoardPlan, board_plans, state_at}
 use Rattle.planning.specs.Searches.{searches_from, words_in_all}
-use Rattle.planning.specs.Slips.{slips_of, count_of, totals_of, behind_at, part_of, numbers_from}
-use Rattle.planning.specs.Plans.{Boxes, words_of, SameLent, Editions, Planning, editions_of, plans_of, slips_answer, planning_of, BoxesAfter, BothRead, IsPlanned, answered, behind_by, old_reading, new_reading, StateTold, BehindTold, PartTold, BoardsTold, SearchesTold}
+use Rattle.planning.specs.Slips.{slips_of, count_of, totals_of, behind_at, numbers_from}
+use Rattle.planning.specs.Plans.{Boxes, words_of, SameLent, Editions, Planning, editions_of, plans_of, slips_answer, planning_of, BoxesAfter, BothRead, IsPlanned, old_reading, new_reading, StateTold, BehindTold, BoardsTold, SearchesTold}
 use Rattle.planning.proofs.BothLaws.{CardsThere, both_cards, both_are_taken, taken_short}
 use Rattle.planning.proofs.SlipLaws.{slips_count, slips_five}
 
@@ -73,6 +74,15 @@ pub solve_sum : (js : List BoardPlan) → (totals_of js).solve ≡ count_of 5 js
 unfolding totals_of
 solve_sum js = refl
 
+-- As many words as before.
+put_length : (w : ℕ) (l : List ℕ) (n : ℕ) (ws : List ℕ) → length (put w l n ws) ≡ length l
+unfolding put
+put_length w l n ws = by_cases (leb (w * n + w) (length l)) (λ e. rw (e, length-sets)) (λ e. rw e)
+
+put_all_length : (w : ℕ) (l : List ℕ) (n : ℕ) (xs : List (List ℕ)) → length (put_all w l n xs) ≡ length l
+put_all_length w l n [] = refl
+put_all_length w l n (x ∷ xs) = put_all_length w (put w l n x) (n + 1) xs ∙ put_length w l n x
+
 -- What a `?` passes on: a refusal that is given.
 pub passed_on : {T E : Type 0} (r : Result T E) {f : E} → IsErrAnd r (λ g. g ≡ f) → r ≡ Err f
 passed_on (Ok t) h = absurd h
@@ -102,6 +112,10 @@ module _ {c : Conventions} {old new : List ℕ} {boxes boxes' : Boxes} {r : Edit
     -- The lent cards are those of the texts.
     pub there : CardsThere c old boxes'.old_cards n.old.boards × CardsThere c new boxes'.new_cards n.new.boards
     there = both_cards (as_told e) (CardsWhole c old) (CardsWhole c new)
+
+    -- So there is room for them.
+    pub rooms : (64 * n.old.boards ≤ length boxes'.old_cards) × (64 * n.new.boards ≤ length boxes'.new_cards)
+    rooms = (there.0.room, there.1.room)
 
     pub boards_are : board_plans (cards_in n.old.boards boxes'.old_cards) (cards_in n.new.boards boxes'.new_cards) ≡ plans_of c old new
     boards_are = rw (there.0.cards, there.1.cards)
@@ -137,17 +151,17 @@ module _ {c : Conventions} {old new : List ℕ} {boxes boxes' : Boxes} {r : Edit
           record { answer = rw (answer_both, g); boxes_left = all_left; numbers_after = f.1 ∙ rw (answer_both, z, eo, en, there.0.cards, there.1.cards) }
 
       pub plan_listed : {slips zs ps : List ℕ} {t : Totals} {q : Planning} {boxes'' : Boxes} {slips'' : List ℕ} → SameRoom boxes boxes'
-          → zs ≡ zeros slips → length ps ≡ length zs
+          → zs ≡ zeros slips
           → (t ≡ totals_of (board_plans olds news)) × (ps ≡ put_all 5 zs 0 (slips_of (board_plans olds news)))
           → PlanEnded boxes' ps t q boxes'' slips''
           → IsPlanned c old new boxes slips boxes'' slips'' q
       unfolding planning_of
-      plan_listed {slips} {zs} {ps} {t} {q} {boxes''} {slips''} room z lp f g =
+      plan_listed {slips} {zs} {ps} {t} {q} {boxes''} {slips''} room z f g =
           let ls = length slips in
           let js = plans_of c old new in
           let same : board_plans olds news ≡ js = rw (eo, en) boards_are in
           let et : t ≡ totals_of js = f.0 ∙ ap totals_of same in
-          let el : length ps ≡ ls = lp ∙ ap length z ∙ length-replicate ls 0 in
+          let el : length ps ≡ ls = ap length f.1 ∙ put_all_length 5 zs 0 (slips_of (board_plans olds news)) ∙ ap length z ∙ length-replicate ls 0 in
           let eq : q ≡ slips_answer (ls / 5) t = g.answer ∙ ap (λ (k : ℕ). slips_answer (k / 5) t) el in
           let es : t.solve ≡ length (slips_of js) = ap (λ (x : Totals). x.solve) et ∙ solve_sum js ∙ sym (slips_count js) in
           let ep : ps ≡ put_all 5 (replicate ls 0) 0 (slips_of js) = f.1 ∙ rw (z, same) in

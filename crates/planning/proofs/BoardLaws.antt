@@ -35,9 +35,10 @@ card_at_lem xs (suc p) k e =
     let f : p ≡ k = omega arith in
     rw f
 
-pub card_past : (xs : List (List ℕ)) (p k : ℕ) → p ≡ k + 1 → length xs ≤ k → card_at xs p ≡ []
-card_past xs zero k e h = refl
-card_past xs (suc p) k e h = get_or-eq_default xs [] (omega arith)
+-- There is none outside 1 to the cards.
+pub card_outside : (xs : List (List ℕ)) (p : ℕ) → (0 < p → length xs < p) → card_at xs p ≡ []
+card_outside xs zero h = refl
+card_outside xs (suc k) h = get_or-eq_default xs [] (omega (arith, h (omega arith)))
 
 -- ---- board after board
 
@@ -85,28 +86,33 @@ past_none [] k h = refl
 past_none (j ∷ js) zero h = absurd (omega arith)
 past_none (j ∷ js) (suc k) h = past_none js k (omega arith)
 
-module _ (os ns : List (List ℕ)) (k : ℕ) where
-  board_here_lem : {p : ℕ} → p ≡ k + 1 → k < length ns → plan_at (board_plans os ns) p ≡ some (plan_here os ns k)
-  board_here_lem {p} e h =
-      let g : suc k ≡ p = omega arith in
-      let x : drop k (board_plans os ns) ≡ plan_here os ns k ∷ boards_left os ns (k + 1) = rw (left_first os ns) (left_drop os ns k (omega arith) ∙ left_step os ns k h) in
-      sym (ap (plan_at (board_plans os ns)) g) ∙ board_drop (board_plans os ns) k ∙ ap (λ (l : List BoardPlan). plan_from l 0) x
+-- There is none outside 1 to the boards.
+plan_outside : (js : List BoardPlan) (p : ℕ) → (0 < p → length js < p) → plan_at js p ≡ none
+plan_outside js zero h = refl
+plan_outside js (suc k) h = past_none js k (omega (arith, h (omega arith)))
 
-  board_past : {p : ℕ} → p ≡ k + 1 → length ns ≤ k → plan_at (board_plans os ns) p ≡ none
-  board_past {p} e h =
-      let g : suc k ≡ p = omega arith in
-      sym (ap (plan_at (board_plans os ns)) g) ∙ past_none (board_plans os ns) k (rw (boards_count os ns) h)
+module _ (os ns : List (List ℕ)) {p : ℕ} where
+  module _ {k : ℕ} (e : (p ≡ k + 1) × (k < length ns)) where
+    board_there : plan_at (board_plans os ns) p ≡ some (plan_here os ns k)
+    board_there =
+        let g : suc k ≡ p = omega (arith, e.0) in
+        let x : drop k (board_plans os ns) ≡ plan_here os ns k ∷ boards_left os ns (k + 1) = rw (left_first os ns) (left_drop os ns k (omega (arith, e.1)) ∙ left_step os ns k e.1) in
+        sym (ap (plan_at (board_plans os ns)) g) ∙ board_drop (board_plans os ns) k ∙ ap (λ (l : List BoardPlan). plan_from l 0) x
 
-  pub state_here_lem : {p : ℕ} {s : BoardState} → p ≡ k + 1 → k < length ns → s ≡ state_of os ns (take k ns) (card_from ns k) → s ≡ state_at (board_plans os ns) p
-  state_here_lem e h f = f ∙ sym (ap state_in (board_here_lem e h))
+    pub state_is : {s : BoardState} → s ≡ state_of os ns (take k ns) (card_from ns k) → s ≡ state_at (board_plans os ns) p
+    state_is f = f ∙ sym (ap state_in board_there)
 
-  pub state_past : {p : ℕ} → p ≡ k + 1 → length ns ≤ k → Blank ≡ state_at (board_plans os ns) p
-  state_past e h = sym (ap state_in (board_past e h))
+    pub behind_is : {s : BoardState} {b : Behind} → s ≡ state_of os ns (take k ns) (card_from ns k) → b ≡ behind_state os ns (card_at ns p) s
+        → Some b ≡ behind_at os ns (board_plans os ns) p
+    behind_is {s} f i =
+        ap Some (i ∙ ap (λ (z : List ℕ). behind_state os ns z s) (card_at_lem ns p k e.0) ∙ ap (behind_state os ns (card_from ns k)) f) ∙ sym (ap (behind_in os ns) board_there)
 
-  pub behind_here : {p : ℕ} {s : BoardState} {b : Behind} → p ≡ k + 1 → k < length ns → s ≡ state_of os ns (take k ns) (card_from ns k)
-      → b ≡ behind_state os ns (card_at ns p) s → Some b ≡ behind_at os ns (board_plans os ns) p
-  behind_here {p} {s} {b} e h f i =
-      ap Some (i ∙ ap (λ (z : List ℕ). behind_state os ns z s) (card_at_lem ns p k e) ∙ ap (behind_state os ns (card_from ns k)) f) ∙ sym (ap (behind_in os ns) (board_here_lem e h))
+  module _ (h : 0 < p → length ns < p) where
+    board_outside : plan_at (board_plans os ns) p ≡ none
+    board_outside = plan_outside (board_plans os ns) p (λ l. rw (boards_count os ns) (h l))
 
-  pub behind_past : {p : ℕ} → p ≡ k + 1 → length ns ≤ k → None ≡ behind_at os ns (board_plans os ns) p
-  behind_past e h = sym (ap (behind_in os ns) (board_past e h))
+    pub state_outside : Blank ≡ state_at (board_plans os ns) p
+    state_outside = sym (ap state_in board_outside)
+
+    pub behind_outside : None ≡ behind_at os ns (board_plans os ns) p
+    behind_outside = sym (ap (behind_in os ns) board_outside)

@@ -9,23 +9,23 @@ use lib.ListN.{length, length-append, length-replicate}
 use borrow.Author.Tests.{ltb-false}
 use Rattle.std.specs.Prelude.{Result, Ok, Err, is_ok}
 use Rattle.tables.specs.declared.letters.Conventions.{Conventions}
+use Rattle.tables.specs.declared.refused.Edition.TheVariants.{Old, New}
 use Rattle.reader.specs.declared.edition.ReadRefusal.{ReadRefusal}
 use Rattle.reader.specs.declared.edition.Counts.{Counts}
 use Rattle.tables.proofs.Laws.{by_cases, clash}
 use Rattle.reader.specs.Store.{flat, padded, zeros}
 use Rattle.reader.specs.Editions.{reading_of, cards_of, IsRead}
 use Rattle.reader.specs.EditionSteps.{FullCards}
-use Rattle.planning.specs.declared.editions.EditionsRefusal.TheVariants.{Old, New}
 use Rattle.planning.specs.declared.editions.Both.{Both}
-use Rattle.planning.specs.Plans.{Boxes, old_reading, new_reading, Editions, both_after, editions_of, BothRead}
+use Rattle.planning.specs.Plans.{Boxes, four, old_reading, new_reading, Editions, both_after, editions_of, BothRead}
 use Rattle.planning.specs.PlanSteps.{cards_in}
-use Rattle.planning.proofs.BoxLaws.{four, cards_back, taken_fits}
+use Rattle.planning.proofs.BoxLaws.{cards_back, taken_fits}
 
 -- ---- both editions: one law for each answer
 
 module _ {c : Conventions} {old new oc oe nc ne oc' oe' : List ℕ} {r : Result Counts ReadRefusal} (i : IsRead c old oc oe r oc' oe') where
   pub old_refused : {f : ReadRefusal} {nc' ne' : List ℕ} → r ≡ Err f → nc' ≡ zeros nc → ne' ≡ zeros ne
-      → BothRead c old new (four oc oe nc ne) (four oc' oe' nc' ne') (Err (Old f))
+      → BothRead c old new (four oc oe nc ne) (four oc' oe' nc' ne') (Err (record { edition = Old; refusal = f }))
   unfolding editions_of
   old_refused e ec ee = record {
     answer = rw (← i.answer, e);
@@ -39,7 +39,7 @@ module _ {c : Conventions} {old new oc oe nc ne oc' oe' : List ℕ} {r : Result 
 
   pub new_refused : {m : Counts} {f : ReadRefusal} {s : Result Counts ReadRefusal} {nc' ne' oc'' oe'' : List ℕ} → r ≡ Ok m → IsRead c new nc ne s nc' ne' → s ≡ Err f
       → length oc' ≡ length oc → length oe' ≡ length oe → oc'' ≡ zeros oc' → oe'' ≡ zeros oe'
-      → BothRead c old new (four oc oe nc ne) (four oc'' oe'' nc' ne') (Err (New f))
+      → BothRead c old new (four oc oe nc ne) (four oc'' oe'' nc' ne') (Err (record { edition = New; refusal = f }))
   unfolding editions_of
   new_refused e j e₂ lc le ec ee = record {
     answer = rw (← i.answer, e, ← j.answer, e₂);

@@ -18,11 +18,6 @@ use Rattle.reader.specs.EditionSteps.{FullCards, none, one}
 use Rattle.planning.specs.Cards.{card_here}
 use Rattle.planning.specs.PlanSteps.{cards_in}
 use Rattle.planning.specs.Slips.{card_from}
-use Rattle.planning.specs.Plans.{Boxes}
-
--- The four boxes, from their words.
-abbrev pub four : List ℕ → List ℕ → List ℕ → List ℕ → Boxes
-four oc oe nc ne = record { old_cards = oc; old_entries = oe; new_cards = nc; new_entries = ne }
 
 -- ---- the first n cards
 

@@ -33,10 +33,6 @@ pub numbered : {x : List ℕ} {xs : List (List ℕ)} → Among x xs → Numbered
 numbered here = record { number = 0; below = omega arith; is = refl }
 numbered (there a) = let n = numbered a in record { number = suc n.number; below = omega (arith, n.below); is = n.is }
 
-pub among_left : {x : List ℕ} {xs : List (List ℕ)} (ys : List (List ℕ)) → Among x xs → Among x (xs ++ ys)
-among_left ys here = here
-among_left ys (there a) = there (among_left ys a)
-
 pub among_right : {x : List ℕ} (xs : List (List ℕ)) {ys : List (List ℕ)} → Among x ys → Among x (xs ++ ys)
 among_right [] a = a
 among_right (x ∷ xs) a = there (among_right xs a)

@@ -3,7 +3,6 @@ pub mod BoardLaws
 pub mod BothLaws
 pub mod BoxLaws
 pub mod CardLaws
-pub mod FillLaws
 pub mod FoundLaws
 pub mod PlanLaws
 pub mod CardWords

@@ -94,22 +94,20 @@ left_nothing {all} {slips₀} {t} {slips} l = (
 
 pub record Turn (os ns : List (List ℕ)) (slips₀ : List ℕ) (t : Totals) (k : ℕ) (slips : List ℕ) : Type 0 where
   pub inside : k ≤ length ns
-  pub slips_length : length slips ≡ length slips₀
   pub left : Left (board_plans os ns) slips₀ (boards_left os ns k) t slips
 
 pub turn_first : (os ns : List (List ℕ)) (slips : List ℕ) → Turn os ns slips no_totals 0 slips
 turn_first os ns slips =
     record {
       inside = omega arith;
-      slips_length = refl;
       left = subst⁻¹ (λ (js : List BoardPlan). Left js slips (boards_left os ns 0) no_totals slips) (left_first os ns) (left_all (boards_left os ns 0) slips);
     }
 
 module _ {os ns : List (List ℕ)} {slips₀ : List ℕ} {t : Totals} {k : ℕ} {slips : List ℕ} (i : Turn os ns slips₀ t k slips) where
   pub turn_next : {s : BoardState} {t' : Totals} {slips' : List ℕ} → k < length ns → s ≡ state_of os ns (take k ns) (card_from ns k)
-      → slips' ≡ cond (is_solve s) (put 5 slips t.solve (slip_of (k + 1) (card_from ns k))) slips → t' ≡ counted t s → length slips' ≡ length slips
+      → slips' ≡ cond (is_solve s) (put 5 slips t.solve (slip_of (k + 1) (card_from ns k))) slips → t' ≡ counted t s
       → Turn os ns slips₀ t' (k + 1) slips'
-  turn_next {s} {t'} {slips'} h es ep et el =
+  turn_next {s} {t'} {slips'} h es ep et =
       let j = plan_here os ns k in
       let l : Left (board_plans os ns) slips₀ (j ∷ boards_left os ns (k + 1)) t slips = rw (left_step os ns k h) at i.left in
       let m = left_less l in
@@ -119,7 +117,6 @@ module _ {os ns : List (List ℕ)} {slips₀ : List ℕ} {t : Totals} {k : ℕ} 
       let rest = boards_left os ns (k + 1) in
       record {
         inside = omega arith;
-        slips_length = el ∙ i.slips_length;
         left = subst⁻¹ (λ (x : Totals). Left all slips₀ rest x slips') et' (subst⁻¹ (λ (y : List ℕ). Left all slips₀ rest (counted t j.state) y) ep' m);
       }
 

@@ -1,53 +1,37 @@
 -- Laws of the searches for a board, and of their numbers, board after board.
 use Prim.Native.Nat.{ℕ, ◌+◌, ◌-◌, ◌*◌, ◌≤◌, ◌<◌}
-use mathlib.Core.Path.{◌≡◌, sym, ap}
+use mathlib.Core.Path.{◌≡◌, sym, ap, ◌∙◌}
 use mathlib.Core.Bool.{Bool, true, false}
 use mathlib.Core.List.{List, [], ◌∷◌}
 use native.Mathlib.Omega.{arith}
 use lib.ListN.{length, get_or, take, length-take}
-use borrow.Author.Tests.{le-leb, lt-leb}
-use Rattle.tables.proofs.Laws.{by_cases}
+use lib.Dec.{leb}
+use borrow.Author.Tests.{lt-leb}
+use Rattle.tables.proofs.Laws.{by_cases, clash}
 use Rattle.reader.specs.Store.{put}
-use Rattle.planning.specs.declared.search.Found.{Found}
+use Rattle.reader.specs.Deals.{whole_hands, hands_of_words}
 use Rattle.planning.specs.declared.state.BoardState.{BoardState}
 use Rattle.planning.specs.Cards.{card_deal, is_whole}
 use Rattle.planning.specs.PlanSteps.{plan_here}
-use Rattle.planning.specs.States.{BoardPlan, state_number, from_of, state_of, board_plans}
+use Rattle.planning.specs.States.{BoardPlan, state_number, state_of, board_plans}
 use Rattle.planning.specs.Searches.{searched, old_sought, near_sought, twin_sought, words_if, old_words, near_words, twin_words, search_numbers, words_in_all}
 use Rattle.planning.proofs.BoardLaws.{boards_left, left_first, left_step, left_none, boards_count}
 use Rattle.planning.proofs.PlanLaws.{Rows, rows_first, rows_next}
 use Rattle.planning.proofs.SearchLaws.{few_words}
+use Rattle.planning.proofs.StateLaws.{deal_whole}
 
 -- ---- one board
 
 -- A board for which a search is made is whole.
-pub searched_whole : {s : BoardState} {n : ℕ} (olds news earlier : List (List ℕ)) (card : List ℕ) → s ≡ state_of olds news earlier card → n ≡ state_number s → 2 ≤ n → is_whole card ≡ true
+pub sought_whole : {s : BoardState} {made : Bool} {d : List ℕ} (m : ℕ) (olds news earlier : List (List ℕ)) (card : List ℕ) → 0 < m → s ≡ state_of olds news earlier card
+    → made ≡ leb m (state_number s) → d ≡ card_deal card → made ≡ true → whole_hands (hands_of_words d) ≡ true
 unfolding state_of
-searched_whole {s} olds news earlier card es en h =
+sought_whole {s} {made} {d} m olds news earlier card l es em ed e =
     by_cases (is_whole card)
-    (λ w. w)
+    (λ w. deal_whole d card w ed)
     (λ w.
     let z : state_number s ≡ 0 = rw (es, w) in
-    absurd (omega (arith, en, h, z)))
-
-module _ (olds news : List (List ℕ)) (j : BoardPlan) {s : BoardState} {n f : ℕ} (es : s ≡ j.state) (en : n ≡ state_number s) (ef : f ≡ from_of s) where
-  pub none_made : n < 2 → n ∷ f ∷ 0 ∷ 0 ∷ 0 ∷ [] ≡ search_numbers olds news j
-  unfolding search_numbers old_words near_words twin_words
-  none_made h = rw (← es, ← en, ← ef, lt-leb 2 n h, lt-leb 3 n (omega arith), lt-leb 4 n (omega arith))
-
-  module _ {d : List ℕ} {o : Found} (ed : d ≡ card_deal j.card) (eo : o ≡ searched true d olds) where
-    pub old_made : 2 ≤ n → n < 3 → n ∷ f ∷ o.words ∷ 0 ∷ 0 ∷ [] ≡ search_numbers olds news j
-    unfolding search_numbers old_words near_words twin_words
-    old_made h i = rw (← es, ← en, ← ef, ← ed, ← eo, le-leb 2 n h, lt-leb 3 n i, lt-leb 4 n (omega arith))
-
-    module _ {a : Found} (ea : a ≡ searched true d news) where
-      pub near_made : 3 ≤ n → n < 4 → n ∷ f ∷ o.words ∷ a.words ∷ 0 ∷ [] ≡ search_numbers olds news j
-      unfolding search_numbers old_words near_words twin_words
-      near_made h i = rw (← es, ← en, ← ef, ← ed, ← eo, ← ea, le-leb 2 n (omega arith), le-leb 3 n h, lt-leb 4 n i)
-
-      pub twin_made : {t : Found} → t ≡ searched false d (take (j.position - 1) news) → 4 ≤ n → n ∷ f ∷ o.words ∷ a.words ∷ t.words ∷ [] ≡ search_numbers olds news j
-      unfolding search_numbers old_words near_words twin_words
-      twin_made et h = rw (← es, ← en, ← ef, ← ed, ← eo, ← ea, ← et, le-leb 2 n (omega arith), le-leb 3 n (omega arith), le-leb 4 n h)
+    clash (sym (sym e ∙ em ∙ rw (z, lt-leb m 0 l))))
 
 -- ---- few words
 

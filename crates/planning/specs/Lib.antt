@@ -4,5 +4,4 @@ pub mod Searches
 pub mod Slips
 pub mod Plans
 pub mod PlanSteps
-pub mod SlipSteps
 pub mod Demands

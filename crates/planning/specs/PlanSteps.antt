@@ -1,5 +1,5 @@
 -- What the inner functions of planning answer: a board of lent cards, a board of a search, totals board by board, and the end of planning.
-use Rattle.std.specs.Prelude.{ℕ, ◌+◌, ◌≤◌, ◌/◌, zero, suc, ◌≡◌, Bool, cond, ◌&&◌, ◌||◌, not, List, [], ◌∷◌, eqb, length, get_or, take, drop, is_ok}
+use Rattle.std.specs.Prelude.{ℕ, ◌+◌, ◌≤◌, ◌<◌, ◌/◌, zero, suc, ◌≡◌, Bool, cond, ◌&&◌, ◌||◌, not, List, [], ◌∷◌, eqb, length, get_or, take, drop, is_ok, Option, Some, None}
 use Rattle.reader.specs.Store.{zeros}
 use Rattle.planning.specs.declared.state.BoardState.{BoardState}
 use Rattle.planning.specs.declared.plan.Totals.{Totals}
@@ -16,6 +16,11 @@ cards_in (suc n) box = take 64 box ∷ cards_in n (drop 64 box)
 -- The board at index k of the new edition.
 abbrev pub plan_here : List (List ℕ) → List (List ℕ) → ℕ → BoardPlan
 plan_here olds news k = record { position = k + 1; card = card_from news k; state = state_of olds news (take k news) (card_from news k) }
+
+-- The index of the position p, from 1, among n boards; none outside 1 to n.
+abbrev pub IsIndex : ℕ → ℕ → Option ℕ → Type 0
+IsIndex p n (Some k) = (p ≡ k + 1) × (k < n)
+IsIndex p n None = 0 < p → n < p
 
 -- How many words of two lists are equal, from the front.
 abbrev pub equal_front : List ℕ → List ℕ → ℕ
@@ -63,11 +68,6 @@ pub record BoxesKept (well : Bool) (boxes boxes' : Boxes) : Type 0 where
   pub old_entries : boxes'.old_entries ≡ cond well boxes.old_entries (zeros boxes.old_entries)
   pub new_cards : boxes'.new_cards ≡ cond well boxes.new_cards (zeros boxes.new_cards)
   pub new_entries : boxes'.new_entries ≡ cond well boxes.new_entries (zeros boxes.new_entries)
-
--- The answer for the totals where so many slips have room, and the four boxes: as they were, or zeros after a refusal.
-pub record Settled (boxes : Boxes) (room : ℕ) (t : Totals) (r : Planning) (boxes' : Boxes) : Type 0 where
-  pub answer : r ≡ slips_answer room t
-  pub boxes_left : BoxesKept (is_ok r) boxes boxes'
 
 -- The answer for the totals, and all lent words: as they were, or zeros after a refusal.
 pub record PlanEnded (boxes : Boxes) (slips : List ℕ) (t : Totals) (r : Planning) (boxes' : Boxes) (slips' : List ℕ) : Type 0 where

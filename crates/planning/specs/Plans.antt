@@ -1,6 +1,8 @@
 -- The answers of planning, and its contracts.
 use Rattle.std.specs.Prelude.{ℕ, ◌/◌, ◌≡◌, Bool, cond, List, ltb, length, replicate, Option, None, Result, Ok, Err, is_ok}
 use Rattle.tables.specs.declared.letters.Conventions.{Conventions}
+use Rattle.tables.specs.declared.refused.Edition.TheVariants.{Old, New}
+use Rattle.tables.specs.Refusals.{edition_number}
 use Rattle.reader.specs.declared.edition.Counts.{Counts}
 use Rattle.reader.specs.declared.edition.ReadRefusal.{ReadRefusal}
 use Rattle.reader.specs.Store.{put_all, lent}
@@ -9,7 +11,6 @@ use Rattle.planning.specs.declared.state.BoardState.{BoardState}
 use Rattle.planning.specs.declared.state.BoardState.TheVariants.{Blank}
 use Rattle.planning.specs.declared.behind.Behind.{Behind}
 use Rattle.planning.specs.declared.editions.EditionsRefusal.{EditionsRefusal}
-use Rattle.planning.specs.declared.editions.EditionsRefusal.TheVariants.{Old, New}
 use Rattle.planning.specs.declared.editions.Both.{Both}
 use Rattle.planning.specs.declared.editions.LentBoxes.{LentBoxes}
 use Rattle.planning.specs.declared.plan.Totals.{Totals}
@@ -23,17 +24,14 @@ use Rattle.planning.specs.Slips.{slips_of, totals_of, behind_at, part_of, number
 -- ---- refusals: 1 to 3 of the old edition, then of the new, then 4 slips short (the boards to solve)
 
 abbrev pub editions_number : EditionsRefusal → ℕ
-editions_number (Old f) = read_number f
-editions_number (New f) = read_number f
+editions_number f = read_number f.refusal
 
 abbrev pub editions_carries : EditionsRefusal → ℕ
-editions_carries (Old f) = read_carries f
-editions_carries (New f) = read_carries f
+editions_carries f = read_carries f.refusal
 
 -- The edition that is refused: 1 old, 2 new.
 abbrev pub edition_refused : EditionsRefusal → ℕ
-edition_refused (Old f) = 1
-edition_refused (New f) = 2
+edition_refused f = edition_number f.edition
 
 abbrev pub plan_number : PlanRefusal → ℕ
 plan_number (Edition f) = editions_number f
@@ -57,11 +55,15 @@ pub record Boxes : Type 0 where
   pub new_cards : List ℕ
   pub new_entries : List ℕ
 
+abbrev pub four : List ℕ → List ℕ → List ℕ → List ℕ → Boxes
+four oc oe nc ne = record { old_cards = oc; old_entries = oe; new_cards = nc; new_entries = ne }
+
 -- The words of lent boxes.
 abbrev pub words_of : LentBoxes → Boxes
-words_of b = record { old_cards = b.old_cards.now; old_entries = b.old_entries.now; new_cards = b.new_cards.now; new_entries = b.new_entries.now }
+words_of b = four b.old_cards.now b.old_entries.now b.new_cards.now b.new_entries.now
 
--- The same boxes are lent, with as many words as before.
+-- The same boxes are lent, with as many words as before. It stands in each contract of a function that is lent boxes: it is said of LentBoxes before
+-- and after the call, and a ghost field or an invariant of LentBoxes speaks of one value alone.
 pub record SameLent (b b' : LentBoxes) : Type 0 where
   pub old_cards : b'.old_cards.ghost_name ≡ b.old_cards.ghost_name
   pub old_entries : b'.old_entries.ghost_name ≡ b.old_entries.ghost_name
@@ -87,11 +89,11 @@ Editions = Result Both EditionsRefusal
 
 abbrev pub new_after : Counts → Result Counts ReadRefusal → Editions
 new_after m (Ok n) = Ok (record { old = m; new = n })
-new_after m (Err f) = Err (New f)
+new_after m (Err f) = Err (record { edition = New; refusal = f })
 
 abbrev pub both_after : Result Counts ReadRefusal → Result Counts ReadRefusal → Editions
 both_after (Ok m) new = new_after m new
-both_after (Err f) new = Err (Old f)
+both_after (Err f) new = Err (record { edition = Old; refusal = f })
 
 -- The answer for the texts, with these boxes lent.
 unfoldable pub editions_of : Conventions → List ℕ → List ℕ → Boxes → Editions

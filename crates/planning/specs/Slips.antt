@@ -1,13 +1,14 @@
 -- Slips, totals, and the record behind a board.
 use Rattle.std.specs.Prelude.{ℕ, zero, suc, ◌+◌, ◌-◌, cond, List, [], ◌∷◌, map, eqb, length, get_or, take, drop, Option, Some, None}
 use Rattle.std.proofs.Math.Option as option
+use Rattle.tables.specs.declared.refused.Edition.{Edition}
+use Rattle.tables.specs.declared.refused.Edition.TheVariants.{New}
+use Rattle.tables.specs.declared.refused.Edition.TheVariants as edition
+use Rattle.tables.specs.Refusals.{edition_number}
 use Rattle.reader.specs.Store.{flat}
 use Rattle.planning.specs.declared.state.BoardState.{BoardState}
 use Rattle.planning.specs.declared.state.BoardState.TheVariants.{Blank, Own, Old, Near, Twin, Solve}
 use Rattle.planning.specs.declared.behind.Behind.{Behind}
-use Rattle.planning.specs.declared.behind.Edition.{Edition}
-use Rattle.planning.specs.declared.behind.Edition.TheVariants.{New}
-use Rattle.planning.specs.declared.behind.Edition.TheVariants as edition
 use Rattle.planning.specs.declared.plan.Totals.{Totals}
 use Rattle.planning.specs.declared.slips.Slip.{Slip}
 use Rattle.planning.specs.Cards.{hands_of}
@@ -93,10 +94,6 @@ text_of old new New = new
 abbrev pub part_of : List ℕ → List ℕ → Option Behind → List ℕ
 part_of old new (Some b) = take (b.end - b.start) (drop b.start (text_of old new b.edition))
 part_of old new None = []
-
-abbrev pub edition_number : Edition → ℕ
-edition_number edition.Old = 1
-edition_number New = 2
 
 -- As numbers: edition (0 none, 1 old, 2 new), start, end.
 abbrev pub behind_numbers : Option Behind → List ℕ

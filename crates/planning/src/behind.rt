@@ -1,42 +1,24 @@
 // The record behind a board, by its places in the old or the new edition.
-ghost use Rattle.std.specs.Prelude.{◌≡◌, ◌-◌, ◌<◌, get_or, take, drop};
+ghost use Rattle.std.specs.Prelude.{◌≡◌, ◌-◌};
 ghost use Rattle.tables.specs.Letters.{built_in};
 ghost use Rattle.planning.specs.States.{board_plans};
-ghost use Rattle.planning.specs.Slips.{edition_number, text_of, card_at, record_of, behind_state, behind_at};
+ghost use Rattle.planning.specs.Slips.{text_of, card_at, record_of, behind_state, behind_at};
 ghost use Rattle.planning.specs.Plans.{words_of, SameLent, BehindTold, PartTold};
 
-use crate::cards::Card;
+use crate::cards::{Card, index_of};
 use crate::editions::{Both, EditionsRefusal, LentBoxes, read_both};
 use crate::state::{BoardState, state_of};
+use reader::tag::Span;
 use tables::letters::{Conventions, built_in};
-use tables::text::{from, upto};
+use tables::refused::Edition;
 
-// The edition that a record stands in.
-#[derive(Clone, Copy, PartialEq, Eq, Debug)]
-pub enum Edition {
-    Old,
-    New,
-}
-
-impl Edition {
-    // 1 old, 2 new.
-    pub fn number(self) -> u64
-        ensures { result ≡ edition_number self }
-    {
-        match self {
-            Edition::Old => 1,
-            Edition::New => 2,
-        }
-    }
-
-    // Its text, of the two.
-    fn text<'a>(self, old: &'a [u8], new: &'a [u8]) -> &'a [u8]
-        ensures { result.now ≡ text_of old.now new.now self }
-    {
-        match self {
-            Edition::Old => old,
-            Edition::New => new,
-        }
+// The text of an edition, of the two.
+fn text_of<'a>(edition: Edition, old: &'a [u8], new: &'a [u8]) -> &'a [u8]
+    ensures { result.now ≡ text_of old.now new.now edition }
+{
+    match edition {
+        Edition::Old => old,
+        Edition::New => new,
     }
 }
 
@@ -48,29 +30,33 @@ pub struct Behind {
     pub end: u64,
 }
 
-// The word w of the card at the position p, from 1; 0 where there is none.
-fn word_at(cards: &[Card], p: u64, w: usize) -> u64
-    requires { w < 64 }
-    ensures { result ≡ get_or (card_at cards.now p) w 0 }
-{
-    if p == 0 {
-        return 0;
+impl Behind {
+    // Its bytes in the text of its edition; none where its end is not behind its start.
+    fn span(self) -> Span
+        ensures { (result.start ≡ self.start) × (result.len ≡ self.end - self.start) }
+    {
+        Span {
+            start: self.start as usize,
+            len: self.end.saturating_sub(self.start) as usize,
+        }
     }
-    let k = (p - 1) as usize;
-    if k < cards.len() {
-        return cards[k][w] as u64;
-    }
-    0
 }
 
-// The record of the card at the position p of an edition.
+// The record of the card at the position p of an edition; from 0 to 0 where there is no card.
 fn record_at(edition: Edition, cards: &[Card], p: u64) -> Behind
     ensures { result ≡ record_of edition (card_at cards.now p) }
 {
-    Behind {
-        edition,
-        start: word_at(cards, p, 60),
-        end: word_at(cards, p, 61),
+    match index_of(p, cards.len()) {
+        Some(k) => Behind {
+            edition,
+            start: cards[k][60] as u64,
+            end: cards[k][61] as u64,
+        },
+        None => Behind {
+            edition,
+            start: 0,
+            end: 0,
+        },
     }
 }
 
@@ -91,15 +77,9 @@ pub(crate) fn behind_state(olds: &[Card], news: &[Card], p: u64, s: BoardState) 
 fn behind_at(olds: &[Card], news: &[Card], p: u64) -> Option<Behind>
     ensures { result ≡ behind_at olds.now news.now (board_plans olds.now news.now) p }
 {
-    if p == 0 {
-        return None;
-    }
-    let k = (p - 1) as usize;
-    if k < news.len() {
-        let s = state_of(olds, news, k);
-        return Some(behind_state(olds, news, p, s));
-    }
-    None
+    let k = index_of(p, news.len())?;
+    let s = state_of(olds, news, k);
+    Some(behind_state(olds, news, p, s))
 }
 
 // Both editions, and the record behind the board at a position of the new one, by the given conventions.
@@ -131,16 +111,6 @@ pub fn place_behind(
     place_behind_with(built_in(), old, new, boxes, position)
 }
 
-// The part of a text from a to e, empty where e is not behind a.
-fn part(text: &[u8], a: u64, e: u64) -> &[u8]
-    ensures { result.now ≡ take (e - a) (drop a text.now) }
-{
-    if a < e {
-        return upto(from(text, a as usize), (e - a) as usize);
-    }
-    upto(text, 0)
-}
-
 // The record behind the board at a position of the new edition, as a part of the old or the new text; the empty part where there is none.
 pub fn record_behind<'a>(
     old: &'a [u8],
@@ -152,7 +122,7 @@ pub fn record_behind<'a>(
     ensures same { SameLent boxes.old boxes.new }
 {
     match place_behind(old, new, boxes, position) {
-        Ok((_, Some(b))) => part(b.edition.text(old, new), b.start, b.end),
+        Ok((_, Some(b))) => b.span().of(text_of(b.edition, old, new)),
         Ok((_, None)) | Err(_) => &[],
     }
 }

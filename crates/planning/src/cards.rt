@@ -1,8 +1,9 @@
 // Cards, as reading stores them in lent words, and what planning reads of one.
 ghost use Rattle.std.specs.Prelude.{◌≡◌, ◌+◌, ◌*◌, ◌≤◌, length};
 ghost use Rattle.planning.specs.Cards.{card_deal, is_whole, has_table, card_here};
-ghost use Rattle.planning.specs.PlanSteps.{cards_in};
+ghost use Rattle.planning.specs.PlanSteps.{cards_in, IsIndex};
 
+use reader::board::{NO_TABLE, PARSED};
 use reader::deal::hands_of_words;
 
 // The words of a board.
@@ -24,6 +25,16 @@ pub fn card_here(words: &[u32], k: usize) -> &Card
     &cards_in(words, k + 1)[k]
 }
 
+// The index of the position p, from 1, among n boards; none outside 1 to n.
+pub(crate) fn index_of(p: u64, n: usize) -> Option<usize>
+    ensures { IsIndex p n result }
+{
+    if p == 0 || (n as u64) < p {
+        return None;
+    }
+    Some((p - 1) as usize)
+}
+
 // Its deal, words 10 to 17.
 #[tactic(auto, unfolding(crate::specs::Cards::card_deal))]
 pub(crate) fn deal_at(card: &Card) -> [u32; 8]
@@ -38,7 +49,7 @@ pub(crate) fn deal_at(card: &Card) -> [u32; 8]
 pub fn is_whole(card: &Card) -> bool
     ensures { result ≡ is_whole card.now }
 {
-    card[9] == 1 && reader::deal::is_whole(hands_of_words(deal_at(card)))
+    card[9] as usize == PARSED && reader::deal::is_whole(hands_of_words(deal_at(card)))
 }
 
 // Has it a table?
@@ -46,5 +57,5 @@ pub fn is_whole(card: &Card) -> bool
 pub fn has_table(card: &Card) -> bool
     ensures { result ≡ has_table card.now }
 {
-    card[38] != 0
+    card[38] as usize != NO_TABLE
 }

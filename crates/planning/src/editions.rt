@@ -7,49 +7,44 @@ use crate::cards::{Card, cards_in};
 use reader::edition::{Counts, ReadRefusal, read_pbn_with};
 use reader::store::zero;
 use tables::letters::Conventions;
-use tables::refused::Refused;
+use tables::refused::{Edition, Refused};
 
-// Refusals 1 to 3 of the old edition, then of the new.
+// Refusals 1 to 3 of an edition: of the old one, then of the new.
 #[derive(Clone, Copy, Debug, PartialEq, Eq)]
-pub enum EditionsRefusal {
-    Old(ReadRefusal),
-    New(ReadRefusal),
+pub struct EditionsRefusal {
+    pub edition: Edition,
+    pub refusal: ReadRefusal,
 }
 
-// The boards and entries of each edition.
+impl Refused for EditionsRefusal {
+    ghost number_of = { editions_number };
+
+    ghost edition_of = { edition_refused };
+
+    ghost carries = { editions_carries };
+
+    fn number(self) -> u64 {
+        self.refusal.number()
+    }
+
+    fn edition(self) -> Option<Edition> {
+        Some(self.edition)
+    }
+
+    fn carried(self) -> u64 {
+        self.refusal.carried()
+    }
+}
+
+// The boards and entries of each edition. They stand beside the boxes, which are the caller's and have no counts before they are read into.
 #[derive(Clone, Copy, Debug, PartialEq, Eq)]
 pub struct Both {
     pub old: Counts,
     pub new: Counts,
 }
 
-pub fn editions_number(f: EditionsRefusal) -> u64
-    ensures { result ≡ editions_number f }
-{
-    match f {
-        EditionsRefusal::Old(g) | EditionsRefusal::New(g) => g.number(),
-    }
-}
-
-pub fn editions_carried(f: EditionsRefusal) -> u64
-    ensures { result ≡ editions_carries f }
-{
-    match f {
-        EditionsRefusal::Old(g) | EditionsRefusal::New(g) => g.carried(),
-    }
-}
-
-// The edition that is refused: 1 old, 2 new.
-pub fn edition_refused(f: EditionsRefusal) -> u64
-    ensures { result ≡ edition_refused f }
-{
-    match f {
-        EditionsRefusal::Old(_) => 1,
-        EditionsRefusal::New(_) => 2,
-    }
-}
-
-// The four boxes: words lent for the cards and the entries of the old edition, and of the new.
+// The four boxes: words lent for the cards and the entries of the old edition, and of the new. The two texts are parameters beside them: they are
+// only read, while the boxes are written, and outlive these (record_behind answers a part of one).
 #[derive(Drop)]
 pub struct LentBoxes<'a> {
     pub old_cards: &'a mut [u32],
@@ -82,7 +77,9 @@ impl LentBoxes<'_> {
     }
 }
 
-// Reads the old edition, then the new one. A refusal of either leaves all lent words zero.
+// Reads the old edition, then the new one. A refusal of either leaves all lent words zero: by matches, since a `?` would leave
+// before that. Five functions go on with LentBoxes::cards and a question
+// about the cards, three lines each: a function that is given the question would have to say of any question what it answers and stores.
 pub fn read_both(
     c: Conventions,
     old: &[u8],
@@ -96,13 +93,19 @@ pub fn read_both(
         Err(f) => {
             zero(boxes.new_cards);
             zero(boxes.new_entries);
-            Err(EditionsRefusal::Old(f))
+            Err(EditionsRefusal {
+                edition: Edition::Old,
+                refusal: f,
+            })
         }
         Ok(m) => match read_pbn_with(c, new, boxes.new_cards, boxes.new_entries) {
             Err(f) => {
                 zero(boxes.old_cards);
                 zero(boxes.old_entries);
-                Err(EditionsRefusal::New(f))
+                Err(EditionsRefusal {
+                    edition: Edition::New,
+                    refusal: f,
+                })
             }
             Ok(n) => Ok(Both { old: m, new: n }),
         },

@@ -2,7 +2,7 @@
 ghost use Rattle.std.specs.Prelude.{◌≡◌};
 ghost use Rattle.reader.specs.Store.{zeros, put};
 
-// Sets every number to 0.
+// Sets every number to 0. A function of its own, since the contract of `fill` speaks of clones, and each caller would go from there to zeros again.
 pub fn zero_numbers(numbers: &mut [u64])
     ensures { numbers.new ≡ zeros numbers.old }
 {

@@ -2,20 +2,19 @@
 ghost use Rattle.std.specs.Prelude.{◌≡◌, cond, ◌^◌};
 ghost use Rattle.tables.specs.Letters.{built_in};
 ghost use Rattle.reader.specs.Store.{put, put_all};
-ghost use Rattle.planning.specs.PlanSteps.{counted, Within, Settled, PlanEnded};
+ghost use Rattle.planning.specs.PlanSteps.{counted, Within, PlanEnded};
 ghost use Rattle.planning.specs.States.{board_plans, is_solve};
 ghost use Rattle.planning.specs.Slips.{slip_of, slips_of, totals_of};
 ghost use Rattle.planning.specs.Plans.{plan_number, plan_carries, plan_edition, words_of, SameLent, IsPlanned};
 
-use crate::cards::{Card, deal_at};
-use crate::editions::{
-    EditionsRefusal, LentBoxes, edition_refused, editions_carried, editions_number, read_both,
-};
-use crate::numbers::{put_five, zero_numbers};
+use crate::cards::Card;
+use crate::editions::{EditionsRefusal, LentBoxes, read_both};
+use crate::slips::{Slot, slip_of};
 use crate::state::{BoardState, state_of};
-use reader::deal::hands_of_words;
 use tables::letters::{Conventions, built_in};
+use tables::refused::{Edition, Refused};
 
+// By name, since C and the listing tell each count under its name: in an array of one count a state the names would stand beside it.
 #[derive(Clone, Copy, Debug, Default, PartialEq, Eq)]
 pub struct Totals {
     pub boards: u64,
@@ -45,35 +44,37 @@ impl From<EditionsRefusal> for PlanRefusal {
     }
 }
 
-pub fn plan_number(f: PlanRefusal) -> u64
-    ensures { result ≡ plan_number f }
-{
-    match f {
-        PlanRefusal::Edition(g) => editions_number(g),
-        PlanRefusal::SlipsShort(_) => 4,
-    }
-}
+impl Refused for PlanRefusal {
+    ghost number_of = { plan_number };
 
-pub fn plan_carried(f: PlanRefusal) -> u64
-    ensures { result ≡ plan_carries f }
-{
-    match f {
-        PlanRefusal::Edition(g) => editions_carried(g),
-        PlanRefusal::SlipsShort(n) => n,
-    }
-}
+    ghost edition_of = { plan_edition };
 
-// The edition that is refused: 0 none, 1 old, 2 new.
-pub fn plan_edition(f: PlanRefusal) -> u64
-    ensures { result ≡ plan_edition f }
-{
-    match f {
-        PlanRefusal::Edition(g) => edition_refused(g),
-        PlanRefusal::SlipsShort(_) => 0,
+    ghost carries = { plan_carries };
+
+    fn number(self) -> u64 {
+        match self {
+            PlanRefusal::Edition(g) => g.number(),
+            PlanRefusal::SlipsShort(_) => 4,
+        }
+    }
+
+    fn edition(self) -> Option<Edition> {
+        match self {
+            PlanRefusal::Edition(g) => g.edition(),
+            PlanRefusal::SlipsShort(_) => None,
+        }
+    }
+
+    fn carried(self) -> u64 {
+        match self {
+            PlanRefusal::Edition(g) => g.carried(),
+            PlanRefusal::SlipsShort(n) => n,
+        }
     }
 }
 
 // Totals with one board more.
+#[tactic(auto, unfolding(crate::specs::PlanSteps::counted))]
 fn counted(mut t: Totals, s: BoardState) -> Totals
     requires { Within (2 ^ 60) t }
     ensures { result ≡ counted t s }
@@ -90,26 +91,19 @@ fn counted(mut t: Totals, s: BoardState) -> Totals
     t
 }
 
-// The slip of the board at the position p: the position and its hands.
-pub(crate) fn slip_of(p: u64, card: &Card) -> [u64; 5]
-    ensures { result ≡ slip_of p card.now }
-{
-    let h = hands_of_words(deal_at(card));
-    [p, h.north, h.east, h.south, h.west]
-}
-
 // Stores the slip of the board at the position p as the n-th, where the board is to be solved.
-fn put_slip(slips: &mut [u64], n: usize, p: u64, card: &Card, s: BoardState)
-    ensures { slips.new ≡ cond (is_solve s) (put 5 slips.old n (slip_of p card.now)) slips.old }
+fn put_slip<S: Slot>(slips: &mut [S], n: usize, p: u64, card: &Card, s: BoardState)
+    ensures { S.numbers slips.new ≡ cond (is_solve s) (put 5 (S.numbers slips.old) n (slip_of p card.now)) (S.numbers slips.old) }
 {
     if s.is_solve() {
-        put_five(slips, n, slip_of(p, card));
+        S::put(slips, n, slip_of(p, card));
     }
 }
 
 // The totals of all boards of the new edition, and their slips.
-pub fn put_slips(olds: &[Card], news: &[Card], slips: &mut [u64]) -> Totals
-    ensures { (result ≡ totals_of (board_plans olds.now news.now)) × (slips.new ≡ put_all 5 slips.old 0 (slips_of (board_plans olds.now news.now))) }
+pub fn put_slips<S: Slot>(olds: &[Card], news: &[Card], slips: &mut [S]) -> Totals
+    ensures { (result ≡ totals_of (board_plans olds.now news.now))
+        × (S.numbers slips.new ≡ put_all 5 (S.numbers slips.old) 0 (slips_of (board_plans olds.now news.now))) }
 {
     let mut t = Totals::default();
     for (k, card) in news.iter().enumerate() {
@@ -120,68 +114,50 @@ pub fn put_slips(olds: &[Card], news: &[Card], slips: &mut [u64]) -> Totals
     t
 }
 
-// How many boards of the new edition are in each state: their totals alone, with no slip lent.
-pub(crate) fn count_boards(olds: &[Card], news: &[Card]) -> Totals
-    ensures { result ≡ totals_of (board_plans olds.now news.now) }
-{
-    let mut none = [0u64; 0];
-    put_slips(olds, news, &mut none)
-}
-
-// The answer for the totals where so many slips have room; all cards and entries are set to 0 where it is a refusal.
-pub(crate) fn settle(boxes: &mut LentBoxes, room: usize, t: Totals) -> Result<Totals, PlanRefusal>
-    ensures settled { Settled (words_of boxes.old) room t result (words_of boxes.new) }
+// The answer for the totals; all lent words are set to 0 where it is a refusal.
+pub fn finish_plan<S: Slot>(
+    boxes: &mut LentBoxes,
+    slips: &mut [S],
+    t: Totals,
+) -> Result<Totals, PlanRefusal>
+    ensures ended { PlanEnded (words_of boxes.old) (S.numbers slips.old) t result (words_of boxes.new) (S.numbers slips.new) }
     ensures same { SameLent boxes.old boxes.new }
 {
-    if (room as u64) < t.solve {
+    if (S::room(slips) as u64) < t.solve {
         boxes.zero();
+        S::clear(slips);
         return Err(PlanRefusal::SlipsShort(t.solve));
     }
     Ok(t)
 }
 
-// The answer for the totals; all lent words are set to 0 where it is a refusal.
-pub fn finish_plan(
-    boxes: &mut LentBoxes,
-    slips: &mut [u64],
-    t: Totals,
-) -> Result<Totals, PlanRefusal>
-    ensures ended { PlanEnded (words_of boxes.old) slips.old t result (words_of boxes.new) slips.new }
-    ensures same { SameLent boxes.old boxes.new }
-{
-    let p = settle(boxes, slips.len() / 5, t);
-    if p.is_err() {
-        zero_numbers(slips);
-    }
-    p
-}
-
 // Plans by the given conventions.
-pub fn plan_with(
+pub fn plan_with<S: Slot>(
     c: Conventions,
     old: &[u8],
     new: &[u8],
     boxes: &mut LentBoxes,
-    slips: &mut [u64],
+    slips: &mut [S],
 ) -> Result<Totals, PlanRefusal>
-    ensures planned { IsPlanned c old.now new.now (words_of boxes.old) slips.old (words_of boxes.new) slips.new result }
+    ensures planned { IsPlanned c old.now new.now (words_of boxes.old) (S.numbers slips.old) (words_of boxes.new) (S.numbers slips.new) result }
     ensures same { SameLent boxes.old boxes.new }
 {
-    zero_numbers(slips);
+    S::clear(slips);
     let both = read_both(c, old, new, boxes)?;
     let (olds, news) = boxes.cards(both);
     let t = put_slips(olds, news, slips);
     finish_plan(boxes, slips, t)
 }
 
-// Plans a new edition, given an old one: what is in which state, and a slip for each board to solve. A refusal leaves all lent words zero.
-pub fn plan(
+// Plans a new edition, given an old one: what is in which state, and a slip for each board to solve, as five numbers or as a struct. A refusal
+// leaves all lent words zero.
+pub fn plan<S: Slot>(
     old: &[u8],
     new: &[u8],
     boxes: &mut LentBoxes,
-    slips: &mut [u64],
+    slips: &mut [S],
 ) -> Result<Totals, PlanRefusal>
-    ensures planned { IsPlanned built_in old.now new.now (words_of boxes.old) slips.old (words_of boxes.new) slips.new result }
+    ensures planned { IsPlanned built_in old.now new.now (words_of boxes.old) (S.numbers slips.old) (words_of boxes.new) (S.numbers slips.new) result }
     ensures same { SameLent boxes.old boxes.new }
 {
     plan_with(built_in(), old, new, boxes, slips)

@@ -7,8 +7,10 @@ ghost use Rattle.planning.specs.States.{first_with};
 ghost use Rattle.planning.specs.Searches.{compared, searched};
 
 use crate::cards::{Card, has_table, is_whole};
+use reader::board::PARSED;
 
-// The board found, from 1, 0 where there is none, and the number of hand words compared.
+// The board found, from 1, 0 where there is none, and the number of hand words compared. The definitions of specs count so, and so is C told:
+// with an Option here each contract that names a board would turn it back into the number.
 #[derive(Clone, Copy)]
 pub struct Found {
     pub board: usize,
@@ -19,12 +21,10 @@ pub struct Found {
 fn equal_words(card: &Card, deal: &[u32; 8]) -> usize
     ensures { (result ≡ equal_front deal.now (card_deal card.now)) × (result ≤ 8) }
 {
-    for (i, word) in deal.iter().enumerate() {
-        if *word != card[10 + i] {
-            return i;
-        }
-    }
-    8
+    deal.iter()
+        .zip(&card[10..18])
+        .take_while(|(a, b)| a == b)
+        .count()
 }
 
 // Has the card a table, where one is sought, and is its word 9 1? The cards of its hands are not counted.
@@ -34,7 +34,7 @@ fn may_fit(card: &Card, tabled: bool) -> bool
     if tabled & !has_table(card) {
         return false;
     }
-    card[9] == 1
+    card[9] as usize == PARSED
 }
 
 // The words that count on the card, where so many are equal and the next differs: none where its deal is not whole.
@@ -80,7 +80,8 @@ fn try_board(card: &Card, deal: &[u32; 8], tabled: bool) -> Tried
     }
 }
 
-// The search among boards for the deal d, which is whole, and a table, where one is sought.
+// The search among boards for the deal d, which is whole, and a table, where one is sought. `tabled` is a bool as in `fits`, of which the theorems
+// speak: a closure's contract would have to say which of the two tests it is.
 pub(crate) fn search_with(cards: &[Card], d: [u32; 8], tabled: bool) -> Found
     requires { whole_hands (hands_of_words d) ≡ true }
     ensures { (result ≡ searched tabled d cards.now) × (result.board ≤ length cards.now) × (result.words ≤ 8 * length cards.now) }

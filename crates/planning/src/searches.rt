@@ -1,10 +1,11 @@
 // Every board's searches: the hand words that each compares, from one reading.
-ghost use Rattle.std.specs.Prelude.{◌≡◌, ◌≤◌, ◌<◌, length};
+ghost use Rattle.std.specs.Prelude.{◌≡◌, ◌≤◌, ◌<◌, true, length};
 ghost use Rattle.tables.specs.Letters.{built_in};
+ghost use Rattle.reader.specs.Deals.{whole_hands, hands_of_words};
 ghost use Rattle.reader.specs.Store.{put_all};
 ghost use Rattle.planning.specs.PlanSteps.{plan_here};
 ghost use Rattle.planning.specs.States.{board_plans};
-ghost use Rattle.planning.specs.Searches.{search_numbers, searches_from, words_in_all};
+ghost use Rattle.planning.specs.Searches.{searched, words_if, search_numbers, searches_from, words_in_all};
 ghost use Rattle.planning.specs.Plans.{words_of, SameLent, SearchesTold};
 
 use crate::cards::{Card, deal_at};
@@ -21,34 +22,30 @@ pub struct Searched {
     pub words: u64,
 }
 
-// The five numbers of the board at index k. A search is made where those before it found no board: for old from state 2 (old) on, for near
-// from 3 (near), for twin from 4 (twin).
+// The words that a search compares, 0 where it is not made.
+fn words_if(made: bool, cards: &[Card], d: [u32; 8], tabled: bool) -> u64
+    requires { made ≡ true → whole_hands (hands_of_words d) ≡ true }
+    ensures { result ≡ words_if made (searched tabled d cards.now) }
+{
+    if made {
+        return search_with(cards, d, tabled).words as u64;
+    }
+    0
+}
+
+// The five numbers of the board at index k.
 fn search_numbers(olds: &[Card], news: &[Card], k: usize) -> [u64; 5]
     requires { k < length news.now }
     ensures { result ≡ search_numbers olds.now news.now (plan_here olds.now news.now k) }
 {
     let s = state_of(olds, news, k);
-    let state = s.number();
-    let from = s.source();
-    if state < 2 {
-        return [state, from, 0, 0, 0];
-    }
     let d = deal_at(&news[k]);
-    let old = search_with(olds, d, true);
-    if state < 3 {
-        return [state, from, old.words as u64, 0, 0];
-    }
-    let near = search_with(news, d, true);
-    if state < 4 {
-        return [state, from, old.words as u64, near.words as u64, 0];
-    }
-    let twin = search_with(&news[..k], d, false);
     [
-        state,
-        from,
-        old.words as u64,
-        near.words as u64,
-        twin.words as u64,
+        s.number(),
+        s.source(),
+        words_if(s.old_sought(), olds, d, true),
+        words_if(s.near_sought(), news, d, true),
+        words_if(s.twin_sought(), &news[..k], d, false),
     ]
 }
 

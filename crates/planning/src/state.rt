@@ -1,6 +1,7 @@
 // The state of a board.
 ghost use Rattle.std.specs.Prelude.{◌≡◌, ◌+◌, ◌≤◌, ◌<◌, length, take};
 ghost use Rattle.planning.specs.States.{state_of, state_number, from_of, is_solve};
+ghost use Rattle.planning.specs.Searches.{old_sought, near_sought, twin_sought};
 ghost use Rattle.planning.specs.Slips.{card_from};
 
 use crate::cards::{Card, deal_at, has_table, is_whole};
@@ -17,7 +18,10 @@ pub enum BoardState {
     Solve,
 }
 
-// The state of the board at index k of the new edition.
+// The state of the board at index k of the new edition. Boards are gone over by their index, and three functions ask that k is one: the search for
+// a twin is among those before k, the position is k + 1, and numbers are stored at k, so that an iterator of states would have to hand out k as well.
+// The cards of the editions are two slices, since each search takes one of them, and a struct of both would be taken apart at once.
+#[tactic(auto, using(crate::proofs::StateLaws::deal_whole))]
 pub fn state_of(olds: &[Card], news: &[Card], k: usize) -> BoardState
     requires { k < length news.now }
     ensures { (result ≡ state_of olds.now news.now (take k news.now) (card_from news.now k)) × (from_of result ≤ length olds.now + length news.now) }
@@ -60,7 +64,7 @@ impl BoardState {
         }
     }
 
-    // The source board, 0 where there is none.
+    // The source board, as C is told it: 0 where there is none.
     pub fn source(self) -> u64
         ensures { result ≡ from_of self }
     {
@@ -68,6 +72,29 @@ impl BoardState {
             BoardState::Old(k) | BoardState::Near(k) | BoardState::Twin(k) => k,
             BoardState::Blank | BoardState::Own | BoardState::Solve => 0,
         }
+    }
+
+    // Which searches are made for the board: for old where it is not blank or own, for near where that finds none, and for twin where this does
+    // not either.
+    pub(crate) fn old_sought(self) -> bool
+        ensures { result ≡ old_sought self }
+    {
+        !matches!(self, BoardState::Blank | BoardState::Own)
+    }
+
+    pub(crate) fn near_sought(self) -> bool
+        ensures { result ≡ near_sought self }
+    {
+        matches!(
+            self,
+            BoardState::Near(_) | BoardState::Twin(_) | BoardState::Solve
+        )
+    }
+
+    pub(crate) fn twin_sought(self) -> bool
+        ensures { result ≡ twin_sought self }
+    {
+        matches!(self, BoardState::Twin(_) | BoardState::Solve)
     }
 
     // Is the board to be solved?

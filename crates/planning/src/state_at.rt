@@ -4,23 +4,19 @@ ghost use Rattle.tables.specs.Letters.{built_in};
 ghost use Rattle.planning.specs.States.{board_plans, state_at};
 ghost use Rattle.planning.specs.Plans.{words_of, SameLent, StateTold};
 
-use crate::cards::Card;
+use crate::cards::{Card, index_of};
 use crate::editions::{Both, EditionsRefusal, LentBoxes, read_both};
 use crate::state::{BoardState, state_of};
 use tables::letters::{Conventions, built_in};
 
-// The state of the board at the position p; blank outside 1 to the boards.
+// The state of the board at the position p; blank, which C is told as 0, outside 1 to the boards.
 fn state_in(olds: &[Card], news: &[Card], p: u64) -> BoardState
     ensures { result ≡ state_at (board_plans olds.now news.now) p }
 {
-    if p == 0 {
-        return BoardState::Blank;
+    match index_of(p, news.len()) {
+        Some(k) => state_of(olds, news, k),
+        None => BoardState::Blank,
     }
-    let k = (p - 1) as usize;
-    if k < news.len() {
-        return state_of(olds, news, k);
-    }
-    BoardState::Blank
 }
 
 // Both editions, and the state of the board at a position of the new one, by the given conventions.

@@ -1,6 +1,6 @@
 -- The bounds of a board's numbers, and the lengths of its lists, after any tag.
 use Prim.Native.Nat.{ℕ, ◌+◌, ◌-◌, ◌*◌, ◌≤◌}
-use mathlib.Core.Path.{◌≡◌, refl, sym, ◌∙◌}
+use mathlib.Core.Path.{◌≡◌, refl, ◌∙◌}
 use mathlib.Core.List.{List, [], ◌∷◌, map}
 use mathlib.Core.Bool.{Bool, true, false, cond, ◌&&◌, not}
 use Rattle.std.specs.Prelude.{Option, Some, None, Ok, Err}

@@ -1,20 +1,21 @@
 -- What a tag does to a board, part by part.
-use Prim.Native.Nat.{ℕ, ◌+◌, ◌≤◌}
+use Rattle.reader.specs.declared.section.Kind.TheVariants.{Auction, Play, Optimum}
+use Rattle.reader.specs.declared.section.Kind.{Kind}
+use Rattle.reader.specs.Sections.{lines_at, split_off}
+use Prim.Native.Nat.{ℕ, ◌+◌, ◌≤◌, ◌<◌}
 use mathlib.Core.Path.{◌≡◌, refl}
 use mathlib.Core.Logic.{◌⊎◌, inl, inr}
 use mathlib.Core.List.{List}
 use mathlib.Core.Bool.{Bool, true, false, cond, ◌&&◌, not}
 use native.Mathlib.Omega.{arith}
-use borrow.Author.Tests.{ltb-true}
+use borrow.Author.Tests.{lt-ltb}
 use lib.Dec.{eqb, ltb}
-use lib.ListN.{length, replicate}
+use lib.ListN.{length}
 use Rattle.tables.specs.declared.letters.Conventions.{Conventions}
-use Rattle.tables.specs.declared.refusal.Refusal.{Refusal}
 use Rattle.tables.specs.Text.{trimmed, first_character}
 use Rattle.tables.specs.Letters.{seat_of}
-use Rattle.tables.specs.Tables.{TableReading, table_of_digits}
-use Rattle.reader.specs.declared.deal.Hands.{Hands}
-use Rattle.std.specs.Prelude.{Some, None, Ok, Err}
+use Rattle.tables.specs.Tables.{table_of_digits}
+use Rattle.std.specs.Prelude.{Some, None, Option, IfSome, unwrap_or}
 use Rattle.reader.specs.declared.tag.Span.{Span}
 use Rattle.reader.specs.declared.section.Open.{Open}
 use Rattle.reader.specs.declared.board.Identity.{Identity}
@@ -22,9 +23,8 @@ use Rattle.reader.specs.declared.board.DealCard.{DealCard}
 use Rattle.reader.specs.declared.board.TableCard.{TableCard}
 use Rattle.reader.specs.declared.board.Values.{Values}
 use Rattle.reader.specs.declared.board.Board.{Board}
-use Rattle.reader.specs.Deals.{DealRead, deal_of, hand_words}
-use Rattle.reader.specs.Boards.{identity_by, parsed_deal, deal_read, deal_by, digits_table, table_by, contract_by, is_kept_value, is_kept, value_put, values_by, applied, no_open, seat_open, open_by}
-use Rattle.reader.specs.BoardSteps.{values_put}
+use Rattle.reader.specs.Deals.{DealRead, deal_of}
+use Rattle.reader.specs.Boards.{deal_read, deal_by, digits_table, table_by, is_kept, value_put, values_by, applied, no_open, seat_open, open_by}
 
 -- ---- by the tag's number
 
@@ -33,105 +33,13 @@ abbrev pub with_parts : Board → Identity → DealCard → TableCard → Values
 with_parts b id deal table values contract =
     record { id = id; deal = deal; table = table; values = values; auction = b.auction; play = b.play; trump = b.trump; contract = contract }
 
-same_values : (b : Board) (table : TableCard) (t : Bool) → with_parts b b.id b.deal table (cond t b.values b.values) b.contract ≡ with_parts b b.id b.deal table b.values b.contract
+pub same_values : (b : Board) (table : TableCard) (t : Bool) → with_parts b b.id b.deal table (cond t b.values b.values) b.contract ≡ with_parts b b.id b.deal table b.values b.contract
 same_values b table true = refl
 same_values b table false = refl
 
--- A tag of no known name touches nothing, nor does a Note, nor those that open sections.
-pub applied_other : (c : Conventions) (value : List ℕ) (place : ℕ) (b : Board) → applied c 0 value place b ≡ b
-unfolding applied identity_by deal_by table_by values_by is_kept contract_by
-applied_other c value place b = same_values b b.table (is_kept_value 0 value)
-
-pub applied_note : (c : Conventions) (value : List ℕ) (place : ℕ) (b : Board) → applied c 17 value place b ≡ b
-unfolding applied identity_by deal_by table_by values_by is_kept contract_by
-applied_note c value place b = same_values b b.table (is_kept_value 17 value)
-
-pub applied_opening_auction : (c : Conventions) (value : List ℕ) (place : ℕ) (b : Board) → applied c 15 value place b ≡ b
-unfolding applied identity_by deal_by table_by values_by is_kept contract_by
-applied_opening_auction c value place b = same_values b b.table (is_kept_value 15 value)
-
-pub applied_opening_play : (c : Conventions) (value : List ℕ) (place : ℕ) (b : Board) → applied c 16 value place b ≡ b
-unfolding applied identity_by deal_by table_by values_by is_kept contract_by
-applied_opening_play c value place b = same_values b b.table (is_kept_value 16 value)
-
-pub applied_opening_rows : (c : Conventions) (value : List ℕ) (place : ℕ) (b : Board) → applied c 19 value place b ≡ b
-unfolding applied identity_by deal_by table_by values_by is_kept contract_by
-applied_opening_rows c value place b = same_values b b.table (is_kept_value 19 value)
-
--- A Deal that parsed, one that did not, and a blank one.
-pub applied_dealt :
-    (c : Conventions) (value : List ℕ) (place : ℕ) (b : Board) (h : Hands) →
-    deal_of c value ≡ Some h →
-    applied c 4 value place b ≡ with_parts b b.id (parsed_deal h b.deal) b.table b.values b.contract
-unfolding applied identity_by deal_by table_by values_by is_kept contract_by
-applied_dealt c value place b h e = rw e
-
-pub applied_unparsed :
-    (c : Conventions) (value : List ℕ) (place : ℕ) (b : Board) →
-    deal_of c value ≡ None →
-    eqb (length (trimmed value)) 0 ≡ false →
-    applied c 4 value place b ≡ with_parts b b.id (record { kind = 2; words = b.deal.words }) b.table (value_put 4 place b.values) b.contract
-unfolding applied identity_by deal_by table_by values_by is_kept contract_by
-applied_unparsed c value place b e t = rw (e, t)
-
-pub applied_blank :
-    (c : Conventions) (value : List ℕ) (place : ℕ) (b : Board) →
-    deal_of c value ≡ None →
-    eqb (length (trimmed value)) 0 ≡ true →
-    applied c 4 value place b ≡ b
-unfolding applied identity_by deal_by table_by values_by is_kept contract_by
-applied_blank c value place b e t = rw (e, t)
-
--- DoubleDummyTricks touches the table alone.
-pub applied_digits :
-    (c : Conventions) (value : List ℕ) (place : ℕ) (b : Board) →
-    applied c 18 value place b ≡ with_parts b b.id b.deal (table_by 18 value b.table) b.values b.contract
-unfolding applied identity_by deal_by values_by is_kept contract_by
-applied_digits c value place b = same_values b (table_by 18 value b.table) (is_kept_value 18 value)
-
--- Every other tag leaves deal and table.
-pub applied_plain :
-    (c : Conventions) (k : ℕ) (value : List ℕ) (place : ℕ) (b : Board) →
-    eqb k 4 ≡ false →
-    eqb k 18 ≡ false →
-    applied c k value place b ≡ with_parts b (identity_by c k value b.id) b.deal b.table (values_put k value place b.values) (contract_by c k value b.contract)
-unfolding applied deal_by table_by values_by values_put is_kept
-applied_plain c k value place b e t = rw (e, t)
-
--- ---- what every tag leaves as it is
-
-pub applied_auction : (c : Conventions) (k : ℕ) (value : List ℕ) (place : ℕ) (b : Board) → (applied c k value place b).auction ≡ b.auction
-unfolding applied
-applied_auction c k value place b = refl
-
-pub applied_play : (c : Conventions) (k : ℕ) (value : List ℕ) (place : ℕ) (b : Board) → (applied c k value place b).play ≡ b.play
-unfolding applied
-applied_play c k value place b = refl
-
-pub applied_trump : (c : Conventions) (k : ℕ) (value : List ℕ) (place : ℕ) (b : Board) → (applied c k value place b).trump ≡ b.trump
-unfolding applied
-applied_trump c k value place b = refl
-
 -- ---- the deal
 
--- Only a Deal tag changes it.
-pub deal_stays :
-    (c : Conventions) (k : ℕ) (value : List ℕ) (place : ℕ) (b : Board) →
-    eqb k 4 ≡ false →
-    (applied c k value place b).deal ≡ b.deal
-unfolding applied deal_by
-deal_stays c k value place b e = rw e
-
--- After one that parses, where none was kept unparsed.
-pub deal_parsed :
-    (c : Conventions) (value : List ℕ) (place : ℕ) (b : Board) (h : Hands) →
-    deal_of c value ≡ Some h →
-    eqb b.deal.kind 2 ≡ false →
-    (applied c 4 value place b).deal ≡ record { kind = 1; words = hand_words h }
-unfolding applied deal_by
-deal_parsed c value place b h e t = rw (e, t)
-
--- One that was kept unparsed wins for good.
+-- One that was kept unparsed wins for good. It stands for its own sake, as the next does.
 pub deal_unparsed_stays :
     (c : Conventions) (k : ℕ) (value : List ℕ) (place : ℕ) (b : Board) →
     b.deal.kind ≡ 2 →
@@ -149,31 +57,6 @@ deal_unparsed_stays c k value place b e = go (eqb k 4) (deal_of c value)
     go false r = e
 
 -- ---- the table
-
--- Only a DoubleDummyTricks tag changes it.
-pub table_stays :
-    (c : Conventions) (k : ℕ) (value : List ℕ) (place : ℕ) (b : Board) →
-    eqb k 18 ≡ false →
-    (applied c k value place b).table ≡ b.table
-unfolding applied table_by
-table_stays c k value place b e = rw e
-
--- After good digits, and after bad ones, where no table of rows is there.
-pub table_read_lem :
-    (c : Conventions) (value : List ℕ) (place : ℕ) (b : Board) (cells : List ℕ) →
-    table_of_digits value ≡ Ok cells →
-    eqb b.table.kind 2 ≡ false →
-    (applied c 18 value place b).table ≡ record { kind = 1; cells = cells }
-unfolding applied table_by
-table_read_lem c value place b cells e t = rw (t, e)
-
-pub table_refused :
-    (c : Conventions) (value : List ℕ) (place : ℕ) (b : Board) (f : Refusal) →
-    table_of_digits value ≡ Err f →
-    eqb b.table.kind 2 ≡ false →
-    (applied c 18 value place b).table ≡ record { kind = 0; cells = replicate 20 0 }
-unfolding applied table_by
-table_refused c value place b f e t = rw (t, e)
 
 -- A table of rows wins for good.
 pub table_rows_stay :
@@ -298,72 +181,43 @@ applied_places P c k value place b p a =
 
 -- ---- sections
 
--- A section that is open has a kind; an auction's dealer and a play's leader are seats; it starts no later than was asked.
-pub record Seated (at : ℕ) (split : Span) (o : Open) : Type 0 where
-  pub kind_low : o.kind ≤ 3
-  pub seat_low : o.seat ≤ 4
-  pub leader_low : o.kind ≡ 2 → o.seat ≤ 3
-  pub dealer_low : o.kind ≡ 1 → o.seat ≤ 3
-  pub lines_at : o.at ≤ at
-  pub split_end : o.split.start + o.split.len ≤ split.start + split.len
+-- A section that a tag opens starts, and what was split off ends, no later than was asked.
+pub record Opened (at : ℕ) (split : Span) (o : Option Open) : Type 0 where
+  pub lines_early : lines_at o ≤ at
+  pub split_end : (split_off o).start + (split_off o).len ≤ split.start + split.len
 
-no_open_lem : (at : ℕ) (split : Span) → Seated at split no_open
-no_open_lem at split =
-    record {
-      kind_low = omega arith;
-      seat_low = omega arith;
-      leader_low = λ e. absurd (omega arith);
-      dealer_low = λ e. absurd (omega arith);
-      lines_at = omega arith;
-      split_end = omega arith;
-    }
+opened_any : (at : ℕ) (split : Span) (t : Bool) (kind : Kind) → Opened at split (cond t (Some (record { kind = kind; at = at; split = split })) no_open)
+opened_any at split true kind = record { lines_early = omega arith; split_end = omega arith }
+opened_any at split false kind = record { lines_early = omega arith; split_end = omega arith }
 
-rows_open : (at : ℕ) (split : Span) → Seated at split (record { kind = 3; seat = 4; at = at; split = split })
-rows_open at split =
-    record {
-      kind_low = omega arith;
-      seat_low = omega arith;
-      leader_low = λ e. absurd (omega arith);
-      dealer_low = λ e. absurd (omega arith);
-      lines_at = omega arith;
-      split_end = omega arith;
-    }
-
-seat_open_lem : (kind seat at : ℕ) (split : Span) → kind ≤ 3 → Seated at split (seat_open kind seat at split)
-seat_open_lem kind seat at split h = go (ltb seat 4) refl
-  where
-    go : (t : Bool) → ltb seat 4 ≡ t → Seated at split (cond t (record { kind = kind; seat = seat; at = at; split = split }) no_open)
-    go true e =
-        let low : seat ≤ 3 = omega (arith, ltb-true seat 4 e) in
-        record {
-          kind_low = h;
-          seat_low = omega arith;
-          leader_low = λ o. low;
-          dealer_low = λ o. low;
-          lines_at = omega arith;
-          split_end = omega arith;
-        }
-    go false e = no_open_lem at split
-
-pub open_seated : (c : Conventions) (k : ℕ) (value : List ℕ) (at : ℕ) (split : Span) → Seated at split (open_by c k value at split)
+pub open_early : (c : Conventions) (k : ℕ) (value : List ℕ) (at : ℕ) (split : Span) → Opened at split (open_by c k value at split)
 unfolding open_by
-open_seated c k value at split = go (eqb k 15) (eqb k 16) (eqb k 19)
+open_early c k value at split = go (eqb k 15) (eqb k 16) (eqb k 19)
   where
     go :
         (p q r : Bool) →
-        Seated at split
-        (cond p (seat_open 1 (seat_of c (first_character value)) at split)
-        (cond q (seat_open 2 (seat_of c (first_character value)) at split)
-        (cond r (record { kind = 3; seat = 4; at = at; split = split }) no_open)))
-    go true q r = seat_open_lem 1 (seat_of c (first_character value)) at split (omega arith)
-    go false true r = seat_open_lem 2 (seat_of c (first_character value)) at split (omega arith)
-    go false false true = rows_open at split
-    go false false false = no_open_lem at split
+        Opened at split
+        (cond p (seat_open Auction (seat_of c (first_character value)) at split)
+        (cond q (seat_open Play (seat_of c (first_character value)) at split)
+        (cond r (Some (record { kind = Optimum; at = at; split = split })) no_open)))
+    go true q r = opened_any at split (ltb (seat_of c (first_character value)) 4) (Auction (seat_of c (first_character value)))
+    go false true r = opened_any at split (ltb (seat_of c (first_character value)) 4) (Play (seat_of c (first_character value)))
+    go false false r = opened_any at split r Optimum
 
-pub opened :
-    (c : Conventions) (k : ℕ) (value : List ℕ) (at : ℕ) (split : Span) (r : Open) →
-    r ≡ open_by c k value at split →
-    (r ≡ open_by c k value at split) × (r.seat ≤ 4) × (r.kind ≤ 3) × (r.kind ≡ 2 → r.seat ≤ 3) × (r.kind ≡ 1 → r.seat ≤ 3)
-opened c k value at split r e =
-    let s : Seated at split r = rw e (open_seated c k value at split) in
-    (e, s.seat_low, s.kind_low, s.leader_low, s.dealer_low)
+-- A section with a seat, from the reading of its seat.
+pub open_none : (kind : ℕ → Kind) {seat : ℕ} (at : ℕ) (split : Span) {r : Option ℕ} → unwrap_or r 4 ≡ seat → r ≡ None → seat_open kind seat at split ≡ None
+open_none kind at split e h = rw (← e, h)
+
+pub open_some : (kind : ℕ → Kind) {seat s : ℕ} (at : ℕ) (split : Span) {r : Option ℕ} → unwrap_or r 4 ≡ seat → IfSome r (λ n. n < 4) → r ≡ Some s
+    → seat_open kind seat at split ≡ Some (record { kind = kind s; at = at; split = split })
+open_some kind {s = s} at split e i h =
+    let low : s < 4 = rw h at i in
+    rw (← e, h, lt-ltb s 4 low)
+
+pub open_auction : (c : Conventions) (k : ℕ) (value : List ℕ) (at : ℕ) (split : Span) → k ≡ 15 → open_by c k value at split ≡ seat_open Auction (seat_of c (first_character value)) at split
+unfolding open_by
+open_auction c k value at split e = rw e
+
+pub open_play : (c : Conventions) (k : ℕ) (value : List ℕ) (at : ℕ) (split : Span) → k ≡ 16 → open_by c k value at split ≡ seat_open Play (seat_of c (first_character value)) at split
+unfolding open_by
+open_play c k value at split e = rw e

@@ -1,4 +1,6 @@
 -- Worked examples of what tags do to a board, by the built-in letters. The value's entry stands at 7, so that its place is 8.
+use Rattle.std.specs.Prelude.{Option, Some}
+use Rattle.reader.specs.declared.section.Kind.TheVariants.{Auction, Play, Optimum}
 use Prim.Native.Nat.{ℕ}
 use Prim.Native.String.{String}
 use mathlib.Core.Path.{◌≡◌, refl}
@@ -212,19 +214,19 @@ pin_auction = refl
 
 -- ---- sections
 
-unfoldable opens : String → String → Open
+unfoldable opens : String → String → Option Open
 unfolding is_inside built_in seat_of capital tag_names tag_number open_by
 opens name value = open_by built_in (tag_number (ascii name)) (ascii value) 40 no_span
 
-pin_opens_auction : opens "Auction" "west" ≡ record { kind = 1; seat = 3; at = 40; split = no_span }
+pin_opens_auction : opens "Auction" "west" ≡ Some (record { kind = Auction 3; at = 40; split = no_span })
 unfolding opens
 pin_opens_auction = refl
 
-pin_opens_play : opens "Play" "E" ≡ record { kind = 2; seat = 1; at = 40; split = no_span }
+pin_opens_play : opens "Play" "E" ≡ Some (record { kind = Play 1; at = 40; split = no_span })
 unfolding opens
 pin_opens_play = refl
 
-pin_opens_optimum : opens "OptimumResultTable" "" ≡ record { kind = 3; seat = 4; at = 40; split = no_span }
+pin_opens_optimum : opens "OptimumResultTable" "" ≡ Some (record { kind = Optimum; at = 40; split = no_span })
 unfolding opens
 pin_opens_optimum = refl
 

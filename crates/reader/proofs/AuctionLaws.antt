@@ -7,7 +7,7 @@ use mathlib.Core.Bool.{Bool, true, false, cond, ◌&&◌, ◌||◌}
 use mathlib.Core.List.{List, [], ◌∷◌}
 use native.Mathlib.Nat.{add-zero}
 use native.Mathlib.Omega.{arith}
-use borrow.Author.Tests.{lt-ltb, le-ltb}
+use borrow.Author.Tests.{lt-ltb}
 use lib.Dec.{ltb, eqb}
 use lib.ListN.{length, take}
 use Rattle.tables.specs.declared.letters.Conventions.{Conventions}
@@ -22,7 +22,7 @@ use Rattle.reader.specs.declared.store.Entries.{Entries}
 use Rattle.reader.proofs.PieceLaws.{adds_none, adds_then}
 use Rattle.reader.specs.Pieces.{Piece, Out, entry, tokens_at}
 use Rattle.reader.specs.PieceSteps.{Adds, Emits}
-use Rattle.reader.specs.Auction.{annotation, bidding, call_out, passes_out, called_by, call_token_of, called, called_piece}
+use Rattle.reader.specs.Auction.{annotation, bidding, call_out, called_by, call_token_of, called, called_piece}
 
 -- ---- counts
 

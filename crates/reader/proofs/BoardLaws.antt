@@ -1,4 +1,6 @@
 -- The entries of a record's state are counted.
+use Rattle.reader.specs.Boards.{in_block, block_of}
+use Rattle.std.specs.Prelude.{Some}
 use Prim.Native.Nat.{ℕ, ◌+◌}
 use mathlib.Core.Path.{◌≡◌, refl, sym, ◌∙◌}
 use mathlib.Core.Bool.{Bool, true, false, cond}
@@ -17,7 +19,7 @@ use Rattle.reader.specs.declared.line.Line.{Line}
 use Rattle.reader.specs.declared.line.Line.TheVariants.{Blank, Brace, Directive, Bracket, Data, Tag as TagOn}
 use Rattle.reader.specs.Lines.{line_kind, has_brace, last_brace}
 use Rattle.tables.specs.Text.{lead}
-use Rattle.reader.specs.Sections.{walked_all}
+use Rattle.reader.specs.Sections.{walked_all, kind_of}
 use Rattle.reader.specs.Pieces.{Out, and_then, raw_lines}
 use Rattle.reader.specs.Boards.{no_span, at, closed_by, closed, tagged, directed, data_added, read_by, tag_line_out, with_commentary, blocked, braced, in_commentary, line_by, line_out, lines_out, no_state, record_out}
 
@@ -38,7 +40,7 @@ counts_cond false s o p e f = f
 pub closed_counts : (c : Conventions) (r : List ℕ) (s : State) → Counts s (closed c r s)
 unfolding closed
 closed_counts c r s =
-    counts_cond (eqb s.section.kind 0) s (record { state = s; entries = [] }) (closed_by s (walked_all c r s.section s.board.contract)) (counts_none s s refl) refl
+    counts_cond (eqb (kind_of s.section) 0) s (record { state = s; entries = [] }) (closed_by s (walked_all c r s.section s.board.contract)) (counts_none s s refl) refl
 
 pub tagged_counts : (c : Conventions) (s : State) (p : ℕ) (l : List ℕ) (q : ℕ) (t : Tag) (d : Span) → Counts s (tagged c s p l q t d)
 unfolding tagged
@@ -61,13 +63,13 @@ braced_counts : (r : List ℕ) (s : State) (p : ℕ) (l : List ℕ) → Counts s
 unfolding braced
 braced_counts r s p l =
     let o = blocked r s (p + length (lead l) + 1) (p + last_brace l) in
-    let t = with_commentary s true (p + length (lead l) + 1) in
+    let t = with_commentary s (Some (p + length (lead l) + 1)) in
     counts_cond (has_brace l) s o (record { state = t; entries = [] }) (blocked_counts r s (p + length (lead l) + 1) (p + last_brace l)) (counts_none s t refl)
 
 commentary_counts : (r : List ℕ) (s : State) (p : ℕ) (l : List ℕ) → Counts s (in_commentary r s p l)
 unfolding in_commentary
 commentary_counts r s p l =
-    counts_cond (has_brace l) s (blocked r s s.block (p + last_brace l)) (record { state = s; entries = [] }) (blocked_counts r s s.block (p + last_brace l)) (counts_none s s refl)
+    counts_cond (has_brace l) s (blocked r s (block_of s) (p + last_brace l)) (record { state = s; entries = [] }) (blocked_counts r s (block_of s) (p + last_brace l)) (counts_none s s refl)
 
 by_counts : (c : Conventions) (r : List ℕ) (s : State) (p : ℕ) (l : List ℕ) (k : Line) → Counts s (line_by c r s p l k)
 by_counts c r s p l Blank = counts_none s s refl
@@ -79,7 +81,7 @@ by_counts c r s p l (Data d) = refl
 
 pub line_counts : (c : Conventions) (r : List ℕ) (s : State) (p : ℕ) (l : List ℕ) → Counts s (line_out c r s p l)
 unfolding line_out
-line_counts c r s p l = counts_cond s.commentary s (in_commentary r s p l) (line_by c r s p l (line_kind l)) (commentary_counts r s p l) (by_counts c r s p l (line_kind l))
+line_counts c r s p l = counts_cond (in_block s) s (in_commentary r s p l) (line_by c r s p l (line_kind l)) (commentary_counts r s p l) (by_counts c r s p l (line_kind l))
 
 pub lines_counts : (c : Conventions) (r : List ℕ) (s : State) (p : ℕ) (ls : List (List ℕ)) → Counts s (lines_out c r s p ls)
 lines_counts c r s p [] = closed_counts c r s

@@ -1,6 +1,8 @@
 -- Where the card of a record points to: a value's word to a value entry of the record, a section's words to a run of its calls or
 -- tricks, which lies inside the record's entries.
-use Prim.Native.Nat.{ℕ, ◌+◌, ◌-◌, ◌≤◌}
+use Rattle.reader.specs.Boards.{in_block, block_of}
+use Rattle.std.specs.Prelude.{Some}
+use Prim.Native.Nat.{ℕ, ◌+◌, ◌-◌}
 use mathlib.Core.Path.{◌≡◌, refl, sym, ap}
 use mathlib.Core.Logic.{◌⊎◌, inl, inr}
 use mathlib.Core.Bool.{Bool, true, false, cond}
@@ -31,16 +33,16 @@ use Rattle.reader.specs.Tag.{cut}
 use Rattle.reader.specs.Names.{tag_number}
 use Rattle.reader.specs.Pieces.{Piece, Out, and_then, entry, raw_lines}
 use Rattle.reader.specs.Play.{last_trick}
-use Rattle.reader.specs.Sections.{walked, no_walk, walked_all, section_data}
-use Rattle.reader.specs.Boards.{applied, with_sections, rows_closed, board_closed, closed_entries, closed_by, closed, no_span, at, tagged, directed, data_added, read_by, tag_line_out, with_commentary, blocked, braced, in_commentary, line_by, line_out, lines_out, no_board, no_state, record_out, is_all_white}
+use Rattle.reader.specs.Sections.{walked, no_walk, walked_all, section_data, kind_of, opener}
+use Rattle.reader.specs.Boards.{applied, with_sections, rows_closed, rows_taken, board_closed, closed_entries, closed_by, closed, no_span, at, tagged, directed, data_added, read_by, tag_line_out, with_commentary, blocked, braced, in_commentary, line_by, line_out, lines_out, no_board, no_state, record_out, is_all_white}
 use Rattle.reader.specs.Fellows.{Stands}
 use Rattle.reader.proofs.EntryLaws.{All, none, one, all_append, all_map, Inside, out_all_lem, out_count}
 use Rattle.reader.proofs.AuctionLaws.{CallsInside, calls_counted}
 use Rattle.reader.proofs.PlayLaws.{TricksOnly, LastTrickOnly, tricks_counted, last_counted}
 use Rattle.reader.proofs.ApplyLaws.{AllPlaces, applied_places}
 use Rattle.reader.proofs.Counts.{any, chosen}
-use Rattle.reader.proofs.StandLaws.{stands_left, stands_right, stands_fit}
-use Rattle.std.specs.Prelude.{Ok, Err}
+use Rattle.reader.proofs.StandLaws.{stands_left, stands_right}
+use Rattle.std.specs.Prelude.{Ok, Err, Option, Some, None}
 
 -- The kinds of entries: 2 a value, 6 a call, 7 an annotation, 8 a trick.
 abbrev pub IsValueKind : ℕ → Type 0
@@ -62,11 +64,6 @@ pub record BoardPlaced (es : List Entry) (b : Board) : Type 0 where
   pub values : AllPlaces (λ v. Points IsValueKind es v 1) b.values
   pub auction : Points IsCallKind es b.auction.first b.auction.count
   pub play : Points IsTrickKind es b.play.first b.play.count
-
--- The run lies inside the entries.
-pub points_fit : {K : ℕ → Type 0} {es : List Entry} {first count : ℕ} → Points K es first count → (first ≡ 0 → ⊥) → first + count ≤ length es + 1
-points_fit (absent e) h = absurd (h e)
-points_fit (there j run e s l a) h = omega (arith, stands_fit s)
 
 -- ---- more entries behind
 
@@ -117,46 +114,46 @@ keeps_then s o p f g es h = rw (append_assoc es o.entries p.entries) at (g (es +
 stands_new : (es : List Entry) {n : ℕ} (new : List Entry) → length es ≡ n → Stands (es ++ new) n new
 stands_new es new e = record { before = es; after = []; whole = ap (λ (l : List Entry). es ++ l) (sym (append-nil new)); count = e }
 
-closed_kept : (b : Board) (o : Open) (n : ℕ) (w : Walk) (es new : List Entry) → Kept es n b
-    → (eqb o.kind 1 ≡ true → (length new ≡ w.bidding.count) × All (λ e. IsCallKind e.kind) new)
-    → (eqb o.kind 1 ≡ false → eqb o.kind 2 ≡ true → (length new ≡ (last_trick w.tricks).state.count) × All (λ e. IsTrickKind e.kind) new)
+closed_kept : (b : Board) (o : Option Open) (n : ℕ) (w : Walk) (es new : List Entry) → Kept es n b
+    → (eqb (kind_of o) 1 ≡ true → (length new ≡ w.bidding.count) × All (λ e. IsCallKind e.kind) new)
+    → (eqb (kind_of o) 1 ≡ false → eqb (kind_of o) 2 ≡ true → (length new ≡ (last_trick w.tricks).state.count) × All (λ e. IsTrickKind e.kind) new)
     → Kept (es ++ new) (n + length new) (board_closed b o n w)
-closed_kept b o n w es new h calls tricks = go (eqb o.kind 1) refl (eqb o.kind 2) refl w.bidding.any w.tricks.any w.rows.fault
+closed_kept b o n w es new h calls tricks = go (eqb (kind_of o) 1) refl (eqb (kind_of o) 2) refl w.bidding.any w.tricks.any w.rows
   where
     grown : Kept (es ++ new) (n + length new) b
     grown = kept_grows new h
 
     auction : Section
-    auction = record { first = n + 1; count = w.bidding.count; seat = o.seat; end = w.bidding.end }
+    auction = record { first = n + 1; count = w.bidding.count; seat = opener o; end = w.bidding.end }
 
     play : Section
-    play = record { first = n + 1; count = (last_trick w.tricks).state.count; seat = o.seat; end = w.tricks.end }
+    play = record { first = n + 1; count = (last_trick w.tricks).state.count; seat = opener o; end = w.tricks.end }
 
     rows : (x : TableReading) → Kept (es ++ new) (n + length new) (rows_closed b x)
     rows (Ok cells) = record { counted = grown.counted; placed = record { values = grown.placed.values; auction = grown.placed.auction; play = grown.placed.play } }
     rows (Err f) = grown
 
-    go : (x : Bool) → eqb o.kind 1 ≡ x → (y : Bool) → eqb o.kind 2 ≡ y → (called played fault : Bool)
+    go : (x : Bool) → eqb (kind_of o) 1 ≡ x → (y : Bool) → eqb (kind_of o) 2 ≡ y → (called played : Bool) (t : Option (List ℕ))
         → Kept (es ++ new) (n + length new)
         (cond x (cond called (with_sections b b.table auction b.play b.trump) b)
         (cond y (cond played (with_sections b b.table b.auction play b.contract) b)
-        (cond fault b (rows_closed b (gathered w.rows.cells)))))
-    go true ex y ey true played fault =
+        (rows_taken b t)))
+    go true ex y ey true played t =
         let f = calls ex in
         record {
           counted = grown.counted;
           placed = record { values = grown.placed.values; auction = there n new refl (stands_new es new h.counted) f.0 f.1; play = grown.placed.play };
         }
-    go true ex y ey false played fault = grown
-    go false ex true ey called true fault =
+    go true ex y ey false played t = grown
+    go false ex true ey called true t =
         let f = tricks ex ey in
         record {
           counted = grown.counted;
           placed = record { values = grown.placed.values; auction = grown.placed.auction; play = there n new refl (stands_new es new h.counted) f.0 f.1 };
         }
-    go false ex true ey called false fault = grown
-    go false ex false ey called played true = grown
-    go false ex false ey called played false = rows (gathered w.rows.cells)
+    go false ex true ey called false t = grown
+    go false ex false ey called played None = grown
+    go false ex false ey called played (Some cells) = rows (gathered cells)
 
 call_kind : (lo hi : ℕ) (e : Entry) → Inside lo hi e → IsCallKind e.kind
 call_kind lo hi e i = either (eqb e.kind 6) (eqb e.kind 7) i.placed (λ t. inl (eqb-true e.kind 6 t)) (λ t. inr (eqb-true e.kind 7 t))
@@ -169,34 +166,34 @@ no_tricks_lem : no_walk.tricks.count ≡ 0
 unfolding no_walk
 no_tricks_lem = refl
 
-module _ (c : Conventions) (o : Open) (trump : ℕ) (w : Walk) (q : Piece) where
-  calls_each : eqb o.kind 1 ≡ true → All (λ e. IsCallKind e.kind) (walked c o trump w q).entries
+module _ (c : Conventions) (o : Option Open) (trump : ℕ) (w : Walk) (q : Piece) where
+  calls_each : eqb (kind_of o) 1 ≡ true → All (λ e. IsCallKind e.kind) (walked c o trump w q).entries
   unfolding walked
   calls_each x = rw x (all_map (call_kind q.at (q.at + length q.bytes)) (CallsInside c w.bidding q))
 
-  calls_count : eqb o.kind 1 ≡ true → (walked c o trump w q).state.bidding.count ≡ w.bidding.count + length (walked c o trump w q).entries
+  calls_count : eqb (kind_of o) 1 ≡ true → (walked c o trump w q).state.bidding.count ≡ w.bidding.count + length (walked c o trump w q).entries
   unfolding walked
   calls_count x = rw x (calls_counted c w.bidding q)
 
-  tricks_each : eqb o.kind 1 ≡ false → eqb o.kind 2 ≡ true → All (λ e. IsTrickKind e.kind) (walked c o trump w q).entries
+  tricks_each : eqb (kind_of o) 1 ≡ false → eqb (kind_of o) 2 ≡ true → All (λ e. IsTrickKind e.kind) (walked c o trump w q).entries
   unfolding walked
-  tricks_each x y = rw (x, y) (all_map (λ e u. u.trick) (TricksOnly c o.seat trump w.tricks q))
+  tricks_each x y = rw (x, y) (all_map (λ e u. u.trick) (TricksOnly c (opener o) trump w.tricks q))
 
-  tricks_count : eqb o.kind 1 ≡ false → eqb o.kind 2 ≡ true → (walked c o trump w q).state.tricks.count ≡ w.tricks.count + length (walked c o trump w q).entries
+  tricks_count : eqb (kind_of o) 1 ≡ false → eqb (kind_of o) 2 ≡ true → (walked c o trump w q).state.tricks.count ≡ w.tricks.count + length (walked c o trump w q).entries
   unfolding walked
-  tricks_count x y = rw (x, y) (tricks_counted c o.seat trump w.tricks q)
+  tricks_count x y = rw (x, y) (tricks_counted c (opener o) trump w.tricks q)
 
-module _ (c : Conventions) (r : List ℕ) (o : Open) (trump : ℕ) where
-  calls_run : eqb o.kind 1 ≡ true
+module _ (c : Conventions) (r : List ℕ) (o : Option Open) (trump : ℕ) where
+  calls_run : eqb (kind_of o) 1 ≡ true
       → (length (closed_entries o (walked_all c r o trump)) ≡ (walked_all c r o trump).state.bidding.count) × All (λ e. IsCallKind e.kind) (closed_entries o (walked_all c r o trump))
   unfolding walked_all
   calls_run x =
-      let y : eqb o.kind 2 ≡ false = ap (λ (k : ℕ). eqb k 2) (eqb-true o.kind 1 x) in
+      let y : eqb (kind_of o) 2 ≡ false = ap (λ (k : ℕ). eqb k 2) (eqb-true (kind_of o) 1 x) in
       let a = out_all_lem (walked c o trump) {P = λ e. IsCallKind e.kind} (λ w q u. calls_each c o trump w q x) no_walk (any (section_data r o)) in
       let n = out_count (walked c o trump) (λ (w : Walk). w.bidding.count) (λ w q. calls_count c o trump w q x) no_walk (section_data r o) in
       rw (y, append-nil) (omega (arith, no_calls, n), a)
 
-  tricks_run : eqb o.kind 1 ≡ false → eqb o.kind 2 ≡ true
+  tricks_run : eqb (kind_of o) 1 ≡ false → eqb (kind_of o) 2 ≡ true
       → (length (closed_entries o (walked_all c r o trump)) ≡ (last_trick (walked_all c r o trump).state.tricks).state.count) × All (λ e. IsTrickKind e.kind) (closed_entries o (walked_all c r o trump))
   unfolding walked_all
   tricks_run x y =
@@ -209,7 +206,7 @@ closed_keeps : (c : Conventions) (r : List ℕ) (s : State) → Keeps s (closed 
 unfolding closed
 closed_keeps c r s =
     let w = walked_all c r s.section s.board.contract in
-    chosen (Keeps s) (eqb s.section.kind 0) (record { state = s; entries = [] }) (closed_by s w)
+    chosen (Keeps s) (eqb (kind_of s.section) 0) (record { state = s; entries = [] }) (closed_by s w)
     (λ e. keeps_none s s refl refl)
     (λ e es h.
     closed_kept s.board s.section s.n w.state es (closed_entries s.section w) h
@@ -256,14 +253,14 @@ blocked_keeps r s i j es h = kept_grows (cond (is_all_white r i j) [] (entry 4 i
 commentary_keeps : (r : List ℕ) (s : State) (p : ℕ) (l : List ℕ) → Keeps s (in_commentary r s p l)
 unfolding in_commentary
 commentary_keeps r s p l =
-    chosen (Keeps s) (has_brace l) (blocked r s s.block (p + last_brace l)) (record { state = s; entries = [] })
-    (λ e. blocked_keeps r s s.block (p + last_brace l))
+    chosen (Keeps s) (has_brace l) (blocked r s (block_of s) (p + last_brace l)) (record { state = s; entries = [] })
+    (λ e. blocked_keeps r s (block_of s) (p + last_brace l))
     (λ e. keeps_none s s refl refl)
 
 brace_keeps : (r : List ℕ) (s : State) (p : ℕ) (l : List ℕ) → Keeps s (braced r s p l)
 unfolding braced
 brace_keeps r s p l =
-    let t = with_commentary s true (p + length (lead l) + 1) in
+    let t = with_commentary s (Some (p + length (lead l) + 1)) in
     chosen (Keeps s) (has_brace l) (blocked r s (p + length (lead l) + 1) (p + last_brace l)) (record { state = t; entries = [] })
     (λ e. blocked_keeps r s (p + length (lead l) + 1) (p + last_brace l))
     (λ e. keeps_none s t refl refl)
@@ -279,7 +276,7 @@ kind_keeps c r s p l (Data d) = λ es h. kept_grows (data_added s p d).entries h
 line_keeps : (c : Conventions) (r : List ℕ) (s : State) (p : ℕ) (l : List ℕ) → Keeps s (line_out c r s p l)
 unfolding line_out
 line_keeps c r s p l =
-    chosen (Keeps s) s.commentary (in_commentary r s p l) (line_by c r s p l (line_kind l)) (λ e. commentary_keeps r s p l) (λ e. kind_keeps c r s p l (line_kind l))
+    chosen (Keeps s) (in_block s) (in_commentary r s p l) (line_by c r s p l (line_kind l)) (λ e. commentary_keeps r s p l) (λ e. kind_keeps c r s p l (line_kind l))
 
 -- ---- the lines of a record
 

@@ -1,5 +1,8 @@
 -- How many entries a text has: at most four for each byte. A line outside sections adds at most three, a section that closes at most
 -- two for each byte of its data and the last trick; its data lies between its tag and the line that closes it.
+use Rattle.reader.specs.Boards.{in_block, block_of}
+use Rattle.reader.specs.declared.section.Kind.TheVariants.{Auction, Play, Optimum}
+use Rattle.reader.specs.declared.section.Kind.{Kind}
 use Prim.Native.Nat.{ℕ, suc, ◌+◌, ◌*◌, ◌≤◌, ◌<◌}
 use mathlib.Core.Path.{◌≡◌, refl, sym, ap, ◌∙◌}
 use mathlib.Core.Bool.{Bool, true, false, cond, ◌||◌}
@@ -29,7 +32,7 @@ use Rattle.reader.specs.Names.{tag_number}
 use Rattle.reader.specs.Lines.{is_blank, has_brace, last_brace, split_as, split_line, bracket_as, bracket_line, kind_by, line_kind, opens_board}
 use Rattle.reader.specs.LineSteps.{LinePlaced, ReadingPlaced}
 use Rattle.reader.specs.Pieces.{Piece, Out, entry, raw_lines}
-use Rattle.reader.specs.Sections.{commentary_after, closes_section, stops_at, data_piece, piece_of, data_in, split_piece, section_data, walked, no_walk, walked_all}
+use Rattle.reader.specs.Sections.{commentary_after, closes_section, stops_at, data_piece, piece_of, data_in, split_piece, section_data, walked, no_walk, walked_all, kind_of, opener, kind_number}
 use Rattle.reader.specs.Boards.{last_entries, closed, no_span, at, seat_open, open_by, tagged, data_added, tag_line_out, blocked, braced, in_commentary, line_by, line_out, lines_out, no_state, record_out, is_all_white}
 use Rattle.reader.specs.Records.{records_of}
 use Rattle.reader.specs.Editions.{cards_from, entries_from, cards_of, entries_of}
@@ -43,14 +46,14 @@ use Rattle.reader.proofs.Seams.{records_fit, records_few}
 
 -- ---- a section
 
-walked_few : (c : Conventions) (o : Open) (trump : ℕ) (w : Walk) (q : Piece) → length (walked c o trump w q).entries ≤ 2 * length q.bytes
+walked_few : (c : Conventions) (o : Option Open) (trump : ℕ) (w : Walk) (q : Piece) → length (walked c o trump w q).entries ≤ 2 * length q.bytes
 unfolding walked
 walked_few c o trump w q =
-    by_cases (eqb o.kind 1)
+    by_cases (eqb (kind_of o) 1)
     (λ e. rw e (CallsFew c w.bidding q))
     (λ e.
-    by_cases (eqb o.kind 2)
-    (λ f. rw (e, f) (omega (arith, TricksFew c o.seat trump w.tricks q)))
+    by_cases (eqb (kind_of o) 2)
+    (λ f. rw (e, f) (omega (arith, TricksFew c (opener o) trump w.tricks q)))
     (λ f. rw (e, f) (omega arith)))
 
 pub any : {A : Type 0} (xs : List A) → All (λ (x : A). Unit {0}) xs
@@ -58,7 +61,7 @@ any [] = none
 any (x ∷ xs) = one tt (any xs)
 
 -- The data of a section adds at most two entries for each of its bytes.
-pub SectionFew : (c : Conventions) (r : List ℕ) (o : Open) (trump : ℕ) → length (walked_all c r o trump).entries ≤ 2 * bytes_in (section_data r o)
+pub SectionFew : (c : Conventions) (r : List ℕ) (o : Option Open) (trump : ℕ) → length (walked_all c r o trump).entries ≤ 2 * bytes_in (section_data r o)
 unfolding walked_all
 SectionFew c r o trump = out_few (walked c o trump) 2 (λ w q u. walked_few c o trump w q) no_walk (any (section_data r o))
 
@@ -66,17 +69,17 @@ last_few : (kind : ℕ) (w : Walk) → length (last_entries kind w) ≤ 1
 last_few kind w = by_cases (eqb kind 2) (λ e. rw e (last_counted w.tricks).few) (λ e. rw e (omega arith))
 
 -- The most entries that closing a section may add.
-abbrev pub closing_most : List ℕ → Open → ℕ
-closing_most r o = cond (eqb o.kind 0) 0 (2 * bytes_in (section_data r o) + 1)
+abbrev pub closing_most : List ℕ → Option Open → ℕ
+closing_most r o = cond (eqb (kind_of o) 0) 0 (2 * bytes_in (section_data r o) + 1)
 
 pub ClosedFew : (c : Conventions) (r : List ℕ) (s : State) → length (closed c r s).entries ≤ closing_most r s.section
 unfolding closed
 ClosedFew c r s =
-    by_cases (eqb s.section.kind 0)
+    by_cases (eqb (kind_of s.section) 0)
     (λ e. rw e (omega arith))
     (λ e.
     let w = walked_all c r s.section s.board.contract in
-    rw (e, length-append) (omega (arith, SectionFew c r s.section s.board.contract, last_few s.section.kind w.state)))
+    rw (e, length-append) (omega (arith, SectionFew c r s.section s.board.contract, last_few (kind_of s.section) w.state)))
 
 -- ---- the data of a section
 
@@ -117,25 +120,25 @@ split_few r s = by_cases (eqb s.len 0) (λ e. rw e (omega arith)) (λ e. rw e (o
 abbrev opened_most : List ℕ → ℕ → Span → ℕ
 opened_most r q split = 2 * split.len + 1 + 2 * bytes_in (data_in false q (raw_lines (drop q r)))
 
-kind_most : (r : List ℕ) (kind seat q : ℕ) (split : Span) → closing_most r (record { kind = kind; seat = seat; at = q; split = split }) ≤ opened_most r q split
+kind_most : (r : List ℕ) (kind : Kind) (q : ℕ) (split : Span) → closing_most r (Some (record { kind = kind; at = q; split = split })) ≤ opened_most r q split
 unfolding section_data
-kind_most r kind seat q split =
-    by_cases (eqb kind 0)
+kind_most r kind q split =
+    by_cases (eqb (kind_number kind) 0)
     (λ e. rw e (omega arith))
     (λ e. rw (e, bytes_append (split_piece r split)) (omega (arith, split_few r split)))
 
-seat_most : (r : List ℕ) (kind seat q : ℕ) (split : Span) → closing_most r (seat_open kind seat q split) ≤ opened_most r q split
-seat_most r kind seat q split = by_cases (ltb seat 4) (λ e. rw e (kind_most r kind seat q split)) (λ e. rw e (omega arith))
+seat_most : (r : List ℕ) (kind : ℕ → Kind) (seat q : ℕ) (split : Span) → closing_most r (seat_open kind seat q split) ≤ opened_most r q split
+seat_most r kind seat q split = by_cases (ltb seat 4) (λ e. rw e (kind_most r (kind seat) q split)) (λ e. rw e (omega arith))
 
 open_most : (c : Conventions) (r : List ℕ) (k : ℕ) (value : List ℕ) (q : ℕ) (split : Span) → closing_most r (open_by c k value q split) ≤ opened_most r q split
 unfolding open_by
 open_most c r k value q split =
     by_cases (eqb k 15)
-    (λ e. rw e (seat_most r 1 (seat_of c (first_character value)) q split))
+    (λ e. rw e (seat_most r Auction (seat_of c (first_character value)) q split))
     (λ e.
     by_cases (eqb k 16)
-    (λ f. rw (e, f) (seat_most r 2 (seat_of c (first_character value)) q split))
-    (λ f. by_cases (eqb k 19) (λ g. rw (e, f, g) (kind_most r 3 4 q split)) (λ g. rw (e, f, g) (omega arith))))
+    (λ f. rw (e, f) (seat_most r Play (seat_of c (first_character value)) q split))
+    (λ f. by_cases (eqb k 19) (λ g. rw (e, f, g) (kind_most r Optimum q split)) (λ g. rw (e, f, g) (omega arith))))
 
 -- ---- data split off a tag's line is not empty, and stands behind a byte at least
 
@@ -193,7 +196,7 @@ few_if true e = omega arith
 few_if false e = omega arith
 
 added_few : (s : State) (p : ℕ) (g : Span) → length (data_added s p g).entries ≤ 1
-added_few s p g = few_if (eqb s.section.kind 0) (entry 5 (p + g.start) g.len s.section.kind)
+added_few s p g = few_if (eqb (kind_of s.section) 0) (entry 5 (p + g.start) g.len (kind_of s.section))
 
 pub chosen : {A : Type 0} (P : A → Type 0) (b : Bool) (x y : A) → (b ≡ true → P x) → (b ≡ false → P y) → P (cond b x y)
 chosen P true x y h k = h refl
@@ -203,32 +206,32 @@ chosen P false x y h k = k refl
 -- byte of its data from q on. d is what past was before the line: the line's entries, and what it adds to past, are at most 4 n.
 record Bounded (r : List ℕ) (n q : ℕ) (ls : List (List ℕ)) (d : ℕ) (o : Out State) : Type 0 where
   past : ℕ
-  closing : closing_most r o.state.section ≤ past + 2 * bytes_in (data_in o.state.commentary q ls)
+  closing : closing_most r o.state.section ≤ past + 2 * bytes_in (data_in (in_block o.state) q ls)
   few : length o.entries + past ≤ 4 * n + d
 
 -- A line that leaves the section as it is.
 pub record Keeps (s : State) (l : List ℕ) (o : Out State) : Type 0 where
   pub section_kept : o.state.section ≡ s.section
-  pub commentary_is : o.state.commentary ≡ commentary_after s.commentary l
+  pub commentary_is : (in_block o.state) ≡ commentary_after (in_block s) l
   pub few : length o.entries ≤ 1
 
 keeps_bounded : (r : List ℕ) (s : State) (p : ℕ) (l : List ℕ) (ls : List (List ℕ)) (d : ℕ) {o : Out State}
-    → closing_most r s.section ≤ d + 2 * bytes_in (data_in s.commentary p (l ∷ ls)) → 0 < length l → Keeps s l o → Bounded r (length l) (p + length l) ls d o
+    → closing_most r s.section ≤ d + 2 * bytes_in (data_in (in_block s) p (l ∷ ls)) → 0 < length l → Keeps s l o → Bounded r (length l) (p + length l) ls d o
 keeps_bounded r s p l ls d h f k =
     record {
       past = d + 2 * length l;
-      closing = rw (k.section_kept, k.commentary_is) (omega (arith, h, data_step s.commentary p l ls));
+      closing = rw (k.section_kept, k.commentary_is) (omega (arith, h, data_step (in_block s) p l ls));
       few = omega (arith, k.few);
     }
 
-commentary_keeps : (r : List ℕ) (s : State) (p : ℕ) (l : List ℕ) → s.commentary ≡ true → Keeps s l (in_commentary r s p l)
+commentary_keeps : (r : List ℕ) (s : State) (p : ℕ) (l : List ℕ) → in_block s ≡ true → Keeps s l (in_commentary r s p l)
 unfolding in_commentary blocked commentary_after
 commentary_keeps r s p l e =
     by_cases (has_brace l)
-    (λ b. rw b (record { section_kept = refl; commentary_is = rw (e, b); few = few_if (is_all_white r s.block (p + last_brace l)) _ }))
+    (λ b. rw b (record { section_kept = refl; commentary_is = rw (e, b); few = few_if (is_all_white r (block_of s) (p + last_brace l)) _ }))
     (λ b. rw b (record { section_kept = refl; commentary_is = rw (e, b); few = omega arith }))
 
-brace_keeps : (r : List ℕ) (s : State) (p : ℕ) (l : List ℕ) → s.commentary ≡ false → line_kind l ≡ Brace → Keeps s l (braced r s p l)
+brace_keeps : (r : List ℕ) (s : State) (p : ℕ) (l : List ℕ) → in_block s ≡ false → line_kind l ≡ Brace → Keeps s l (braced r s p l)
 unfolding braced blocked commentary_after
 brace_keeps r s p l e k =
     by_cases (has_brace l)
@@ -236,7 +239,7 @@ brace_keeps r s p l e k =
     (λ b. rw b (record { section_kept = refl; commentary_is = rw (e, k, b); few = omega arith }))
 
 -- So do all lines but tags.
-kind_keeps : (c : Conventions) (r : List ℕ) (s : State) (p : ℕ) (l : List ℕ) (k : Line) → line_kind l ≡ k → s.commentary ≡ false → opens_board k ≡ false → Keeps s l (line_by c r s p l k)
+kind_keeps : (c : Conventions) (r : List ℕ) (s : State) (p : ℕ) (l : List ℕ) (k : Line) → line_kind l ≡ k → in_block s ≡ false → opens_board k ≡ false → Keeps s l (line_by c r s p l k)
 unfolding commentary_after
 kind_keeps c r s p l Blank e z n = record { section_kept = refl; commentary_is = rw (z, e); few = omega arith }
 kind_keeps c r s p l Brace e z n = brace_keeps r s p l z e
@@ -245,10 +248,10 @@ kind_keeps c r s p l (TagOn t) e z n = clash (sym n)
 kind_keeps c r s p l Bracket e z n = record { section_kept = refl; commentary_is = rw (z, e); few = omega arith }
 kind_keeps c r s p l (Data g) e z n = record { section_kept = refl; commentary_is = rw (z, e); few = added_few s p g }
 
-pub line_keeps : (c : Conventions) (r : List ℕ) (s : State) (p : ℕ) (l : List ℕ) → stops_at s.commentary l ≡ false → Keeps s l (line_out c r s p l)
+pub line_keeps : (c : Conventions) (r : List ℕ) (s : State) (p : ℕ) (l : List ℕ) → stops_at (in_block s) l ≡ false → Keeps s l (line_out c r s p l)
 unfolding line_out stops_at
 line_keeps c r s p l h =
-    chosen (λ (o : Out State). Keeps s l o) s.commentary (in_commentary r s p l) (line_by c r s p l (line_kind l))
+    chosen (λ (o : Out State). Keeps s l o) (in_block s) (in_commentary r s p l) (line_by c r s p l (line_kind l))
     (λ e. commentary_keeps r s p l e)
     (λ e. kind_keeps c r s p l (line_kind l) refl e (no_tag_lem (line_kind l) (rw e at h)))
   where
@@ -288,10 +291,10 @@ module _ (c : Conventions) (r : List ℕ) (s : State) (p : ℕ) (l : List ℕ) (
             (omega (arith, ClosedFew c r s, i.1, j.0, added_few (tagged c (closed c r s).state p l (p + length l) t (at p g)).state p g));
       }
 
-  kind_bounded : (k : Line) → line_kind l ≡ k → s.commentary ≡ false → closing_most r s.section ≤ d + 2 * bytes_in (data_in s.commentary p (l ∷ ls))
+  kind_bounded : (k : Line) → line_kind l ≡ k → in_block s ≡ false → closing_most r s.section ≤ d + 2 * bytes_in (data_in (in_block s) p (l ∷ ls))
       → LinePlaced k (length l) → LineLate k → Bounded r (length l) (p + length l) ls d (line_by c r s p l k)
   kind_bounded (TagOn t) e z h i j =
-      let g : data_in s.commentary p (l ∷ ls) ≡ [] = rw (z, closes_tag l t e) in
+      let g : data_in (in_block s) p (l ∷ ls) ≡ [] = rw (z, closes_tag l t e) in
       tag_bounded t (omega (arith, rw g at h)) i j
   kind_bounded Blank e z h i j = keeps_bounded r s p l ls d h f (kind_keeps c r s p l Blank e z refl)
   kind_bounded Brace e z h i j = keeps_bounded r s p l ls d h f (kind_keeps c r s p l Brace e z refl)
@@ -299,10 +302,10 @@ module _ (c : Conventions) (r : List ℕ) (s : State) (p : ℕ) (l : List ℕ) (
   kind_bounded Bracket e z h i j = keeps_bounded r s p l ls d h f (kind_keeps c r s p l Bracket e z refl)
   kind_bounded (Data g) e z h i j = keeps_bounded r s p l ls d h f (kind_keeps c r s p l (Data g) e z refl)
 
-  line_bounded : closing_most r s.section ≤ d + 2 * bytes_in (data_in s.commentary p (l ∷ ls)) → Bounded r (length l) (p + length l) ls d (line_out c r s p l)
+  line_bounded : closing_most r s.section ≤ d + 2 * bytes_in (data_in (in_block s) p (l ∷ ls)) → Bounded r (length l) (p + length l) ls d (line_out c r s p l)
   unfolding line_out
   line_bounded h =
-      chosen (λ o. Bounded r (length l) (p + length l) ls d o) s.commentary (in_commentary r s p l) (line_by c r s p l (line_kind l))
+      chosen (λ o. Bounded r (length l) (p + length l) ls d o) (in_block s) (in_commentary r s p l) (line_by c r s p l (line_kind l))
       (λ e. keeps_bounded r s p l ls d h f (commentary_keeps r s p l e))
       (λ e. kind_bounded (line_kind l) refl e h (LineInside l) (line_late l))
 
@@ -333,7 +336,7 @@ next_line_lem r p l ls e =
         record { filled = rw a at k.filled; inside = rw a at k.inside; rest = rw a at b }
 
 lines_few : (c : Conventions) (r : List ℕ) (ls : List (List ℕ)) (s : State) (p d : ℕ) → p ≤ length r → raw_lines (drop p r) ≡ ls
-    → closing_most r s.section ≤ d + 2 * bytes_in (data_in s.commentary p ls) → length (lines_out c r s p ls).entries + 4 * p ≤ 4 * length r + d
+    → closing_most r s.section ≤ d + 2 * bytes_in (data_in (in_block s) p ls) → length (lines_out c r s p ls).entries + 4 * p ≤ 4 * length r + d
 lines_few c r [] s p d i e h = omega (arith, ClosedFew c r s)
 lines_few c r (l ∷ ls) s p d i e h =
     let n = next_line_lem r p l ls e in

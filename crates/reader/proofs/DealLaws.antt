@@ -453,14 +453,3 @@ WordsBack a b c d e f g k ha hc he hg =
 -- Hands are equal exactly where their words are.
 pub SameHands : (g h : Hands) → hand_words g ≡ hand_words h → g ≡ h
 SameHands g h e = sym (HandsBack g) ∙ ap hands_of_words e ∙ HandsBack h
-
--- Each word of hands of 64 bits has 32 bits.
-pub words_small : (h : Hands) → h.north < 2 ^ 64 → h.east < 2 ^ 64 → h.south < 2 ^ 64 → h.west < 2 ^ 64 → every (λ w. ltb w 4294967296) (hand_words h) ≡ true
-unfolding hand_words
-words_small h n e s w = rw (low h.north, high h.north n, low h.east, high h.east e, low h.south, high h.south s, low h.west, high h.west w)
-  where
-    low : (x : ℕ) → ltb (x % 4294967296) 4294967296 ≡ true
-    low x = lt-ltb (x % 4294967296) 4294967296 (omega arith)
-
-    high : (x : ℕ) → x < 2 ^ 64 → ltb (x / 4294967296) 4294967296 ≡ true
-    high x h = lt-ltb (x / 4294967296) 4294967296 (omega arith)

@@ -1,5 +1,5 @@
 -- Laws of cards, and of reading record after record.
-use Prim.Native.Nat.{ℕ, ◌+◌, ◌*◌, ◌-◌, ◌/◌, ◌%◌, ◌≤◌, ◌<◌}
+use Prim.Native.Nat.{ℕ, ◌+◌, ◌*◌, ◌-◌, ◌/◌, ◌≤◌, ◌<◌}
 use mathlib.Core.Path.{◌≡◌, refl, sym, ap, ◌∙◌}
 use mathlib.Core.Bool.{Bool, true, false, cond}
 use mathlib.Core.List.{List, [], ◌∷◌, ◌++◌, map, append-nil}
@@ -28,7 +28,7 @@ use Rattle.reader.specs.Editions.{head_words, back_words, card_words, card_of, c
 use Rattle.reader.specs.EditionSteps.{RecordIn, FullCards, none, one, AllIn, ReadingEnded}
 use Rattle.reader.proofs.StoreLaws.{put_all_append, Blocks, blocks_append, blocks_map, put_zeros}
 use Rattle.reader.proofs.BoardLaws.{record_counts}
-use Rattle.reader.proofs.Counts.{EntriesFew, TextEntriesFew}
+use Rattle.reader.proofs.Counts.{TextEntriesFew}
 use Rattle.reader.proofs.StoreLaws as store
 
 -- ---- stores one behind the other

@@ -102,3 +102,13 @@ pub out_count : {A B : Type 0} (f : A → B → Out A) (count : A → ℕ) → (
     → (a : A) (bs : List B) → count (out_all f a bs).state ≡ count a + length (out_all f a bs).entries
 out_count f count h a [] = sym (add-zero (count a))
 out_count f count h a (b ∷ bs) = rw length-append (omega (arith, h a b, out_count f count h (f a b).state bs))
+
+-- ---- sums
+
+abbrev pub sum_of : {A : Type 0} → (A → ℕ) → List A → ℕ
+sum_of f [] = 0
+sum_of f (x ∷ xs) = f x + sum_of f xs
+
+pub sum_append : {A : Type 0} (f : A → ℕ) (xs ys : List A) → sum_of f (xs ++ ys) ≡ sum_of f xs + sum_of f ys
+sum_append f [] ys = omega arith
+sum_append f (x ∷ xs) ys = omega (arith, sum_append f xs ys)

@@ -1,4 +1,7 @@
 -- What the tags of a record make of its board: deal, table and identity are folds over the tags in their order.
+use Rattle.reader.specs.Boards.{in_block, block_of}
+use Rattle.reader.specs.declared.section.Kind.TheVariants.{Auction, Play}
+use Rattle.reader.specs.declared.section.Kind.{Kind}
 use Prim.Native.Nat.{ℕ, ◌+◌, ◌≤◌}
 use mathlib.Core.Path.{◌≡◌, refl, sym, ap, ◌∙◌}
 use mathlib.Core.Bool.{Bool, true, false, cond}
@@ -27,14 +30,14 @@ use Rattle.reader.specs.declared.section.Open.{Open}
 use Rattle.reader.specs.Names.{tag_number}
 use Rattle.reader.specs.Lines.{has_brace, last_brace, line_kind}
 use Rattle.reader.specs.Pieces.{Out, raw_lines}
-use Rattle.reader.specs.Sections.{commentary_after, walked_all}
-use Rattle.reader.specs.Boards.{identity_by, deal_by, table_by, applied, open_by, seat_open, no_open, with_sections, auction_closed, play_closed, rows_closed, table_closed, closed_by, closed, tagged, read_by, tag_line_out, with_commentary, blocked, braced, in_commentary, line_by, line_out, lines_out, no_board, no_state, record_out}
+use Rattle.reader.specs.Sections.{commentary_after, walked_all, kind_of, opener, kind_number}
+use Rattle.reader.specs.Boards.{identity_by, deal_by, table_by, applied, open_by, seat_open, no_open, with_sections, auction_closed, play_closed, rows_closed, rows_taken, table_closed, closed_by, closed, tagged, read_by, tag_line_out, with_commentary, blocked, braced, in_commentary, line_by, line_out, lines_out, no_board, no_state, record_out}
 use Rattle.reader.specs.BoardSteps.{split_in}
 use Rattle.reader.specs.Plain.{TagPair, plain_of}
 use Rattle.reader.proofs.EntryLaws.{All, none, one}
 use Rattle.reader.proofs.Counts.{chosen}
 use Rattle.reader.proofs.LineTags.{pair_on, tags_on, line_tags, tags_of_lines, line_commentary, TagsOfLines}
-use Rattle.std.specs.Prelude.{Ok, Err}
+use Rattle.std.specs.Prelude.{Ok, Err, Option, Some, None}
 
 -- ---- folds over tags
 
@@ -69,7 +72,7 @@ all_parts (x ∷ xs) ys (one p a) = let h = all_parts xs ys a in (one p h.0, h.1
 
 -- It leaves the board, but for its sections; the table changes only with an open section that is neither auction nor play.
 closed_board : (c : Conventions) (r : List ℕ) (s : State) (P : Board → Type 0) → P s.board
-    → ((t : TableCard) (a p : Section) (trump : ℕ) → (s.section.kind ≤ 2 → t ≡ s.board.table) → P (with_sections s.board t a p trump))
+    → ((t : TableCard) (a p : Section) (trump : ℕ) → (kind_of s.section ≤ 2 → t ≡ s.board.table) → P (with_sections s.board t a p trump))
     → P (closed c r s).state.board
 unfolding closed
 closed_board c r s P same other =
@@ -77,23 +80,26 @@ closed_board c r s P same other =
     let w = walked_all c r s.section b.contract in
     let v = w.state in
     let o = s.section in
-    chosen (λ (x : Out State). P x.state.board) (eqb o.kind 0) (record { state = s; entries = [] }) (closed_by s w) (λ e. same)
+    chosen (λ (x : Out State). P x.state.board) (eqb (kind_of o) 0) (record { state = s; entries = [] }) (closed_by s w) (λ e. same)
     (λ e.
-    chosen P (eqb o.kind 1) (auction_closed b o s.n v) (cond (eqb o.kind 2) (play_closed b o s.n v) (table_closed b v))
+    chosen P (eqb (kind_of o) 1) (auction_closed b (opener o) s.n v) (cond (eqb (kind_of o) 2) (play_closed b (opener o) s.n v) (table_closed b v))
     (λ f. chosen P v.bidding.any (with_sections b b.table _ b.play b.trump) b (λ g. other b.table _ b.play b.trump (λ h. refl)) (λ g. same))
     (λ f.
-    chosen P (eqb o.kind 2) (play_closed b o s.n v) (table_closed b v)
+    chosen P (eqb (kind_of o) 2) (play_closed b (opener o) s.n v) (table_closed b v)
     (λ g. chosen P v.tricks.any (with_sections b b.table b.auction _ b.contract) b (λ h. other b.table b.auction _ b.contract (λ i. refl)) (λ h. same))
     (λ g.
-    chosen P v.rows.fault b (rows_closed b (gathered v.rows.cells)) (λ h. same)
-    (λ h. rows (gathered v.rows.cells) (eqb-false o.kind 0 e) (eqb-false o.kind 1 f) (eqb-false o.kind 2 g)))))
+    taken v.rows (eqb-false (kind_of o) 0 e) (eqb-false (kind_of o) 1 f) (eqb-false (kind_of o) 2 g))))
   where
     high : (k : ℕ) → k ≤ 2 → (k ≡ 0 → ⊥) → (k ≡ 1 → ⊥) → (k ≡ 2 → ⊥) → ⊥
     high k h x y z = omega (arith, x, y, z)
 
-    rows : (g : TableReading) → (s.section.kind ≡ 0 → ⊥) → (s.section.kind ≡ 1 → ⊥) → (s.section.kind ≡ 2 → ⊥) → P (rows_closed s.board g)
-    rows (Ok cells) x y z = other (record { kind = 2; cells = cells }) s.board.auction s.board.play s.board.trump (λ h. absurd (high s.section.kind h x y z))
+    rows : (g : TableReading) → (kind_of s.section ≡ 0 → ⊥) → (kind_of s.section ≡ 1 → ⊥) → (kind_of s.section ≡ 2 → ⊥) → P (rows_closed s.board g)
+    rows (Ok cells) x y z = other (record { kind = 2; cells = cells }) s.board.auction s.board.play s.board.trump (λ h. absurd (high (kind_of s.section) h x y z))
     rows (Err f) x y z = same
+
+    taken : (t : Option (List ℕ)) → (kind_of s.section ≡ 0 → ⊥) → (kind_of s.section ≡ 1 → ⊥) → (kind_of s.section ≡ 2 → ⊥) → P (rows_taken s.board t)
+    taken None x y z = same
+    taken (Some cells) x y z = rows (gathered cells) x y z
 
 -- ---- a tag
 
@@ -111,13 +117,13 @@ reading_state c s p l q (WithData t d) = record { board_then = refl; section_the
 
 -- The part g of a board of the record r follows its tags by f: a tag changes it so, and a section that closes leaves it, where it is one
 -- of Kept. A tag with a number of Fine opens such a section or none.
-pub record Follows {A : Type 0} (c : Conventions) (r : List ℕ) (g : Board → A) (f : ℕ → List ℕ → A → A) (Fine : ℕ → Type 0) (Kept : Open → Type 0) : Type 0 where
+pub record Follows {A : Type 0} (c : Conventions) (r : List ℕ) (g : Board → A) (f : ℕ → List ℕ → A → A) (Fine : ℕ → Type 0) (Kept : Option Open → Type 0) : Type 0 where
   pub by_tag : (k : ℕ) (value : List ℕ) (place : ℕ) (b : Board) → g (applied c k value place b) ≡ f k value (g b)
   pub kept : (s : State) → Kept s.section → g (closed c r s).state.board ≡ g s.board
   pub none_open : Kept no_open
   pub opened : (k : ℕ) (value : List ℕ) (q : ℕ) (split : Span) → Fine k → Kept (open_by c k value q split)
 
-module _ {A : Type 0} (c : Conventions) (r : List ℕ) (g : Board → A) (f : ℕ → List ℕ → A → A) (Fine : ℕ → Type 0) (Kept : Open → Type 0) (h : Follows c r g f Fine Kept) where
+module _ {A : Type 0} (c : Conventions) (r : List ℕ) (g : Board → A) (f : ℕ → List ℕ → A → A) (Fine : ℕ → Type 0) (Kept : Option Open → Type 0) (h : Follows c r g f Fine Kept) where
   -- A step from s follows the tags ts.
   record Step (s : State) (ts : List TagPair) (t : State) : Type 0 where
     folded : g t.board ≡ fold_tags f (g s.board) ts
@@ -139,34 +145,34 @@ module _ {A : Type 0} (c : Conventions) (r : List ℕ) (g : Board → A) (f : �
   kind_step p l s Blank k a = record { folded = refl; still = k }
   kind_step p l s Brace k a =
       chosen (λ (o : Out State). Step s [] o.state) (has_brace l) (blocked r s (p + length (lead l) + 1) (p + last_brace l))
-      (record { state = with_commentary s true (p + length (lead l) + 1); entries = [] }) (λ e. record { folded = refl; still = k }) (λ e. record { folded = refl; still = k })
+      (record { state = with_commentary s (Some (p + length (lead l) + 1)); entries = [] }) (λ e. record { folded = refl; still = k }) (λ e. record { folded = refl; still = k })
   kind_step p l s (Directive d) k a = record { folded = refl; still = k }
   kind_step p l s (TagOn t) k a = tag_step p l s t k a
   kind_step p l s Bracket k a = record { folded = refl; still = k }
   kind_step p l s (Data d) k a = record { folded = refl; still = k }
 
-  line_step : (p : ℕ) (l : List ℕ) (s : State) → Kept s.section → All (Numbered Fine) (line_tags s.commentary l) → Step s (line_tags s.commentary l) (line_out c r s p l).state
+  line_step : (p : ℕ) (l : List ℕ) (s : State) → Kept s.section → All (Numbered Fine) (line_tags (in_block s) l) → Step s (line_tags (in_block s) l) (line_out c r s p l).state
   unfolding line_out line_tags in_commentary blocked
-  line_step p l s k = by_commentary s.commentary
+  line_step p l s k = by_commentary (in_block s)
     where
       by_commentary : (b : Bool) → All (Numbered Fine) (cond b [] (tags_on (line_kind l) l)) → Step s (cond b [] (tags_on (line_kind l) l)) (cond b (in_commentary r s p l) (line_by c r s p l (line_kind l))).state
       by_commentary true a =
-          chosen (λ (o : Out State). Step s [] o.state) (has_brace l) (blocked r s s.block (p + last_brace l)) (record { state = s; entries = [] })
+          chosen (λ (o : Out State). Step s [] o.state) (has_brace l) (blocked r s (block_of s) (p + last_brace l)) (record { state = s; entries = [] })
           (λ e. record { folded = refl; still = k })
           (λ e. record { folded = refl; still = k })
       by_commentary false a = kind_step p l s (line_kind l) k a
 
-  lines_fold : (p : ℕ) (s : State) (ls : List (List ℕ)) → Kept s.section → All (Numbered Fine) (tags_of_lines s.commentary ls)
-      → g (lines_out c r s p ls).state.board ≡ fold_tags f (g s.board) (tags_of_lines s.commentary ls)
+  lines_fold : (p : ℕ) (s : State) (ls : List (List ℕ)) → Kept s.section → All (Numbered Fine) (tags_of_lines (in_block s) ls)
+      → g (lines_out c r s p ls).state.board ≡ fold_tags f (g s.board) (tags_of_lines (in_block s) ls)
   lines_fold p s [] k a = h.kept s k
   lines_fold p s (l ∷ ls) k a =
       let o = (line_out c r s p l).state in
       let n = line_commentary c r p l s in
-      let parts = all_parts (line_tags s.commentary l) (tags_of_lines (commentary_after s.commentary l) ls) a in
+      let parts = all_parts (line_tags (in_block s) l) (tags_of_lines (commentary_after (in_block s) l) ls) a in
       let x = line_step p l s k parts.0 in
-      let y : g (lines_out c r o (p + length l) ls).state.board ≡ fold_tags f (g o.board) (tags_of_lines (commentary_after s.commentary l) ls)
+      let y : g (lines_out c r o (p + length l) ls).state.board ≡ fold_tags f (g o.board) (tags_of_lines (commentary_after (in_block s) l) ls)
       = on (g o.board) n parts.1 (lines_fold (p + length l) o ls x.still) in
-      y ∙ rw x.folded (sym (fold_append f (g s.board) (line_tags s.commentary l) (tags_of_lines (commentary_after s.commentary l) ls)))
+      y ∙ rw x.folded (sym (fold_append f (g s.board) (line_tags (in_block s) l) (tags_of_lines (commentary_after (in_block s) l) ls)))
     where
       on : {x : A} (b : A) {m n : Bool} → m ≡ n → All (Numbered Fine) (tags_of_lines n ls) → (All (Numbered Fine) (tags_of_lines m ls) → x ≡ fold_tags f b (tags_of_lines m ls)) → x ≡ fold_tags f b (tags_of_lines n ls)
       on b e a y = (rw e at y) a
@@ -208,18 +214,18 @@ unfolding applied
 IdentityFolds c r = PartFolds c r (λ b. b.id) (identity_by c) (λ k value place b. refl) (λ b t a p trump. refl)
 
 -- Only an OptimumResultTable, 19, opens a section that is neither an auction nor a play.
-seat_low : (kind seat q : ℕ) (split : Span) → kind ≤ 2 → (seat_open kind seat q split).kind ≤ 2
-seat_low kind seat q split h = chosen (λ (o : Open). o.kind ≤ 2) (ltb seat 4) (record { kind = kind; seat = seat; at = q; split = split }) no_open (λ e. h) (λ e. omega arith)
+seat_low : (kind : ℕ → Kind) (seat q : ℕ) (split : Span) → kind_number (kind seat) ≤ 2 → kind_of (seat_open kind seat q split) ≤ 2
+seat_low kind seat q split h = chosen (λ (o : Option Open). kind_of o ≤ 2) (ltb seat 4) (Some (record { kind = kind seat; at = q; split = split })) no_open (λ e. h) (λ e. omega arith)
 
-open_low : (c : Conventions) (k : ℕ) (value : List ℕ) (q : ℕ) (split : Span) → (k ≡ 19 → ⊥) → (open_by c k value q split).kind ≤ 2
+open_low : (c : Conventions) (k : ℕ) (value : List ℕ) (q : ℕ) (split : Span) → (k ≡ 19 → ⊥) → kind_of (open_by c k value q split) ≤ 2
 unfolding open_by
 open_low c k value q split n =
     let seat = seat_of c (first_character value) in
     by_cases (eqb k 15)
-    (λ e. rw e (seat_low 1 seat q split (omega arith)))
-    (λ e. by_cases (eqb k 16) (λ f. rw (e, f) (seat_low 2 seat q split (omega arith))) (λ f. rw (e, f, ne_eqb k 19 n) (omega arith)))
+    (λ e. rw e (seat_low Auction seat q split (omega arith)))
+    (λ e. by_cases (eqb k 16) (λ f. rw (e, f) (seat_low Play seat q split (omega arith))) (λ f. rw (e, f, ne_eqb k 19 n) (omega arith)))
 
-table_follows : (c : Conventions) (r : List ℕ) → Follows c r (λ b. b.table) table_by (λ k. k ≡ 19 → ⊥) (λ o. o.kind ≤ 2)
+table_follows : (c : Conventions) (r : List ℕ) → Follows c r (λ b. b.table) table_by (λ k. k ≡ 19 → ⊥) (λ o. kind_of o ≤ 2)
 unfolding applied
 table_follows c r =
     record {
@@ -231,7 +237,7 @@ table_follows c r =
 
 -- THEOREM. The table of a record without an OptimumResultTable is that of its tags.
 pub TableFolds : (c : Conventions) (r : List ℕ) → All (Numbered (λ k. k ≡ 19 → ⊥)) (plain_of c r).tags → (record_out c r).state.board.table ≡ fold_table (plain_of c r).tags
-TableFolds c r a = RecordFolds c r (λ b. b.table) table_by (λ k. k ≡ 19 → ⊥) (λ o. o.kind ≤ 2) (table_follows c r) a
+TableFolds c r a = RecordFolds c r (λ b. b.table) table_by (λ k. k ≡ 19 → ⊥) (λ o. kind_of o ≤ 2) (table_follows c r) a
 
 -- ---- a fold that heeds one number alone
 

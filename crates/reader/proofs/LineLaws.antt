@@ -7,22 +7,19 @@ use native.Mathlib.Omega.{arith}
 use lib.Dec.{eqb, eqb-suc-suc}
 use lib.ListN.{length, drop, get_or, length-drop}
 use lib.Seq.{get_or-drop}
-use Rattle.std.specs.Prelude.{Option, Some, None, MatchOption, unwrap_or}
+use Rattle.std.specs.Prelude.{Option, Some, None, MatchOption}
 use borrow.Author.Tests.{eq-eqb, ne_eqb}
 use Rattle.tables.specs.Text.{is_white, lead, trim_end, trimmed, keep_end}
 use Rattle.tables.specs.Letters.{among}
-use Rattle.tables.proofs.Laws.{by_cases, neither}
+use Rattle.tables.proofs.Laws.{by_cases}
 use Rattle.reader.specs.declared.line.Line.TheVariants.{Blank}
 use Rattle.reader.specs.declared.tag.Span.{Span}
 use Rattle.reader.specs.Tag.{trim_span}
-use Rattle.reader.specs.Lines.{is_blank, last_brace, kind_by, line_kind}
+use Rattle.reader.specs.Lines.{is_blank, has_brace, last_brace, kind_by, line_kind}
+use Rattle.reader.specs.LineSteps.{LastBrace}
 use Rattle.reader.proofs.TagLaws.{byte_front}
 
 -- ---- the last brace
-
-brace_none : (s : List ℕ) → among 125 s ≡ false → last_brace s ≡ length s
-brace_none [] h = refl
-brace_none (b ∷ bs) h = let n = neither (eqb b 125) (among 125 bs) h in rw n.0 (ap suc (brace_none bs n.1))
 
 last_is : (s : List ℕ) (i : ℕ) → i < length s → get_or s i 0 ≡ 125 → among 125 (drop (suc i) s) ≡ false → last_brace s ≡ i
 last_is [] i h e n = absurd (omega arith)
@@ -42,6 +39,11 @@ last_is (b ∷ bs) (suc i) h e n = rw (still bs i (omega arith) e, still' (eqb b
         or_true true b e = refl
         or_true false b e = e
 
+some_at : (s : List ℕ) (i : ℕ) → i < length s → get_or s i 0 ≡ 125 → among 125 s ≡ true
+some_at [] i h e = absurd (omega arith)
+some_at (b ∷ bs) zero h e = rw (eq-eqb b 125 e)
+some_at (b ∷ bs) (suc i) h e = by_cases (eqb b 125) (λ q. rw q) (λ q. rw q (some_at bs i (omega arith) e))
+
 -- What a search from the right finds: the place of a brace with none behind it, or no brace.
 abbrev pub LastAt : List ℕ → Option ℕ → Type 0
 LastAt s r = MatchOption r ((k : ℕ) → k < length s → get_or s k 0 ≡ 125 → ⊥) (λ i. (i < length s) × (get_or s i 0 ≡ 125) × ((k : ℕ) → i < k → k < length s → get_or s k 0 ≡ 125 → ⊥))
@@ -50,11 +52,16 @@ none_at : (s : List ℕ) → ((k : ℕ) → k < length s → get_or s k 0 ≡ 12
 none_at [] h = refl
 none_at (b ∷ bs) h = rw (ne_eqb b 125 (h 0 (omega arith)), none_at bs (λ k l. h (suc k) (omega arith)))
 
-pub last_from : (s : List ℕ) (r : Option ℕ) → LastAt s r → (unwrap_or r (length s) ≡ last_brace s) × (unwrap_or r (length s) ≤ length s)
-last_from s None h = (sym (brace_none s (none_at s h)), omega arith)
+pub last_from : (s : List ℕ) (r : Option ℕ) → LastAt s r → MatchOption r (has_brace s ≡ false) (λ k. LastBrace s k)
+unfolding has_brace
+last_from s None h = none_at s h
 last_from s (Some i) h =
     let n : among 125 (drop (suc i) s) ≡ false = none_at (drop (suc i) s) (λ k l. rw get_or-drop (h.2 (suc i + k) (omega arith) (omega (arith, length-drop (suc i) s)))) in
-    (sym (last_is s i h.0 h.1 n), omega arith)
+    record { there = some_at s i h.0 h.1; place = sym (last_is s i h.0 h.1 n); inside = omega (arith, h.0) }
+
+pub brace_inside : (l : List ℕ) → last_brace l ≤ length l
+brace_inside [] = omega arith
+brace_inside (b ∷ bs) = by_cases (eqb b 125 && not (among 125 bs)) (λ e. rw e (omega arith)) (λ e. rw e (omega (arith, brace_inside bs)))
 
 -- ---- blank lines
 

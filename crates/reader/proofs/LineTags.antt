@@ -1,7 +1,9 @@
 -- What a record reads as, line by line and without places: its tags, its directives and its commentary.
+use Rattle.reader.specs.Boards.{in_block, block_of}
+use Rattle.std.specs.Prelude.{Some, None}
 use Prim.Native.Nat.{ℕ, ◌+◌, ◌-◌, ◌≤◌, ◌<◌}
 use mathlib.Core.Path.{◌≡◌, refl, sym, ap, ◌∙◌}
-use mathlib.Core.Bool.{Bool, true, false, cond, ◌&&◌, not}
+use mathlib.Core.Bool.{Bool, true, false, cond, not}
 use mathlib.Core.List.{List, [], ◌∷◌, ◌++◌, map, append-nil, append_assoc, map-append}
 use native.Mathlib.Nat.{add-zero}
 use native.Mathlib.Omega.{arith}
@@ -11,7 +13,7 @@ use lib.Seq.{take-append-add, take-append-le, drop-append-le, drop-drop}
 use borrow.Author.Tests.{ne_eqb, eqb-false}
 use Rattle.tables.specs.declared.letters.Conventions.{Conventions}
 use Rattle.tables.specs.Text.{is_white, lead}
-use Rattle.tables.specs.Letters.{among, every}
+use Rattle.tables.specs.Letters.{every}
 use Rattle.tables.proofs.Laws.{by_cases, clash}
 use Rattle.tables.proofs.TextLaws.{front_few}
 use Rattle.reader.specs.declared.store.Entry.{Entry}
@@ -27,7 +29,7 @@ use Rattle.reader.specs.TagSteps.{TagInside, SpanInside}
 use Rattle.reader.specs.Lines.{is_blank, has_brace, last_brace, line_kind}
 use Rattle.reader.specs.LineSteps.{tag_in, LinePlaced, ReadingPlaced}
 use Rattle.reader.specs.Pieces.{Out, and_then, entry, raw_lines}
-use Rattle.reader.specs.Sections.{opens_commentary, commentary_after}
+use Rattle.reader.specs.Sections.{opens_commentary, commentary_after, kind_of}
 use Rattle.reader.specs.Boards.{closed, no_span, at, tagged, adding, directed, data_added, read_by, tag_line_out, with_commentary, is_all_white, blocked, braced, in_commentary, line_by, line_out, lines_out, no_state, record_out}
 use Rattle.reader.specs.Plain.{Item, item_of, items_of, TagPair, Remark, tags_in, remarks_in, block_value, plain_by, plain_of}
 use Rattle.reader.proofs.EntryLaws.{All, none, one}
@@ -37,6 +39,7 @@ use Rattle.reader.proofs.SectionLaws.{LineAt}
 use Rattle.reader.proofs.Counts.{chosen, next_line_lem}
 use Rattle.reader.proofs.PlainLaws.{PartPlaced}
 use Rattle.reader.proofs.PlainSteps.{Late, closed_late, closed_keeps, first_line}
+use Rattle.reader.proofs.LineLaws.{brace_inside}
 
 -- ---- tags and directives of lines
 
@@ -118,12 +121,12 @@ blocks_of_lines commentary g n (l ∷ ls) = line_blocks commentary g l n ++ bloc
 
 -- After a line of a kind, and after any line.
 module _ (c : Conventions) (r : List ℕ) (p : ℕ) (l : List ℕ) where
-  kind_commentary : (s : State) (k : Line) → s.commentary ≡ false → (line_by c r s p l k).state.commentary ≡ opens_commentary k l
+  kind_commentary : (s : State) (k : Line) → in_block s ≡ false → in_block (line_by c r s p l k).state ≡ opens_commentary k l
   unfolding braced blocked tag_line_out tagged
   kind_commentary s Blank n = n
   kind_commentary s Brace n = by_brace (has_brace l)
     where
-      by_brace : (b : Bool) → (cond b (blocked r s (p + length (lead l) + 1) (p + last_brace l)) (record { state = with_commentary s true (p + length (lead l) + 1); entries = [] })).state.commentary ≡ not b
+      by_brace : (b : Bool) → (in_block (cond b (blocked r s (p + length (lead l) + 1) (p + last_brace l)) (record { state = with_commentary s (Some (p + length (lead l) + 1)); entries = [] })).state) ≡ not b
       by_brace true = refl
       by_brace false = refl
   kind_commentary s (Directive d) n = n
@@ -133,15 +136,15 @@ module _ (c : Conventions) (r : List ℕ) (p : ℕ) (l : List ℕ) where
   kind_commentary s Bracket n = n
   kind_commentary s (Data d) n = n
 
-  pub line_commentary : (s : State) → (line_out c r s p l).state.commentary ≡ commentary_after s.commentary l
+  pub line_commentary : (s : State) → in_block (line_out c r s p l).state ≡ commentary_after (in_block s) l
   unfolding line_out commentary_after in_commentary blocked
-  line_commentary s = by_commentary s.commentary refl
+  line_commentary s = by_commentary (in_block s) refl
     where
-      by_brace : (b : Bool) → s.commentary ≡ true → (cond b (blocked r s s.block (p + last_brace l)) (record { state = s; entries = [] })).state.commentary ≡ not b
+      by_brace : (b : Bool) → in_block s ≡ true → (in_block (cond b (blocked r s (block_of s) (p + last_brace l)) (record { state = s; entries = [] })).state) ≡ not b
       by_brace true n = refl
       by_brace false n = n
 
-      by_commentary : (b : Bool) → s.commentary ≡ b → (cond b (in_commentary r s p l) (line_by c r s p l (line_kind l))).state.commentary ≡ cond b (not (has_brace l)) (opens_commentary (line_kind l) l)
+      by_commentary : (b : Bool) → in_block s ≡ b → (in_block (cond b (in_commentary r s p l) (line_by c r s p l (line_kind l))).state) ≡ cond b (not (has_brace l)) (opens_commentary (line_kind l) l)
       by_commentary true n = by_brace (has_brace l) n
       by_commentary false n = kind_commentary s (line_kind l) n
 
@@ -149,10 +152,10 @@ module _ (c : Conventions) (r : List ℕ) (p : ℕ) (l : List ℕ) where
 
 -- Where commentary is open at the place p, g stands from its block's start up to p.
 record Gathered (r : List ℕ) (p : ℕ) (s : State) (g : List ℕ) : Type 0 where
-  placed : s.commentary ≡ true → s.block + length g ≡ p
-  held : s.commentary ≡ true → drop s.block r ≡ g ++ drop p r
+  placed : in_block s ≡ true → block_of s + length g ≡ p
+  held : in_block s ≡ true → drop (block_of s) r ≡ g ++ drop p r
 
-not_open : {r : List ℕ} {p : ℕ} {s : State} {g : List ℕ} → s.commentary ≡ false → Gathered r p s g
+not_open : {r : List ℕ} {p : ℕ} {s : State} {g : List ℕ} → in_block s ≡ false → Gathered r p s g
 not_open n = record { placed = λ e. clash (sym n ∙ e); held = λ e. clash (sym n ∙ e) }
 
 -- A line that opens commentary has a byte behind its white space.
@@ -163,25 +166,21 @@ brace_room l e =
     (λ t. let z : Blank ≡ Brace = rw t at e in let x : ◌≡◌ {A = ℕ} 0 1 = cc in absurd (omega arith))
     (λ t. omega (arith, eqb-false (length (lead l)) (length l) (blank_is l ∙ t), front_few is_white l))
 
-brace_few : (l : List ℕ) → last_brace l ≤ length l
-brace_few [] = omega arith
-brace_few (b ∷ bs) = by_cases (eqb b 125 && not (among 125 bs)) (λ e. rw e (omega arith)) (λ e. rw e (omega (arith, brace_few bs)))
-
 module _ (c : Conventions) (r : List ℕ) (p : ℕ) (l : List ℕ) (i : LineAt r p l) where
   line_rest : drop p r ≡ l ++ drop (p + length l) r
   line_rest = sym (take-append-drop (length l) (drop p r)) ∙ rw (drop-drop (length l) p r, ← i.bytes)
 
   -- The text up to the byte k of the line.
-  gathered_more : (s : State) (g : List ℕ) (k : ℕ) → k ≤ length l → s.commentary ≡ true → Gathered r p s g → take (p + k - s.block) (drop s.block r) ≡ g ++ take k l
+  gathered_more : (s : State) (g : List ℕ) (k : ℕ) → k ≤ length l → in_block s ≡ true → Gathered r p s g → take (p + k - (block_of s)) (drop (block_of s) r) ≡ g ++ take k l
   gathered_more s g k h n a =
       let z = a.placed n in
-      let m : p + k - s.block ≡ length g + k = omega arith in
+      let m : p + k - (block_of s) ≡ length g + k = omega arith in
       rw (m, a.held n, take-append-add g (drop p r) k, line_rest, take-append-le k l (drop (p + length l) r) h)
 
-  commentary_gathered : (s : State) (g : List ℕ) → s.commentary ≡ true → Gathered r p s g → Gathered r (p + length l) (in_commentary r s p l).state (g ++ l)
+  commentary_gathered : (s : State) (g : List ℕ) → in_block s ≡ true → Gathered r p s g → Gathered r (p + length l) (in_commentary r s p l).state (g ++ l)
   unfolding in_commentary blocked
   commentary_gathered s g n a =
-      chosen (λ (o : Out State). Gathered r (p + length l) o.state (g ++ l)) (has_brace l) (blocked r s s.block (p + last_brace l)) (record { state = s; entries = [] })
+      chosen (λ (o : Out State). Gathered r (p + length l) o.state (g ++ l)) (has_brace l) (blocked r s (block_of s) (p + last_brace l)) (record { state = s; entries = [] })
       (λ e. not_open refl)
       (λ e.
       record {
@@ -196,7 +195,7 @@ module _ (c : Conventions) (r : List ℕ) (p : ℕ) (l : List ℕ) (i : LineAt r
       let h = brace_room l k in
       let b : p + length (lead l) + 1 ≡ p + n = omega arith in
       chosen (λ (o : Out State). Gathered r (p + length l) o.state (drop n l)) (has_brace l) (blocked r s (p + length (lead l) + 1) (p + last_brace l))
-      (record { state = with_commentary s true (p + length (lead l) + 1); entries = [] })
+      (record { state = with_commentary s (Some (p + length (lead l) + 1)); entries = [] })
       (λ e. not_open refl)
       (λ e.
       record {
@@ -204,7 +203,7 @@ module _ (c : Conventions) (r : List ℕ) (p : ℕ) (l : List ℕ) (i : LineAt r
         held = λ m. rw (b, ← drop-drop n p r, line_rest) (drop-append-le n l (drop (p + length l) r) h);
       })
 
-  kind_gathered : (s : State) (k : Line) → s.commentary ≡ false → line_kind l ≡ k → Gathered r (p + length l) (line_by c r s p l k).state (drop (length (lead l) + 1) l)
+  kind_gathered : (s : State) (k : Line) → in_block s ≡ false → line_kind l ≡ k → Gathered r (p + length l) (line_by c r s p l k).state (drop (length (lead l) + 1) l)
   kind_gathered s Blank n e = not_open (kind_commentary c r p l s Blank n)
   kind_gathered s Brace n e = brace_gathered s e
   kind_gathered s (Directive d) n e = not_open (kind_commentary c r p l s (Directive d) n)
@@ -212,11 +211,11 @@ module _ (c : Conventions) (r : List ℕ) (p : ℕ) (l : List ℕ) (i : LineAt r
   kind_gathered s Bracket n e = not_open (kind_commentary c r p l s Bracket n)
   kind_gathered s (Data d) n e = not_open (kind_commentary c r p l s (Data d) n)
 
-  line_gathered : (s : State) (g : List ℕ) → Gathered r p s g → Gathered r (p + length l) (line_out c r s p l).state (block_after s.commentary g l)
+  line_gathered : (s : State) (g : List ℕ) → Gathered r p s g → Gathered r (p + length l) (line_out c r s p l).state (block_after (in_block s) g l)
   unfolding line_out block_after
-  line_gathered s g a = by_commentary s.commentary refl
+  line_gathered s g a = by_commentary (in_block s) refl
     where
-      by_commentary : (b : Bool) → s.commentary ≡ b → Gathered r (p + length l) (cond b (in_commentary r s p l) (line_by c r s p l (line_kind l))).state (cond b (g ++ l) (drop (length (lead l) + 1) l))
+      by_commentary : (b : Bool) → in_block s ≡ b → Gathered r (p + length l) (cond b (in_commentary r s p l) (line_by c r s p l (line_kind l))).state (cond b (g ++ l) (drop (length (lead l) + 1) l))
       by_commentary true n = commentary_gathered s g n a
       by_commentary false n = kind_gathered s (line_kind l) n refl
 
@@ -272,9 +271,9 @@ idle_adds r s s' e = record { tags_added = λ is. refl; directives_added = λ is
 
 data_adds : (r : List ℕ) (s : State) (p : ℕ) (d : Span) → Adds r s [] [] [] (data_added s p d)
 unfolding item_of
-data_adds r s p d = maybe (eqb s.section.kind 0)
+data_adds r s p d = maybe (eqb (kind_of s.section) 0)
   where
-    maybe : (b : Bool) → Adds r s [] [] [] (adding s (cond b [] (entry 5 (p + d.start) d.len s.section.kind ∷ [])))
+    maybe : (b : Bool) → Adds r s [] [] [] (adding s (cond b [] (entry 5 (p + d.start) d.len (kind_of s.section) ∷ [])))
     maybe true = idle_adds r s (adding s []).state refl
     maybe false = record { tags_added = λ is. refl; directives_added = λ is. refl; blocks_added = λ is. refl; counted = sym (add-zero s.tags) }
 
@@ -283,8 +282,8 @@ blocked_adds : (r : List ℕ) (s : State) (i j : ℕ) (g : List ℕ) → take (j
 unfolding blocked item_of
 blocked_adds r s i j g e = rw (← e) (maybe (is_all_white r i j))
   where
-    maybe : (b : Bool) → Adds r s [] [] (cond b [] (record { bytes = take (j - i) (drop i r); before = s.tags } ∷ [])) (adding (with_commentary s false 0) (cond b [] (entry 4 i (j - i) s.tags ∷ [])))
-    maybe true = idle_adds r s (adding (with_commentary s false 0) []).state refl
+    maybe : (b : Bool) → Adds r s [] [] (cond b [] (record { bytes = take (j - i) (drop i r); before = s.tags } ∷ [])) (adding (with_commentary s None) (cond b [] (entry 4 i (j - i) s.tags ∷ [])))
+    maybe true = idle_adds r s (adding (with_commentary s None) []).state refl
     maybe false = record { tags_added = λ is. refl; directives_added = λ is. refl; blocks_added = λ is. refl; counted = sym (add-zero s.tags) }
 
 -- ---- one line
@@ -331,18 +330,18 @@ module _ (c : Conventions) (r : List ℕ) (p : ℕ) (l : List ℕ) (i : LineAt r
           let n = length (lead l) + 1 in
           let m : p + last_brace l - (p + length (lead l) + 1) ≡ last_brace l - n = omega arith in
           let b : p + length (lead l) + 1 ≡ p + n = omega arith in
-          rw (m, b) (PartPlaced r l p n (last_brace l - n) i.bytes (omega (arith, brace_room l k, brace_few l)))
+          rw (m, b) (PartPlaced r l p n (last_brace l - n) i.bytes (omega (arith, brace_room l k, brace_inside l)))
 
-      by_brace : (b : Bool) → Adds r s [] [] (cond b (block_on (inner_block l) s.tags) []) (cond b (blocked r s (p + length (lead l) + 1) (p + last_brace l)) (record { state = with_commentary s true (p + length (lead l) + 1); entries = [] }))
+      by_brace : (b : Bool) → Adds r s [] [] (cond b (block_on (inner_block l) s.tags) []) (cond b (blocked r s (p + length (lead l) + 1) (p + last_brace l)) (record { state = with_commentary s (Some (p + length (lead l) + 1)); entries = [] }))
       by_brace true = blocked_adds r s (p + length (lead l) + 1) (p + last_brace l) (inner_block l) inner
-      by_brace false = idle_adds r s (with_commentary s true (p + length (lead l) + 1)) refl
+      by_brace false = idle_adds r s (with_commentary s (Some (p + length (lead l) + 1))) refl
 
-  commentary_adds : (s : State) (g : List ℕ) → s.commentary ≡ true → Gathered r p s g → Adds r s [] [] (cond (has_brace l) (block_on (g ++ take (last_brace l) l) s.tags) []) (in_commentary r s p l)
+  commentary_adds : (s : State) (g : List ℕ) → in_block s ≡ true → Gathered r p s g → Adds r s [] [] (cond (has_brace l) (block_on (g ++ take (last_brace l) l) s.tags) []) (in_commentary r s p l)
   unfolding in_commentary
   commentary_adds s g n a = by_brace (has_brace l)
     where
-      by_brace : (b : Bool) → Adds r s [] [] (cond b (block_on (g ++ take (last_brace l) l) s.tags) []) (cond b (blocked r s s.block (p + last_brace l)) (record { state = s; entries = [] }))
-      by_brace true = blocked_adds r s s.block (p + last_brace l) (g ++ take (last_brace l) l) (gathered_more c r p l i s g (last_brace l) (brace_few l) n a)
+      by_brace : (b : Bool) → Adds r s [] [] (cond b (block_on (g ++ take (last_brace l) l) s.tags) []) (cond b (blocked r s (block_of s) (p + last_brace l)) (record { state = s; entries = [] }))
+      by_brace true = blocked_adds r s (block_of s) (p + last_brace l) (g ++ take (last_brace l) l) (gathered_more c r p l i s g (last_brace l) (brace_inside l) n a)
       by_brace false = idle_adds r s s refl
 
   kind_adds : (s : State) (k : Line) → line_kind l ≡ k → LinePlaced k (length l) → Adds r s (tags_on k l) (directives_on k l s.tags) (blocks_on k l s.tags) (line_by c r s p l k)
@@ -353,11 +352,11 @@ module _ (c : Conventions) (r : List ℕ) (p : ℕ) (l : List ℕ) (i : LineAt r
   kind_adds s Bracket e j = idle_adds r s s refl
   kind_adds s (Data d) e j = data_adds r s p d
 
-  line_adds : (s : State) (g : List ℕ) → Gathered r p s g → Adds r s (line_tags s.commentary l) (line_directives s.commentary l s.tags) (line_blocks s.commentary g l s.tags) (line_out c r s p l)
+  line_adds : (s : State) (g : List ℕ) → Gathered r p s g → Adds r s (line_tags (in_block s) l) (line_directives (in_block s) l s.tags) (line_blocks (in_block s) g l s.tags) (line_out c r s p l)
   unfolding line_out line_tags line_directives line_blocks
-  line_adds s g a = by_commentary s.commentary refl
+  line_adds s g a = by_commentary (in_block s) refl
     where
-      by_commentary : (b : Bool) → s.commentary ≡ b
+      by_commentary : (b : Bool) → in_block s ≡ b
           → Adds r s (cond b [] (tags_on (line_kind l) l)) (cond b [] (directives_on (line_kind l) l s.tags))
           (cond b (cond (has_brace l) (block_on (g ++ take (last_brace l) l) s.tags) []) (blocks_on (line_kind l) l s.tags)) (cond b (in_commentary r s p l) (line_by c r s p l (line_kind l)))
       by_commentary true n = commentary_adds s g n a
@@ -366,19 +365,19 @@ module _ (c : Conventions) (r : List ℕ) (p : ℕ) (l : List ℕ) (i : LineAt r
 -- ---- all lines
 
 lines_add : (c : Conventions) (r : List ℕ) (p : ℕ) (s : State) (g : List ℕ) (ls : List (List ℕ)) → raw_lines (drop p r) ≡ ls → Gathered r p s g
-    → Adds r s (tags_of_lines s.commentary ls) (directives_of_lines s.commentary s.tags ls) (blocks_of_lines s.commentary g s.tags ls) (lines_out c r s p ls)
+    → Adds r s (tags_of_lines (in_block s) ls) (directives_of_lines (in_block s) s.tags ls) (blocks_of_lines (in_block s) g s.tags ls) (lines_out c r s p ls)
 lines_add c r p s g [] e a = closed_adds c r s
 lines_add c r p s g (l ∷ ls) e a =
     let o = line_out c r s p l in
     let k = lines_out c r o.state (p + length l) ls in
     let i = first_line r p l ls e in
-    let n = commentary_after s.commentary l in
-    let h = block_after s.commentary g l in
-    let m = s.tags + length (line_tags s.commentary l) in
+    let n = commentary_after (in_block s) l in
+    let h = block_after (in_block s) g l in
+    let m = s.tags + length (line_tags (in_block s) l) in
     let x = line_adds c r p l i s g a in
     let y : Adds r o.state (tags_of_lines n ls) (directives_of_lines n m ls) (blocks_of_lines n h m ls) k
     = rw (line_commentary c r p l s, x.counted) at (lines_add c r (p + length l) o.state h ls (next_line_lem r p l ls e).rest (line_gathered c r p l i s g a)) in
-    then_adds r s (line_tags s.commentary l) _ (line_directives s.commentary l s.tags) _ (line_blocks s.commentary g l s.tags) _ o k x y
+    then_adds r s (line_tags (in_block s) l) _ (line_directives (in_block s) l s.tags) _ (line_blocks (in_block s) g l s.tags) _ o k x y
 
 record_adds : (c : Conventions) (r : List ℕ) → Adds r no_state (tags_of_lines false (raw_lines r)) (directives_of_lines false 0 (raw_lines r)) (blocks_of_lines false [] 0 (raw_lines r)) (record_out c r)
 unfolding record_out

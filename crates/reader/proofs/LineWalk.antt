@@ -8,8 +8,8 @@ use lib.ListN.{length, drop, get_or, length-take, length-drop}
 use denote.Ref.{Bor}
 use borrow.Author.Tests.{leb-true, leb-false}
 use Rattle.tables.proofs.Laws.{by_cases, stop}
-use Rattle.reader.specs.declared.walk.Lines.{Lines}
-use Rattle.reader.specs.LineWalk.{IsNextLine, line_at, line_end, lines_of, at_end, next_line, past_lines}
+use Rattle.tables.specs.declared.lines.Lines.{Lines}
+use Rattle.tables.specs.LineWalk.{IsNextLine, line_at, line_end, lines_of, at_end, next_line, past_lines}
 use Rattle.reader.specs.Pieces.{raw_lines}
 use Rattle.reader.proofs.SectionLaws.{LineAt, line_at_lem}
 

@@ -37,7 +37,7 @@ lines_start c r l s e =
       adds = λ l' h. h;
       start = refl;
       counted = omega arith;
-      sound = record { kind_low = omega arith; seat_low = omega arith; leader_low = λ k. omega arith; lines_before = omega arith; split_before = omega arith; block_before = omega arith };
+      sound = record { lines_before = omega arith; split_before = omega arith; block_before = omega arith };
       inside = omega arith;
       tags_few = omega arith;
     })

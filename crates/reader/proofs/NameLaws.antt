@@ -1,76 +1,42 @@
 -- Laws of tag names.
 use Prim.Native.Nat.{ℕ, zero, suc, ◌+◌, ◌-◌, ◌≤◌, ◌<◌}
 use mathlib.Core.Path.{◌≡◌, refl, sym, ap, ◌∙◌}
-use mathlib.Core.Bool.{Bool, true, false, ◌&&◌}
+use mathlib.Core.Bool.{Bool, true, ◌&&◌}
 use mathlib.Core.List.{List, [], ◌∷◌, map}
 use native.Mathlib.Omega.{arith}
 use lib.Dec.{eqb}
 use lib.ListN.{get_or}
-use Rattle.std.specs.Prelude.{Some}
+use Rattle.std.specs.Prelude.{Option, Some, option_map}
+use denote.Ref.{Bor}
 use Rattle.std.specs.List.{find}
-use borrow.Author.Rules.{rules}
-use borrow.Author.Tests.{eqb-true, eqb-false, ne_eqb}
+use borrow.Author.Tests.{eqb-true, eqb-false}
 use Rattle.tables.proofs.Laws.{by_cases, both}
 use Rattle.reader.specs.Words.{same}
 use Rattle.reader.specs.Names.{tag_names, number_in, tag_number, number_of}
-use Rattle.reader.specs.NameSteps.{text_of}
 use Rattle.reader.specs.declared.names.TagName.{TagName}
-use Rattle.reader.specs.declared.names.TagName.TheVariants.{Board, Dealer, Vulnerable, Deal, Event, Site, Date, Declarer, Contract, Result, North, East, South, West, Auction, Play, Note, DoubleDummyTricks, OptimumResultTable, OptimumScore, ParContract}
 use Rattle.reader.proofs.WordLaws.{same_is}
 
--- ---- the names of the enum are the list, in its order
-
-abbrev pub all_names : List TagName
-all_names = Board ∷ Dealer ∷ Vulnerable ∷ Deal ∷ Event ∷ Site ∷ Date ∷ Declarer ∷ Contract ∷ Result ∷ North ∷ East ∷ South ∷ West ∷ Auction ∷ Play ∷ Note ∷ DoubleDummyTricks ∷ OptimumResultTable ∷ OptimumScore ∷ ParContract ∷ []
+-- ---- the table of names is the list, in its order
 
 -- Numbered from n on.
-abbrev Numbered : List TagName → ℕ → Type 0
+abbrev pub Numbered : List (Bor (List ℕ) × TagName) → ℕ → Type 0
 Numbered [] n = Unit {0}
-Numbered (x ∷ xs) n = (number_of (Some x) ≡ n) × Numbered xs (n + 1)
+Numbered (x ∷ xs) n = (number_of (Some x.1) ≡ n) × Numbered xs (n + 1)
 
-found : (t : List ℕ) (xs : List TagName) (n : ℕ) → Numbered xs n → number_of (find (λ x. same (text_of x) t) xs) ≡ number_in (map text_of xs) t n
+-- The number of the name in a row that was found.
+abbrev pub number_found : Option (Bor (List ℕ) × TagName) → ℕ
+number_found o = number_of (option_map (λ x. x.1) o)
+
+found : (t : List ℕ) (xs : List (Bor (List ℕ) × TagName)) (n : ℕ) → Numbered xs n → number_found (find (λ x. same x.0.now t) xs) ≡ number_in (map (λ x. x.0.now) xs) t n
 found t [] n h = refl
-found t (x ∷ xs) n h = by_cases (same (text_of x) t) (λ e. rw e h.0) (λ e. rw e (found t xs (n + 1) h.1))
+found t (x ∷ xs) n h = by_cases (same x.0.now t) (λ e. rw e h.0) (λ e. rw e (found t xs (n + 1) h.1))
 
-names_are : map text_of all_names ≡ tag_names
-unfolding tag_names
-names_are = refl
-
-pub name_found : (t : List ℕ) → number_of (find (λ x. same (text_of x) t) all_names) ≡ tag_number t
+-- The rows xs that a walk goes over, and the row that it found.
+pub name_found : (t : List ℕ) (o : Option (Bor (List ℕ) × TagName)) {s xs : List (Bor (List ℕ) × TagName)} → s ≡ xs → o ≡ find (λ x. same x.0.now t) xs → Numbered xs 1 → map (λ x. x.0.now) xs ≡ tag_names → number_found o ≡ tag_number t
 unfolding tag_number
-name_found t = found t all_names 1 (search rules) ∙ ap (λ (ws : List (List ℕ)). number_in ws t 1) names_are
+name_found t o {xs = xs} w e h f = ap number_found e ∙ (found t xs 1 h ∙ ap (λ (ws : List (List ℕ)). number_in ws t 1) f)
 
 -- ---- a name by its number
-
-abbrev name_at : ℕ → TagName
-name_at n = get_or (Note ∷ all_names) n Note
-
-name_back : (x : TagName) → name_at (number_of (Some x)) ≡ x
-name_back Board = refl
-name_back Dealer = refl
-name_back Vulnerable = refl
-name_back Deal = refl
-name_back Event = refl
-name_back Site = refl
-name_back Date = refl
-name_back Declarer = refl
-name_back Contract = refl
-name_back Result = refl
-name_back North = refl
-name_back East = refl
-name_back South = refl
-name_back West = refl
-name_back Auction = refl
-name_back Play = refl
-name_back Note = refl
-name_back DoubleDummyTricks = refl
-name_back OptimumResultTable = refl
-name_back OptimumScore = refl
-name_back ParContract = refl
-
--- Another name has another number.
-pub number_not : (x y : TagName) → (x ≡ y → ⊥) → eqb (number_of (Some x)) (number_of (Some y)) ≡ false
-number_not x y h = ne_eqb _ _ (λ e. h (sym (name_back x) ∙ ap name_at e ∙ name_back y))
 
 -- ---- names and their numbers
 

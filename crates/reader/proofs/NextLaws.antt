@@ -8,7 +8,7 @@ use lib.Dec.{eqb}
 use lib.ListN.{length, take, drop, get_or}
 use lib.Seq.{drop-drop}
 use Rattle.tables.specs.Text.{trim_start}
-use Rattle.tables.proofs.Laws.{by_cases, stop}
+use Rattle.tables.proofs.Laws.{by_cases}
 use Rattle.reader.specs.declared.tag.Span.{Span}
 use Rattle.std.specs.Prelude.{Some, None}
 use Rattle.reader.specs.declared.line.Line.{Line}

@@ -1,7 +1,11 @@
 -- Every entry of a record, and of a text, has a kind 1 to 8, and all but a trick lie inside it.
+use Rattle.reader.specs.Boards.{in_block, block_of}
+use Rattle.std.specs.Prelude.{Option, Some}
+use Rattle.reader.specs.declared.section.Kind.TheVariants.{Auction, Play, Optimum}
+use Rattle.reader.specs.declared.section.Kind.{Kind}
 use Prim.Native.Nat.{ℕ, ◌+◌, ◌-◌, ◌≤◌}
 use mathlib.Core.Path.{◌≡◌, refl, sym, ◌∙◌}
-use mathlib.Core.Bool.{Bool, true, false, cond, ◌&&◌, not}
+use mathlib.Core.Bool.{Bool, true, false, cond}
 use mathlib.Core.List.{List, [], ◌∷◌, map}
 use native.Mathlib.Omega.{arith}
 use lib.Dec.{ltb, eqb}
@@ -9,7 +13,7 @@ use lib.ListN.{length, drop, get_or, length-append}
 use borrow.Author.Tests.{ltb-true, ltb-false, eqb-true, ne_eqb}
 use Rattle.tables.specs.declared.letters.Conventions.{Conventions}
 use Rattle.tables.specs.Text.{lead, first_character}
-use Rattle.tables.specs.Letters.{among, seat_of}
+use Rattle.tables.specs.Letters.{seat_of}
 use Rattle.tables.proofs.Laws.{by_cases, either, clash}
 use Rattle.reader.specs.declared.store.Entry.{Entry}
 use Rattle.reader.specs.declared.tag.Span.{Span}
@@ -28,7 +32,7 @@ use Rattle.reader.specs.Names.{tag_number}
 use Rattle.reader.specs.Lines.{has_brace, last_brace, line_kind}
 use Rattle.reader.specs.LineSteps.{LinePlaced, ReadingPlaced}
 use Rattle.reader.specs.Pieces.{Piece, Out, entry, raw_lines}
-use Rattle.reader.specs.Sections.{commentary_after, stops_at, data_piece, piece_of, data_in, split_piece, section_data, walked, no_walk, walked_all}
+use Rattle.reader.specs.Sections.{commentary_after, stops_at, data_piece, piece_of, data_in, split_piece, section_data, walked, no_walk, walked_all, kind_of, opener, lines_at, split_off}
 use Rattle.reader.specs.Boards.{last_entries, closed, closed_by, no_span, no_open, at, seat_open, open_by, tagged, data_added, read_by, tag_line_out, with_commentary, blocked, braced, in_commentary, line_by, line_out, lines_out, no_state, record_out, is_all_white}
 use Rattle.reader.specs.Records.{records_of}
 use Rattle.reader.specs.Editions.{entries_from, entries_of}
@@ -38,6 +42,7 @@ use Rattle.reader.proofs.PlayLaws.{TricksOnly, LastTrickOnly}
 use Rattle.reader.proofs.Inside.{LineInside}
 use Rattle.reader.proofs.Seams.{records_fit}
 use Rattle.reader.proofs.Counts.{chosen, cut_len, next_line_lem}
+use Rattle.reader.proofs.LineLaws.{brace_inside}
 
 -- An entry of a record of n bytes.
 pub record Placed (n : ℕ) (e : Entry) : Type 0 where
@@ -62,14 +67,14 @@ trick_placed n e t = record { kind_some = omega (arith, t.trick); kind_low = ome
 record Within (n : ℕ) (q : Piece) : Type 0 where
   ends : q.at + length q.bytes ≤ n
 
-walked_placed : (c : Conventions) (o : Open) (trump n : ℕ) (w : Walk) (q : Piece) → Within n q → All (Placed n) (walked c o trump w q).entries
+walked_placed : (c : Conventions) (o : Option Open) (trump n : ℕ) (w : Walk) (q : Piece) → Within n q → All (Placed n) (walked c o trump w q).entries
 unfolding walked
 walked_placed c o trump n w q h =
-    by_cases (eqb o.kind 1)
+    by_cases (eqb (kind_of o) 1)
     (λ e. rw e (all_map (λ x i. call_placed n q.at (q.at + length q.bytes) x h.ends i) (CallsInside c w.bidding q)))
     (λ e.
-    by_cases (eqb o.kind 2)
-    (λ f. rw (e, f) (all_map (trick_placed n) (TricksOnly c o.seat trump w.tricks q)))
+    by_cases (eqb (kind_of o) 2)
+    (λ f. rw (e, f) (all_map (trick_placed n) (TricksOnly c (opener o) trump w.tricks q)))
     (λ f. rw (e, f) none))
 
 data_within : (r : List ℕ) (p : ℕ) (l : List ℕ) (k : Line) → p + length l ≤ length r → LinePlaced k (length l) → All (Within (length r)) (data_piece p l k)
@@ -96,11 +101,11 @@ lines_within r commentary p (l ∷ ls) e =
 split_within : (r : List ℕ) (s : Span) → SpanInside s (length r) → All (Within (length r)) (split_piece r s)
 split_within r s h = by_cases (eqb s.len 0) (λ e. rw e none) (λ e. rw e (one {x = record { at = s.start; bytes = cut s r }} (record { ends = omega (arith, cut_len s r) }) none))
 
-section_placed : (c : Conventions) (r : List ℕ) (o : Open) (trump : ℕ) → SpanInside o.split (length r) → All (Placed (length r)) (walked_all c r o trump).entries
+section_placed : (c : Conventions) (r : List ℕ) (o : Option Open) (trump : ℕ) → SpanInside (split_off o) (length r) → All (Placed (length r)) (walked_all c r o trump).entries
 unfolding walked_all section_data
 section_placed c r o trump h =
     out_all_lem (walked c o trump) (λ w q i. walked_placed c o trump (length r) w q i) no_walk
-    (all_append (split_within r o.split h) (lines_within r false o.at (raw_lines (drop o.at r)) refl))
+    (all_append (split_within r (split_off o) h) (lines_within r false (lines_at o) (raw_lines (drop (lines_at o) r)) refl))
 
 last_placed : (n kind : ℕ) (w : Walk) → All (Placed n) (last_entries kind w)
 last_placed n kind w = by_cases (eqb kind 2) (λ e. rw e (all_map (trick_placed n) (LastTrickOnly w.tricks))) (λ e. rw e none)
@@ -110,34 +115,34 @@ last_placed n kind w = by_cases (eqb kind 2) (λ e. rw e (all_map (trick_placed 
 -- A step's entries lie inside, and so does what was split off the tag of its section.
 record Stays (n : ℕ) (o : Out State) : Type 0 where
   placed : All (Placed n) o.entries
-  split : SpanInside o.state.section.split n
+  split : SpanInside (split_off o.state.section) n
 
-closed_stays : (c : Conventions) (r : List ℕ) (s : State) → SpanInside s.section.split (length r) → Stays (length r) (closed c r s)
+closed_stays : (c : Conventions) (r : List ℕ) (s : State) → SpanInside (split_off s.section) (length r) → Stays (length r) (closed c r s)
 unfolding closed
 closed_stays c r s h =
     let w = walked_all c r s.section s.board.contract in
-    chosen (λ o. Stays (length r) o) (eqb s.section.kind 0) (record { state = s; entries = [] }) (closed_by s w)
+    chosen (λ o. Stays (length r) o) (eqb (kind_of s.section) 0) (record { state = s; entries = [] }) (closed_by s w)
     (λ e. record { placed = none; split = h })
-    (λ e. record { placed = all_append (section_placed c r s.section s.board.contract h) (last_placed (length r) s.section.kind w.state); split = omega arith })
+    (λ e. record { placed = all_append (section_placed c r s.section s.board.contract h) (last_placed (length r) (kind_of s.section) w.state); split = omega arith })
 
 -- An entry that stands at a span of the line at p.
 at_placed : (n k p m z : ℕ) (d : Span) → 1 ≤ k → k ≤ 8 → p + m ≤ n → SpanInside d m → Placed n (entry k (p + d.start) d.len z)
 at_placed n k p m z d a b h i = record { kind_some = a; kind_low = b; inside = λ x. omega arith }
 
-open_split : (c : Conventions) (k : ℕ) (value : List ℕ) (q n : ℕ) (split : Span) → SpanInside split n → SpanInside (open_by c k value q split).split n
+open_split : (c : Conventions) (k : ℕ) (value : List ℕ) (q n : ℕ) (split : Span) → SpanInside split n → SpanInside (split_off (open_by c k value q split)) n
 unfolding open_by
 open_split c k value q n split h =
-    let P : Open → Type 0 = λ o. SpanInside o.split n in
-    let x : Open = record { kind = 3; seat = 4; at = q; split = split } in
-    chosen P (eqb k 15) (seat_open 1 (seat_of c (first_character value)) q split) (cond (eqb k 16) (seat_open 2 (seat_of c (first_character value)) q split) (cond (eqb k 19) x no_open)) (λ e. seat 1)
+    let P : Option Open → Type 0 = λ o. SpanInside (split_off o) n in
+    let x : Option Open = Some (record { kind = Optimum; at = q; split = split }) in
+    chosen P (eqb k 15) (seat_open Auction (seat_of c (first_character value)) q split) (cond (eqb k 16) (seat_open Play (seat_of c (first_character value)) q split) (cond (eqb k 19) x no_open)) (λ e. seat Auction)
     (λ e.
-    chosen P (eqb k 16) (seat_open 2 (seat_of c (first_character value)) q split) (cond (eqb k 19) x no_open) (λ f. seat 2)
+    chosen P (eqb k 16) (seat_open Play (seat_of c (first_character value)) q split) (cond (eqb k 19) x no_open) (λ f. seat Play)
     (λ f. chosen P (eqb k 19) x no_open (λ g. h) (λ g. omega arith)))
   where
-    seat : (kind : ℕ) → SpanInside (seat_open kind (seat_of c (first_character value)) q split).split n
+    seat : (kind : ℕ → Kind) → SpanInside (split_off (seat_open kind (seat_of c (first_character value)) q split)) n
     seat kind =
-        chosen (λ (o : Open). SpanInside o.split n) (ltb (seat_of c (first_character value)) 4)
-        (record { kind = kind; seat = seat_of c (first_character value); at = q; split = split })
+        chosen (λ (o : Option Open). SpanInside (split_off o) n) (ltb (seat_of c (first_character value)) 4)
+        (Some (record { kind = kind (seat_of c (first_character value)); at = q; split = split }))
         no_open
         (λ e. h)
         (λ e. omega arith)
@@ -153,8 +158,8 @@ tagged_stays c s p l q n t split h i j =
 
 data_placed : (s : State) (p n m : ℕ) (d : Span) → p + m ≤ n → SpanInside d m → All (Placed n) (data_added s p d).entries
 data_placed s p n m d h i =
-    chosen (λ es. All (Placed n) es) (eqb s.section.kind 0) [] (entry 5 (p + d.start) d.len s.section.kind ∷ []) (λ e. none)
-    (λ e. one (at_placed n 5 p m s.section.kind d (omega arith) (omega arith) h i) none)
+    chosen (λ es. All (Placed n) es) (eqb (kind_of s.section) 0) [] (entry 5 (p + d.start) d.len (kind_of s.section) ∷ []) (λ e. none)
+    (λ e. one (at_placed n 5 p m (kind_of s.section) d (omega arith) (omega arith) h i) none)
 
 reading_stays : (c : Conventions) (s : State) (p : ℕ) (l : List ℕ) (q n : ℕ) (t : TagReading) → p + length l ≤ n → ReadingPlaced t (length l) → Stays n (read_by c s p l q t)
 reading_stays c s p l q n (Plain t) h i = tagged_stays c s p l q n t no_span h i (omega arith)
@@ -166,15 +171,10 @@ reading_stays c s p l q n (WithData t d) h i =
     let a = tagged_stays c s p l q n t (at p d) h i.0 (omega (arith, i.1)) in
     record { placed = all_append a.placed (data_placed (tagged c s p l q t (at p d)).state p n (length l) d h i.1); split = a.split }
 
-last_brace_lem : (l : List ℕ) → last_brace l ≤ length l
-last_brace_lem [] = omega arith
-last_brace_lem (b ∷ bs) =
-    by_cases (eqb b 125 && not (among 125 bs)) (λ e. rw e (omega arith)) (λ e. rw e (omega (arith, last_brace_lem bs)))
-
 all_white : (r : List ℕ) (i j : ℕ) → j ≤ i → is_all_white r i j ≡ true
 all_white r i j h = let z : j - i ≡ 0 = omega arith in rw z
 
-blocked_stays : (r : List ℕ) (s : State) (i j : ℕ) → j ≤ length r → SpanInside s.section.split (length r) → Stays (length r) (blocked r s i j)
+blocked_stays : (r : List ℕ) (s : State) (i j : ℕ) → j ≤ length r → SpanInside (split_off s.section) (length r) → Stays (length r) (blocked r s i j)
 unfolding blocked
 blocked_stays r s i j h k =
     record {
@@ -187,19 +187,19 @@ blocked_stays r s i j h k =
       split = k;
     }
 
-module _ (c : Conventions) (r : List ℕ) (s : State) (p : ℕ) (l : List ℕ) (h : p + length l ≤ length r) (k : SpanInside s.section.split (length r)) where
+module _ (c : Conventions) (r : List ℕ) (s : State) (p : ℕ) (l : List ℕ) (h : p + length l ≤ length r) (k : SpanInside (split_off s.section) (length r)) where
   commentary_stays : Stays (length r) (in_commentary r s p l)
   unfolding in_commentary
   commentary_stays =
-      chosen (λ o. Stays (length r) o) (has_brace l) (blocked r s s.block (p + last_brace l)) (record { state = s; entries = [] })
-      (λ e. blocked_stays r s s.block (p + last_brace l) (omega (arith, last_brace_lem l)) k)
+      chosen (λ o. Stays (length r) o) (has_brace l) (blocked r s (block_of s) (p + last_brace l)) (record { state = s; entries = [] })
+      (λ e. blocked_stays r s (block_of s) (p + last_brace l) (omega (arith, brace_inside l)) k)
       (λ e. record { placed = none; split = k })
 
   brace_stays : Stays (length r) (braced r s p l)
   unfolding braced
   brace_stays =
-      chosen (λ o. Stays (length r) o) (has_brace l) (blocked r s (p + length (lead l) + 1) (p + last_brace l)) (record { state = with_commentary s true (p + length (lead l) + 1); entries = [] })
-      (λ e. blocked_stays r s (p + length (lead l) + 1) (p + last_brace l) (omega (arith, last_brace_lem l)) k)
+      chosen (λ o. Stays (length r) o) (has_brace l) (blocked r s (p + length (lead l) + 1) (p + last_brace l)) (record { state = with_commentary s (Some (p + length (lead l) + 1)); entries = [] })
+      (λ e. blocked_stays r s (p + length (lead l) + 1) (p + last_brace l) (omega (arith, brace_inside l)) k)
       (λ e. record { placed = none; split = k })
 
   tag_stays : (t : TagReading) → ReadingPlaced t (length l) → Stays (length r) (tag_line_out c r s p l t)
@@ -220,11 +220,11 @@ module _ (c : Conventions) (r : List ℕ) (s : State) (p : ℕ) (l : List ℕ) (
   line_stays : Stays (length r) (line_out c r s p l)
   unfolding line_out
   line_stays =
-      chosen (λ o. Stays (length r) o) s.commentary (in_commentary r s p l) (line_by c r s p l (line_kind l)) (λ e. commentary_stays) (λ e. kind_stays (line_kind l) (LineInside l))
+      chosen (λ o. Stays (length r) o) (in_block s) (in_commentary r s p l) (line_by c r s p l (line_kind l)) (λ e. commentary_stays) (λ e. kind_stays (line_kind l) (LineInside l))
 
 -- ---- the lines of a record
 
-lines_placed : (c : Conventions) (r : List ℕ) (s : State) (p : ℕ) (ls : List (List ℕ)) → raw_lines (drop p r) ≡ ls → SpanInside s.section.split (length r)
+lines_placed : (c : Conventions) (r : List ℕ) (s : State) (p : ℕ) (ls : List (List ℕ)) → raw_lines (drop p r) ≡ ls → SpanInside (split_off s.section) (length r)
     → All (Placed (length r)) (lines_out c r s p ls).entries
 lines_placed c r s p [] e k = (closed_stays c r s k).placed
 lines_placed c r s p (l ∷ ls) e k =

@@ -1,4 +1,7 @@
 -- Each directive and each block has the number of tags before it, so that no plain board has an anchor past its tags.
+use Rattle.reader.specs.Boards.{block_of}
+use Rattle.std.specs.Prelude.{None}
+use Rattle.reader.specs.Sections.{kind_of}
 use Prim.Native.Nat.{ℕ, zero, suc, ◌+◌, ◌-◌, ◌≤◌}
 use mathlib.Core.Path.{◌≡◌, refl, sym, ap, ◌∙◌}
 use mathlib.Core.Bool.{Bool, true, false, cond, ◌||◌}
@@ -97,7 +100,7 @@ maybe_counted s s' true e h m z = record { anchored = free; counted = omega (ari
 maybe_counted s s' false e h m z = record { anchored = next m free; counted = omega (arith, h, z) }
 
 data_counted : (s : State) (p : ℕ) (d : Span) → Counted s (data_added s p d)
-data_counted s p d = maybe_counted s s (eqb s.section.kind 0) (entry 5 (p + d.start) d.len s.section.kind) refl (record { marked = λ u. clash u }) refl
+data_counted s p d = maybe_counted s s (eqb (kind_of s.section) 0) (entry 5 (p + d.start) d.len (kind_of s.section)) refl (record { marked = λ u. clash u }) refl
 
 reading_counted : (c : Conventions) (s : State) (p : ℕ) (l : List ℕ) (q : ℕ) (t : TagReading) → Counted s (read_by c s p l q t)
 reading_counted c s p l q (Plain t) = tagged_counted c s p l q t no_span
@@ -110,7 +113,7 @@ reading_counted c s p l q (WithData t d) =
 
 blocked_counted : (r : List ℕ) (s : State) (i j : ℕ) → Counted s (blocked r s i j)
 unfolding blocked
-blocked_counted r s i j = maybe_counted s (with_commentary s false 0) (is_all_white r i j) (entry 4 i (j - i) s.tags) refl (record { marked = λ u. refl }) refl
+blocked_counted r s i j = maybe_counted s (with_commentary s None) (is_all_white r i j) (entry 4 i (j - i) s.tags) refl (record { marked = λ u. refl }) refl
 
 -- ---- a record
 
@@ -124,7 +127,7 @@ record_counted c r =
       quiet = λ p s l i n k. record { anchored = free; counted = sym (add-zero s.tags) };
       opening = λ p s l i n k b. record { anchored = free; counted = sym (add-zero s.tags) };
       bracing = λ p s l i n k b. blocked_counted r s (p + length (lead l) + 1) (p + last_brace l);
-      commentary = λ p s l i n k. blocked_counted r s s.block (p + last_brace l);
+      commentary = λ p s l i n k. blocked_counted r s (block_of s) (p + last_brace l);
       directing = λ p s l d i n k. directed_counted s p d;
       dating = λ p s l d i n k. data_counted s p d;
       tagging = λ p s l t i k. reading_counted c s p l (p + length l) t;

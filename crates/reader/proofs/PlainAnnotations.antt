@@ -1,4 +1,5 @@
 -- The annotations of a plain board's auction have at most twice the bytes of its record: the auction in force is that of one section.
+use Rattle.reader.specs.Boards.{block_of}
 use Prim.Native.Nat.{ℕ, zero, suc, ◌+◌, ◌-◌, ◌*◌, ◌≤◌}
 use mathlib.Core.Path.{◌≡◌, refl, sym, ap, ◌∙◌}
 use mathlib.Core.Bool.{Bool, true, false, cond}
@@ -32,10 +33,10 @@ use Rattle.reader.specs.Lines.{last_brace}
 use Rattle.reader.specs.Pieces.{Piece, Out, out_all, and_then, entry, tokens_of, raw_lines}
 use Rattle.reader.specs.Auction.{call_token_of, bidding, called_by, called, called_piece}
 use Rattle.reader.specs.Play.{last_trick}
-use Rattle.reader.specs.Sections.{commentary_after, stops_at, piece_of, data_in, split_piece, section_data, walked, no_walk, walked_all}
-use Rattle.reader.specs.Boards.{applied, with_sections, auction_closed, play_closed, rows_closed, table_closed, closed_entries, last_entries, closed_by, closed, no_span, at, tagged, directed, data_added, read_by, blocked, no_state, record_out}
+use Rattle.reader.specs.Sections.{commentary_after, stops_at, piece_of, data_in, split_piece, section_data, walked, no_walk, walked_all, kind_of, opener, lines_at, split_off}
+use Rattle.reader.specs.Boards.{applied, with_sections, auction_closed, play_closed, rows_closed, rows_taken, table_closed, closed_entries, last_entries, closed_by, closed, no_span, at, tagged, directed, data_added, read_by, blocked, no_state, record_out}
 use Rattle.reader.specs.Plain.{item_of, items_of, PlainCall, PlainAuction, annotations_first, calls_in, plain_auction, plain_by, plain_of}
-use Rattle.reader.proofs.EntryLaws.{All, none, one, Trick, bytes_in, tokens_bytes}
+use Rattle.reader.proofs.EntryLaws.{sum_append, sum_of, All, none, one, Trick, bytes_in, tokens_bytes}
 use Rattle.reader.proofs.Tags.{never}
 use Rattle.reader.proofs.PlayLaws.{TricksOnly, LastTrickOnly}
 use Rattle.reader.proofs.WalkLaws.{section_count}
@@ -45,19 +46,17 @@ use Rattle.reader.proofs.PlainLaws.{force_is}
 use Rattle.reader.proofs.PlainWords.{entries_within, within_items}
 use Rattle.reader.proofs.PlainSizes.{bytes_few}
 use Rattle.reader.proofs.PlainSteps.{HoldsOfRecord}
-use Rattle.std.specs.Prelude.{Ok, Err}
+use Rattle.std.specs.Prelude.{Ok, Err, Option, Some, None}
 
 -- The bytes of the annotations among entries.
 abbrev annotation_one : Entry → ℕ
 annotation_one e = cond (eqb e.kind 7) e.y 0
 
 abbrev annotation_size : List Entry → ℕ
-annotation_size [] = 0
-annotation_size (e ∷ es) = annotation_one e + annotation_size es
+annotation_size es = sum_of annotation_one es
 
 annotation_append : (es fs : List Entry) → annotation_size (es ++ fs) ≡ annotation_size es + annotation_size fs
-annotation_append [] fs = omega arith
-annotation_append (e ∷ es) fs = omega (arith, annotation_append es fs)
+annotation_append = sum_append annotation_one
 
 annotation_take : (n : ℕ) (es : List Entry) → annotation_size (take n es) ≤ annotation_size es
 annotation_take zero es = omega arith
@@ -96,12 +95,12 @@ piece_annotations : (c : Conventions) (b : Bidding) (q : Piece) → annotation_s
 unfolding called_piece
 piece_annotations c b q = omega (arith, out_annotations (called c) (λ x t. called_annotations c x t) b (tokens_of q), tokens_bytes q.at q.bytes)
 
-walked_annotations : (c : Conventions) (o : Open) (trump : ℕ) (w : Walk) (q : Piece) → annotation_size (walked c o trump w q).entries ≤ length q.bytes
+walked_annotations : (c : Conventions) (o : Option Open) (trump : ℕ) (w : Walk) (q : Piece) → annotation_size (walked c o trump w q).entries ≤ length q.bytes
 unfolding walked
 walked_annotations c o trump w q =
-    by_cases (eqb o.kind 1)
+    by_cases (eqb (kind_of o) 1)
     (λ e. rw e (piece_annotations c w.bidding q))
-    (λ e. by_cases (eqb o.kind 2) (λ f. rw (e, f) (omega (arith, tricks_none (TricksOnly c o.seat trump w.tricks q)))) (λ f. rw (e, f) (omega arith)))
+    (λ e. by_cases (eqb (kind_of o) 2) (λ f. rw (e, f) (omega (arith, tricks_none (TricksOnly c (opener o) trump w.tricks q)))) (λ f. rw (e, f) (omega arith)))
 
 lines_few : (r : List ℕ) (commentary : Bool) (p : ℕ) (ls : List (List ℕ)) → raw_lines (drop p r) ≡ ls → bytes_in (data_in commentary p ls) ≤ length r - p
 lines_few r commentary p [] e = omega arith
@@ -113,12 +112,12 @@ lines_few r commentary p (l ∷ ls) e =
 split_few : (r : List ℕ) (s : Span) → bytes_in (split_piece r s) ≤ length r
 split_few r s = chosen (λ qs. bytes_in qs ≤ length r) (eqb s.len 0) [] (record { at = s.start; bytes = cut s r } ∷ []) (λ e. omega arith) (λ e. omega (arith, cut_few s r))
 
-section_annotations : (c : Conventions) (r : List ℕ) (o : Open) (trump : ℕ) → annotation_size (walked_all c r o trump).entries ≤ 2 * length r
+section_annotations : (c : Conventions) (r : List ℕ) (o : Option Open) (trump : ℕ) → annotation_size (walked_all c r o trump).entries ≤ 2 * length r
 unfolding walked_all section_data
 section_annotations c r o trump =
-    let a = split_piece r o.split in
-    let b = data_in false o.at (raw_lines (drop o.at r)) in
-    omega (arith, out_annotations (walked c o trump) (λ w q. walked_annotations c o trump w q) no_walk (a ++ b), bytes_append a b, split_few r o.split, lines_few r false o.at (raw_lines (drop o.at r)) refl)
+    let a = split_piece r (split_off o) in
+    let b = data_in false (lines_at o) (raw_lines (drop (lines_at o) r)) in
+    omega (arith, out_annotations (walked c o trump) (λ w q. walked_annotations c o trump w q) no_walk (a ++ b), bytes_append a b, split_few r (split_off o), lines_few r false (lines_at o) (raw_lines (drop (lines_at o) r)) refl)
 
 last_annotations : (kind : ℕ) (w : Walk) → annotation_size (last_entries kind w) ≡ 0
 last_annotations kind w = by_cases (eqb kind 2) (λ e. rw e (tricks_none (LastTrickOnly w.tricks))) (λ e. rw e)
@@ -157,26 +156,30 @@ closed_holds c r s es n h =
     let m = 2 * length r in
     let P : Board → Type 0 = λ x. Within m (es ++ E) x.auction in
     let old : P b = within_more E h in
-    let sec : Section = record { first = s.n + 1; count = k; seat = o.seat; end = v.bidding.end } in
-    let l = length-append w.entries (last_entries o.kind v) in
+    let sec : Section = record { first = s.n + 1; count = k; seat = opener o; end = v.bidding.end } in
+    let l = length-append w.entries (last_entries (kind_of o) v) in
     let q = section_count c r o b.contract in
     let few : k ≤ length E = omega arith in
-    let size : annotation_size (take k E) ≤ m = omega (arith, annotation_take k E, annotation_append w.entries (last_entries o.kind v), section_annotations c r o b.contract, last_annotations o.kind v) in
+    let size : annotation_size (take k E) ≤ m = omega (arith, annotation_take k E, annotation_append w.entries (last_entries (kind_of o) v), section_annotations c r o b.contract, last_annotations (kind_of o) v) in
     let new : Within m (es ++ E) sec = inside es (take k E) (drop k E) (ap (λ (x : List Entry). es ++ x) (sym (take-append-drop k E))) (omega arith) (sym (length-take-le k E few)) size in
-    chosen (λ (x : Out State). Within m (es ++ x.entries) x.state.board.auction) (eqb o.kind 0) (record { state = s; entries = [] }) (closed_by s w) (λ e. within_more [] h)
+    chosen (λ (x : Out State). Within m (es ++ x.entries) x.state.board.auction) (eqb (kind_of o) 0) (record { state = s; entries = [] }) (closed_by s w) (λ e. within_more [] h)
     (λ e.
-    chosen P (eqb o.kind 1) (auction_closed b o s.n v) (cond (eqb o.kind 2) (play_closed b o s.n v) (table_closed b v))
+    chosen P (eqb (kind_of o) 1) (auction_closed b (opener o) s.n v) (cond (eqb (kind_of o) 2) (play_closed b (opener o) s.n v) (table_closed b v))
     (λ f. chosen P v.bidding.any (with_sections b b.table sec b.play b.trump) b (λ g. new) (λ g. old))
     (λ f.
-    chosen P (eqb o.kind 2) (play_closed b o s.n v) (table_closed b v)
+    chosen P (eqb (kind_of o) 2) (play_closed b (opener o) s.n v) (table_closed b v)
     (λ g.
     chosen P v.tricks.any
-    (with_sections b b.table b.auction (record { first = s.n + 1; count = (last_trick v.tricks).state.count; seat = o.seat; end = v.tricks.end }) b.contract) b (λ j. old) (λ j. old))
-    (λ g. chosen P v.rows.fault b (rows_closed b (gathered v.rows.cells)) (λ j. old) (λ j. rows_hold b (gathered v.rows.cells) old))))
+    (with_sections b b.table b.auction (record { first = s.n + 1; count = (last_trick v.tricks).state.count; seat = opener o; end = v.tricks.end }) b.contract) b (λ j. old) (λ j. old))
+    (λ g. rows_hold b v.rows old)))
   where
-    rows_hold : {n : ℕ} {xs : List Entry} (b : Board) (g : TableReading) → Within n xs b.auction → Within n xs (rows_closed b g).auction
-    rows_hold b (Ok cells) h = h
-    rows_hold b (Err f) h = h
+    table_holds : {n : ℕ} {xs : List Entry} (b : Board) (g : TableReading) → Within n xs b.auction → Within n xs (rows_closed b g).auction
+    table_holds b (Ok cells) h = h
+    table_holds b (Err f) h = h
+
+    rows_hold : {n : ℕ} {xs : List Entry} (b : Board) (t : Option (List ℕ)) → Within n xs b.auction → Within n xs (rows_taken b t).auction
+    rows_hold b None h = h
+    rows_hold b (Some cells) h = table_holds b (gathered cells) h
 
 together_holds : (r : List ℕ) (s : State) (o k : Out State) → Holding r s o → Holding r o.state k → Holding r s (and_then o k)
 together_holds r s o k a b =
@@ -217,7 +220,7 @@ record_holds c r =
       quiet = λ p s l i n b. same_auction r s (record { state = s; entries = [] }) (sym (add-zero s.n)) refl;
       opening = λ p s l i n k b. same_auction r s (record { state = _; entries = [] }) (sym (add-zero s.n)) refl;
       bracing = λ p s l i n k b. blocked_holds r s (p + length (lead l) + 1) (p + last_brace l);
-      commentary = λ p s l i n b. blocked_holds r s s.block (p + last_brace l);
+      commentary = λ p s l i n b. blocked_holds r s (block_of s) (p + last_brace l);
       directing = λ p s l d i n k. same_auction r s (directed s p d) refl refl;
       dating = λ p s l d i n k. same_auction r s (data_added s p d) refl refl;
       tagging = λ p s l t i k. reading_holds c r s p l (p + length l) t;

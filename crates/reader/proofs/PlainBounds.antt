@@ -19,7 +19,6 @@ use Rattle.reader.specs.declared.tag.Tag.{Tag as TagPlaces}
 use Rattle.reader.specs.declared.line.TagReading.{TagReading}
 use Rattle.reader.specs.declared.line.TagReading.TheVariants.{Plain, WithComment, WithData}
 use Rattle.reader.specs.declared.section.Open.{Open}
-use Rattle.reader.specs.declared.section.Rows.{Rows}
 use Rattle.reader.specs.declared.section.Walk.{Walk}
 use Rattle.reader.specs.declared.board.Board.{Board}
 use Rattle.reader.specs.declared.board.State.{State}
@@ -28,14 +27,14 @@ use Rattle.reader.specs.Names.{tag_number}
 use Rattle.reader.specs.Pieces.{Piece, Out, out_all}
 use Rattle.reader.specs.Play.{played_piece}
 use Rattle.reader.specs.Auction.{called_piece}
-use Rattle.reader.specs.Sections.{row_stored, rowed_piece, section_data, walked, no_walk, walked_all}
+use Rattle.reader.specs.Sections.{row_stored, rowed_piece, section_data, walked, no_walk, walked_all, kind_of, opener}
 use Rattle.reader.specs.Boards.{rows_closed, closed_by, closed, no_span, at, tagged, read_by, blocked, no_state, record_out}
 use Rattle.reader.specs.Plain.{PlainBoard, plain_by, plain_of}
 use Rattle.reader.specs.Kept.{TableKept}
 use Rattle.reader.proofs.ApplyBounds.{IdentityLow, DealSized, Bounded, no_board_bounded, applied_bounded}
 use Rattle.reader.proofs.Counts.{chosen}
 use Rattle.reader.proofs.PlainSteps.{board_cases, closed_leaves, HoldsOfRecord}
-use Rattle.std.specs.Prelude.{Some, None, Ok, Err}
+use Rattle.std.specs.Prelude.{Some, None, Ok, Err, Option, IfSome}
 
 -- ---- rows
 
@@ -80,37 +79,42 @@ set_cells [] k v h e = refl
 set_cells (x ∷ xs) zero v h e = rw (h, (both (is_cell x) (every is_cell xs) e).1)
 set_cells (x ∷ xs) (suc k) v h e = let z = both (is_cell x) (every is_cell xs) e in rw (z.0, set_cells xs k v h z.1)
 
-record RowsIn (w : Rows) : Type 0 where
-  twenty : length w.cells ≡ 20
-  cells_in : every is_cell w.cells ≡ true
+-- The cells of the rows so far, none after a bad row.
+record CellsIn (cells : List ℕ) : Type 0 where
+  twenty : length cells ≡ 20
+  cells_in : every is_cell cells ≡ true
 
-stored_in : (r : Row) (w : Rows) → SmallRow r → RowsIn w → RowsIn (row_stored r w)
-stored_in (Ok None) w s h = h
-stored_in (Ok (Some x)) w s h = record { twenty = length-set w.cells x.place x.tricks ∙ h.twenty; cells_in = set_cells w.cells x.place x.tricks s h.cells_in }
-stored_in (Err f) w s h = record { twenty = h.twenty; cells_in = h.cells_in }
+abbrev RowsIn : Option (List ℕ) → Type 0
+RowsIn w = IfSome w CellsIn
 
-rowed_in : (c : Conventions) (w : Rows) (q : Piece) → RowsIn w → RowsIn (rowed_piece c w q)
+stored_in : (r : Row) (w : Option (List ℕ)) → SmallRow r → RowsIn w → RowsIn (row_stored r w)
+stored_in (Ok given) None s h = tt
+stored_in (Ok None) (Some cells) s h = h
+stored_in (Ok (Some x)) (Some cells) s h = record { twenty = length-set cells x.place x.tricks ∙ h.twenty; cells_in = set_cells cells x.place x.tricks s h.cells_in }
+stored_in (Err f) w s h = tt
+
+rowed_in : (c : Conventions) (w : Option (List ℕ)) (q : Piece) → RowsIn w → RowsIn (rowed_piece c w q)
 unfolding rowed_piece
 rowed_in c w q h = stored_in (row_of c 0 q.bytes) w (row_small c 0 q.bytes) h
 
-walked_in : (c : Conventions) (o : Open) (trump : ℕ) (w : Walk) (q : Piece) → RowsIn w.rows → RowsIn (walked c o trump w q).state.rows
+walked_in : (c : Conventions) (o : Option Open) (trump : ℕ) (w : Walk) (q : Piece) → RowsIn w.rows → RowsIn (walked c o trump w q).state.rows
 unfolding walked
 walked_in c o trump w q h =
     let calls : Out Walk = record { state = record { bidding = (called_piece c w.bidding q).state; tricks = w.tricks; rows = w.rows }; entries = (called_piece c w.bidding q).entries } in
     let cards : Out Walk =
     record {
-      state = record { bidding = w.bidding; tricks = (played_piece c o.seat trump w.tricks q).state; rows = w.rows };
-      entries = (played_piece c o.seat trump w.tricks q).entries;
+      state = record { bidding = w.bidding; tricks = (played_piece c (opener o) trump w.tricks q).state; rows = w.rows };
+      entries = (played_piece c (opener o) trump w.tricks q).entries;
     } in
     let row : Out Walk = record { state = record { bidding = w.bidding; tricks = w.tricks; rows = rowed_piece c w.rows q }; entries = [] } in
-    chosen (λ (x : Out Walk). RowsIn x.state.rows) (eqb o.kind 1) calls (cond (eqb o.kind 2) cards row) (λ e. h)
-    (λ e. chosen (λ (x : Out Walk). RowsIn x.state.rows) (eqb o.kind 2) cards row (λ f. h) (λ f. rowed_in c w.rows q h))
+    chosen (λ (x : Out Walk). RowsIn x.state.rows) (eqb (kind_of o) 1) calls (cond (eqb (kind_of o) 2) cards row) (λ e. h)
+    (λ e. chosen (λ (x : Out Walk). RowsIn x.state.rows) (eqb (kind_of o) 2) cards row (λ f. h) (λ f. rowed_in c w.rows q h))
 
-pieces_in : (c : Conventions) (o : Open) (trump : ℕ) (w : Walk) (qs : List Piece) → RowsIn w.rows → RowsIn (out_all (walked c o trump) w qs).state.rows
+pieces_in : (c : Conventions) (o : Option Open) (trump : ℕ) (w : Walk) (qs : List Piece) → RowsIn w.rows → RowsIn (out_all (walked c o trump) w qs).state.rows
 pieces_in c o trump w [] h = h
 pieces_in c o trump w (q ∷ qs) h = pieces_in c o trump (walked c o trump w q).state qs (walked_in c o trump w q h)
 
-section_in : (c : Conventions) (r : List ℕ) (o : Open) (trump : ℕ) → RowsIn (walked_all c r o trump).state.rows
+section_in : (c : Conventions) (r : List ℕ) (o : Option Open) (trump : ℕ) → RowsIn (walked_all c r o trump).state.rows
 unfolding walked_all no_walk
 section_in c r o trump = pieces_in c o trump no_walk (section_data r o) (record { twenty = refl; cells_in = refl })
 
@@ -124,10 +128,9 @@ none_missing (x ∷ xs) e m =
 
 -- ---- a section that closes
 
-rows_kept : (b : Board) (w : Rows) → RowsIn w → TableKept b.table → TableKept (rows_closed b (gathered w.cells)).table
+rows_kept : (b : Board) (l : List ℕ) → CellsIn l → TableKept b.table → TableKept (rows_closed b (gathered l)).table
 unfolding gathered
-rows_kept b w i h =
-    let l = w.cells in
+rows_kept b l i h =
     by_cases (eqb (missing l) 0)
     (λ e. rw e (record { kind_low = omega arith; twenty = i.twenty; cells_low = none_missing l i.cells_in (eqb-true (missing l) 0 e); none_zero = λ k. absurd (omega arith) }))
     (λ e. rw e h)
@@ -136,11 +139,11 @@ closed_kept : (c : Conventions) (r : List ℕ) (s : State) → TableKept s.board
 unfolding closed
 closed_kept c r s h =
     let w = walked_all c r s.section s.board.contract in
-    chosen (λ (o : Out State). TableKept o.state.board.table) (eqb s.section.kind 0) (record { state = s; entries = [] }) (closed_by s w)
+    chosen (λ (o : Out State). TableKept o.state.board.table) (eqb (kind_of s.section) 0) (record { state = s; entries = [] }) (closed_by s w)
     (λ e. h)
     (λ e.
     board_cases (λ b. TableKept b.table) s.board s.section s.n w.state h (λ a. h) (λ a. h)
-    (rows_kept s.board w.state.rows (section_in c r s.section s.board.contract) h))
+    (λ cells e. rows_kept s.board cells (rw e at (section_in c r s.section s.board.contract)) h))
 
 closed_bounded : (c : Conventions) (r : List ℕ) (s : State) → Bounded s.board → Bounded (closed c r s).state.board
 closed_bounded c r s h =

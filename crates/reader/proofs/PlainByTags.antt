@@ -1,4 +1,6 @@
 -- What tags alone change on a board follows from the record's tags, in their order.
+use Rattle.reader.specs.Boards.{block_of}
+use Rattle.reader.specs.Sections.{kind_of}
 use Prim.Native.Nat.{ℕ, ◌+◌}
 use mathlib.Core.Path.{◌≡◌, refl, sym, ap, ◌∙◌}
 use mathlib.Core.Bool.{Bool, true, false, cond}
@@ -105,7 +107,7 @@ module _ (c : Conventions) (r : List ℕ) {A : Type 0} (R : List Entry → Board
 
   data_follows : (s : State) (p : ℕ) (d : Span) → Follows s (data_added s p d)
   data_follows s p d =
-      silent s (data_added s p d) refl (maybe_tags (eqb s.section.kind 0) (entry 5 (p + d.start) d.len s.section.kind) (λ u. omega arith)) (leaves_all s.board)
+      silent s (data_added s p d) refl (maybe_tags (eqb (kind_of s.section) 0) (entry 5 (p + d.start) d.len (kind_of s.section)) (λ u. omega arith)) (leaves_all s.board)
 
   module _ (p : ℕ) (s : State) (l : List ℕ) (i : LineAt r p l) where
     tagged_follows : (q : ℕ) (t : TagPlaces) (split : Span) → TagInside t (length l) → Follows s (tagged c s p l q t split)
@@ -149,7 +151,7 @@ module _ (c : Conventions) (r : List ℕ) {A : Type 0} (R : List Entry → Board
         quiet = λ p s l i n b. unchanged_follows s s refl (leaves_all s.board);
         opening = λ p s l i n k b. unchanged_follows s _ refl (leaves_all s.board);
         bracing = λ p s l i n k b. blocked_follows s (p + length (lead l) + 1) (p + last_brace l);
-        commentary = λ p s l i n b. blocked_follows s s.block (p + last_brace l);
+        commentary = λ p s l i n b. blocked_follows s (block_of s) (p + last_brace l);
         directing = λ p s l d i n k. directed_follows s p d;
         dating = λ p s l d i n k. data_follows s p d;
         tagging = λ p s l t i k. line_follows p s l i t k;

@@ -1,4 +1,6 @@
 -- The calls of a plain board can be written: codes are those of calls, and an annotation starts with a mark and has no white space.
+use Rattle.reader.specs.Boards.{block_of}
+use Rattle.std.specs.Prelude.{Option}
 use Prim.Native.Nat.{ℕ, zero, suc, ◌+◌, ◌-◌, ◌≤◌, ◌<◌}
 use mathlib.Core.Path.{◌≡◌, refl, sym, ap, ◌∙◌}
 use mathlib.Core.Bool.{Bool, true, false, cond, ◌||◌}
@@ -35,7 +37,7 @@ use Rattle.reader.specs.Lines.{last_brace, line_kind}
 use Rattle.reader.specs.LineSteps.{LinePlaced}
 use Rattle.reader.specs.Pieces.{Piece, Out, prepend_token, join_token, tokens_at, entry, raw_lines}
 use Rattle.reader.specs.Auction.{call_token_of, annotation, bidding, called_by, called, called_piece}
-use Rattle.reader.specs.Sections.{commentary_after, stops_at, data_piece, piece_of, data_in, split_piece, section_data, walked, no_walk, walked_all}
+use Rattle.reader.specs.Sections.{commentary_after, stops_at, data_piece, piece_of, data_in, split_piece, section_data, walked, no_walk, walked_all, kind_of, opener, lines_at, split_off}
 use Rattle.reader.specs.Boards.{last_entries, closed_by, closed, no_span, at, tagged, data_added, read_by, is_all_white, blocked, record_out}
 use Rattle.reader.specs.Plain.{Item, bytes_of, item_of, items_of, PlainCall, PlainAuction, annotations_first, items_within, calls_in, plain_by, plain_of}
 use Rattle.reader.proofs.EntryLaws.{All, none, one, all_append, all_map, Trick, out_all_lem}
@@ -274,9 +276,9 @@ split_stands r s =
     chosen (λ qs. All (Stands r) qs) (eqb s.len 0) [] (record { at = s.start; bytes = cut s r } ∷ []) (λ e. none)
     (λ e. one {x = record { at = s.start; bytes = cut s r }} (record { stands = sym (taken_len s.len (drop s.start r)) }) none)
 
-section_stands : (r : List ℕ) (o : Open) → All (Stands r) (section_data r o)
+section_stands : (r : List ℕ) (o : Option Open) → All (Stands r) (section_data r o)
 unfolding section_data
-section_stands r o = all_append (split_stands r o.split) (lines_stand r false o.at (raw_lines (drop o.at r)) refl)
+section_stands r o = all_append (split_stands r (split_off o)) (lines_stand r false (lines_at o) (raw_lines (drop (lines_at o) r)) refl)
 
 -- ---- a section that closes
 
@@ -287,14 +289,14 @@ calls_good c r b q h = out_all_lem (called c) (λ x t k. called_good c r t k x) 
 trick_good : (r : List ℕ) (e : Entry) → Trick e → CallGood r e
 trick_good r e t = other_good r e (λ u. omega (arith, t.trick, u)) (λ u. omega (arith, t.trick, u))
 
-walked_good : (c : Conventions) (r : List ℕ) (o : Open) (trump : ℕ) (w : Walk) (q : Piece) → Stands r q → All (CallGood r) (walked c o trump w q).entries
+walked_good : (c : Conventions) (r : List ℕ) (o : Option Open) (trump : ℕ) (w : Walk) (q : Piece) → Stands r q → All (CallGood r) (walked c o trump w q).entries
 unfolding walked
 walked_good c r o trump w q h =
-    by_cases (eqb o.kind 1)
+    by_cases (eqb (kind_of o) 1)
     (λ e. rw e (calls_good c r w.bidding q h))
-    (λ e. by_cases (eqb o.kind 2) (λ f. rw (e, f) (all_map (trick_good r) (TricksOnly c o.seat trump w.tricks q))) (λ f. rw (e, f) none))
+    (λ e. by_cases (eqb (kind_of o) 2) (λ f. rw (e, f) (all_map (trick_good r) (TricksOnly c (opener o) trump w.tricks q))) (λ f. rw (e, f) none))
 
-section_good : (c : Conventions) (r : List ℕ) (o : Open) (trump : ℕ) → All (CallGood r) (walked_all c r o trump).entries
+section_good : (c : Conventions) (r : List ℕ) (o : Option Open) (trump : ℕ) → All (CallGood r) (walked_all c r o trump).entries
 unfolding walked_all
 section_good c r o trump = out_all_lem (walked c o trump) (λ w q h. walked_good c r o trump w q h) no_walk (section_stands r o)
 
@@ -305,9 +307,9 @@ closed_good : (c : Conventions) (r : List ℕ) (s : State) → All (CallGood r) 
 unfolding closed
 closed_good c r s =
     let w = walked_all c r s.section s.board.contract in
-    chosen (λ (o : Out State). All (CallGood r) o.entries) (eqb s.section.kind 0) (record { state = s; entries = [] }) (closed_by s w)
+    chosen (λ (o : Out State). All (CallGood r) o.entries) (eqb (kind_of s.section) 0) (record { state = s; entries = [] }) (closed_by s w)
     (λ e. none)
-    (λ e. all_append (section_good c r s.section s.board.contract) (last_good r s.section.kind w.state))
+    (λ e. all_append (section_good c r s.section s.board.contract) (last_good r (kind_of s.section) w.state))
 
 -- ---- a record
 
@@ -323,7 +325,7 @@ unfolding blocked
 blocked_calls r s i j = maybe_one r (is_all_white r i j) 4 i (j - i) s.tags (omega arith)
 
 data_calls : (r : List ℕ) (s : State) (p : ℕ) (d : Span) → All (CallGood r) (data_added s p d).entries
-data_calls r s p d = maybe_one r (eqb s.section.kind 0) 5 (p + d.start) d.len s.section.kind (omega arith)
+data_calls r s p d = maybe_one r (eqb (kind_of s.section) 0) 5 (p + d.start) d.len (kind_of s.section) (omega arith)
 
 tagged_calls : (c : Conventions) (r : List ℕ) (s : State) (p : ℕ) (l : List ℕ) (q : ℕ) (t : TagPlaces) (split : Span) → All (CallGood r) (tagged c s p l q t split).entries
 unfolding tagged
@@ -347,7 +349,7 @@ CallsGood c r =
       quiet = λ p s l i n b. none;
       opening = λ p s l i n k b. none;
       bracing = λ p s l i n k b. blocked_calls r s (p + length (lead l) + 1) (p + last_brace l);
-      commentary = λ p s l i n b. blocked_calls r s s.block (p + last_brace l);
+      commentary = λ p s l i n b. blocked_calls r s (block_of s) (p + last_brace l);
       directing = λ p s l d i n k. one (plain_one r 3 (p + d.start) d.len s.tags (omega arith)) none;
       dating = λ p s l d i n k. data_calls r s p d;
       tagging = λ p s l t i k. reading_calls c r s p l (p + length l) t;

@@ -139,15 +139,6 @@ PlainAlike c front middle middle' back a =
 
 -- ---- what the plain board takes over from the board
 
--- As many plain boards as records.
-pub plain_count : (c : Conventions) (text : List ℕ) → length (plain_boards c text) ≡ length (records_of text)
-unfolding plain_boards
-plain_count c text = mapped (records_of text)
-  where
-    mapped : (rs : List (List ℕ)) → length (map (plain_of c) rs) ≡ length rs
-    mapped [] = refl
-    mapped (r ∷ rs) = rw (mapped rs)
-
 pub record Keeps (b : Board) (p : PlainBoard) : Type 0 where
   pub id_kept : p.id ≡ b.id
   pub deal_kept : p.deal ≡ b.deal

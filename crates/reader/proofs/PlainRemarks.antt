@@ -1,4 +1,6 @@
 -- The directives and the blocks of a plain board can be written: a directive stands on one line, and no block ends before its last line.
+use Rattle.reader.specs.Boards.{in_block, block_of}
+use Rattle.reader.specs.Sections.{kind_of}
 use Prim.Native.Nat.{ℕ, zero, suc, ◌+◌, ◌-◌, ◌≤◌, ◌<◌}
 use mathlib.Core.Path.{◌≡◌, refl, sym, ap, ◌∙◌}
 use mathlib.Core.Bool.{Bool, true, false, ◌&&◌, ◌||◌, not}
@@ -30,7 +32,7 @@ use Rattle.reader.specs.Pieces.{Out, entry}
 use Rattle.reader.specs.Boards.{no_span, at, tagged, data_added, read_by, is_all_white, with_commentary, blocked, no_state, record_out}
 use Rattle.reader.specs.Plain.{bytes_of, item_of, items_of, Remark, remarks_in, starts_line, without_returns, block_value, plain_by, plain_of, good_directive, good_block}
 use Rattle.reader.proofs.EntryLaws.{All, none, one, all_append, all_map}
-use Rattle.reader.proofs.Tags.{never, some_inj, bind_some, cond_some, trail, trim_whole, keep_is, close_at_lem, TagStands, TagTrimmed}
+use Rattle.reader.proofs.Tags.{some_inj, bind_some, cond_some, trail, trim_whole, keep_is, close_at_lem, TagStands, TagTrimmed}
 use Rattle.reader.proofs.Inside.{LineInside}
 use Rattle.reader.proofs.SectionLaws.{LineAt}
 use Rattle.reader.proofs.Counts.{chosen}
@@ -38,6 +40,7 @@ use Rattle.reader.proofs.PlainLaws.{PartPlaced}
 use Rattle.reader.proofs.PlainTags.{feed_last, line_feed, no_feed}
 use Rattle.reader.proofs.PlainSteps.{Late, closed_late, closed_keeps, HoldsOfRecord}
 use Rattle.reader.proofs.TagsBack.{among_append, among_trimmed}
+use Rattle.reader.proofs.TagsBack.{behind_is}
 
 -- ---- bytes that are not among others
 
@@ -118,10 +121,6 @@ directive_good l d h e =
     (λ x. let z : Data (trim_span l) ≡ Directive d = rw (t, u, w, x) at e in wrong cc))))
 
 -- ---- a comment behind a tag
-
-behind_is : (x : ℕ) (s : List ℕ) {r : List ℕ} → behind x s ≡ some r → s ≡ x ∷ r
-behind_is x [] e = never e
-behind_is x (b ∷ bs) e = let h = cond_some (eqb b x) e in cc (eqb-true b x h.0, h.1)
 
 comment_is : (y : List ℕ) {x : List ℕ} → comment_bytes y ≡ some (some x) → (y ≡ x) × (is_comment y ≡ true)
 comment_is [] e = wrong cc
@@ -262,8 +261,8 @@ carried e f h = rw (e, f) h
 
 -- A step: its directives and blocks can be written.
 record Remarked (r : List ℕ) (p : ℕ) (s : State) (q : ℕ) (o : Out State) : Type 0 where
-  good : Clear r p s.commentary s.block → All (RemarkGood r) o.entries
-  after : Clear r p s.commentary s.block → Clear r q o.state.commentary o.state.block
+  good : Clear r p (in_block s) (block_of s) → All (RemarkGood r) o.entries
+  after : Clear r p (in_block s) (block_of s) → Clear r q (in_block o.state) (block_of o.state)
 
 -- From a place at or before p on to the byte k of the line at p.
 extend : (r : List ℕ) (p : ℕ) (l : List ℕ) (block k : ℕ) → LineAt r p l → block ≤ p → k ≤ length l → take (p + k - block) (drop block r) ≡ take (p - block) (drop block r) ++ take k l
@@ -285,7 +284,7 @@ brace_lead l e =
     some_left (suc n) x y = omega arith
 
 module _ (c : Conventions) (r : List ℕ) (p : ℕ) (s : State) (l : List ℕ) (i : LineAt r p l) where
-  quiet_remarked : s.commentary ≡ true → has_brace l ≡ false → Remarked r p s (p + length l) (record { state = s; entries = [] })
+  quiet_remarked : in_block s ≡ true → has_brace l ≡ false → Remarked r p s (p + length l) (record { state = s; entries = [] })
   unfolding has_brace
   quiet_remarked n b =
       record {
@@ -293,11 +292,11 @@ module _ (c : Conventions) (r : List ℕ) (p : ℕ) (s : State) (l : List ℕ) (
         after = λ h.
             record {
               starts = λ t. omega (arith, h.starts t);
-              clear = λ t. rw (extend r p l s.block (length l) i (h.starts t) (omega arith)) (among_both 125 (take (p - s.block) (drop s.block r)) (take (length l) l) (h.clear t) (among_take 125 (length l) l b));
+              clear = λ t. rw (extend r p l (block_of s) (length l) i (h.starts t) (omega arith)) (among_both 125 (take (p - (block_of s)) (drop (block_of s) r)) (take (length l) l) (h.clear t) (among_take 125 (length l) l b));
             };
       }
 
-  opening_remarked : line_kind l ≡ Brace → has_brace l ≡ false → Remarked r p s (p + length l) (record { state = with_commentary s true (p + length (lead l) + 1); entries = [] })
+  opening_remarked : line_kind l ≡ Brace → has_brace l ≡ false → Remarked r p s (p + length l) (record { state = with_commentary s (Some (p + length (lead l) + 1)); entries = [] })
   unfolding has_brace
   opening_remarked k b =
       let x = length (lead l) + 1 in
@@ -333,14 +332,14 @@ module _ (c : Conventions) (r : List ℕ) (p : ℕ) (s : State) (l : List ℕ) (
       let v : y ≡ 0 = omega arith in
       rw (e, f, v))
 
-  commentary_good : s.commentary ≡ true → has_brace l ≡ true → Clear r p s.commentary s.block → good_block (take (p + last_brace l - s.block) (drop s.block r)) ≡ true
+  commentary_good : in_block s ≡ true → has_brace l ≡ true → Clear r p (in_block s) (block_of s) → good_block (take (p + last_brace l - (block_of s)) (drop (block_of s) r)) ≡ true
   unfolding has_brace
   commentary_good n b h =
       let w = brace_on l b in
-      rw (extend r p l s.block (last_brace l) i (h.starts n) (omega arith))
-      (block_append (take (p - s.block) (drop s.block r)) (take (last_brace l) l) (h.clear n) (feed_take l (last_brace l) (line_feed r p l i) w))
+      rw (extend r p l (block_of s) (last_brace l) i (h.starts n) (omega arith))
+      (block_append (take (p - (block_of s)) (drop (block_of s) r)) (take (last_brace l) l) (h.clear n) (feed_take l (last_brace l) (line_feed r p l i) w))
 
-  blocked_remarked : (a j : ℕ) → (Clear r p s.commentary s.block → good_block (take (j - a) (drop a r)) ≡ true) → Remarked r p s (p + length l) (blocked r s a j)
+  blocked_remarked : (a j : ℕ) → (Clear r p (in_block s) (block_of s) → good_block (take (j - a) (drop a r)) ≡ true) → Remarked r p s (p + length l) (blocked r s a j)
   unfolding blocked
   blocked_remarked a j g =
       record {
@@ -356,8 +355,8 @@ module _ (c : Conventions) (r : List ℕ) (p : ℕ) (s : State) (l : List ℕ) (
 
   data_good : (t : State) (d : Span) → All (RemarkGood r) (data_added t p d).entries
   data_good t d =
-      chosen (λ es. All (RemarkGood r) es) (eqb t.section.kind 0) [] (entry 5 (p + d.start) d.len t.section.kind ∷ []) (λ e. none)
-      (λ e. one {x = entry 5 (p + d.start) d.len t.section.kind} (neither_good r _ (λ u. omega arith) (λ u. omega arith)) none)
+      chosen (λ es. All (RemarkGood r) es) (eqb (kind_of t.section) 0) [] (entry 5 (p + d.start) d.len (kind_of t.section) ∷ []) (λ e. none)
+      (λ e. one {x = entry 5 (p + d.start) d.len (kind_of t.section)} (neither_good r _ (λ u. omega arith) (λ u. omega arith)) none)
 
   tagged_good : (q : ℕ) (t : TagPlaces) (split : Span) → All (RemarkGood r) (tagged c s p l q t split).entries
   unfolding tagged
@@ -372,7 +371,7 @@ module _ (c : Conventions) (r : List ℕ) (p : ℕ) (s : State) (l : List ℕ) (
       (one {x = entry 3 (p + d.start) d.len (tagged c s p l q t no_span).state.tags} (directive_at d (tagged c s p l q t no_span).state.tags j.1 (comment_good l t d (line_feed r p l i) k)) none)
   reading_good q (WithData t d) k j = all_append (tagged_good q t (at p d)) (data_good (tagged c s p l q t (at p d)).state d)
 
-  reading_closed : (q : ℕ) (t : TagReading) → (read_by c s p l q t).state.commentary ≡ false
+  reading_closed : (q : ℕ) (t : TagReading) → in_block (read_by c s p l q t).state ≡ false
   unfolding tagged
   reading_closed q (Plain t) = refl
   reading_closed q (WithComment t d) = refl
@@ -391,21 +390,21 @@ RemarksGood c r = steps.good (not_open r 0 0 refl)
         record {
           together = λ p q z s o k a b. record { good = λ h. all_append (a.good h) (b.good (a.after h)); after = λ h. b.after (a.after h) };
           closing = λ p s. record { good = λ h. late_good r (closed_late c r s); after = λ h. carried (closed_keeps c r s).commentary_kept (closed_keeps c r s).block_kept h };
-          idle = λ p s l i n. record { good = λ h. none; after = λ h. not_open r (p + length l) s.block n };
+          idle = λ p s l i n. record { good = λ h. none; after = λ h. not_open r (p + length l) (block_of s) n };
           quiet = λ p s l i n b. quiet_remarked c r p s l i n b;
           opening = λ p s l i n k b. opening_remarked c r p s l i k b;
           bracing = λ p s l i n k b. blocked_remarked c r p s l i (p + length (lead l) + 1) (p + last_brace l) (λ h. bracing_good c r p s l i b);
-          commentary = λ p s l i n b. blocked_remarked c r p s l i s.block (p + last_brace l) (λ h. commentary_good c r p s l i n b h);
+          commentary = λ p s l i n b. blocked_remarked c r p s l i (block_of s) (p + last_brace l) (λ h. commentary_good c r p s l i n b h);
           directing = λ p s l d i n k.
               record {
                 good = λ h. one {x = entry 3 (p + d.start) d.len s.tags} (directive_at c r p s l i d s.tags (inside_of l (Directive d) k) (directive_good l d (line_feed r p l i) k)) none;
-                after = λ h. not_open r (p + length l) s.block n;
+                after = λ h. not_open r (p + length l) (block_of s) n;
               };
-          dating = λ p s l d i n k. record { good = λ h. data_good c r p s l i s d; after = λ h. not_open r (p + length l) s.block n };
+          dating = λ p s l d i n k. record { good = λ h. data_good c r p s l i s d; after = λ h. not_open r (p + length l) (block_of s) n };
           tagging = λ p s l t i k.
               record {
                 good = λ h. reading_good c r p s l i (p + length l) t k (inside_of l (TagOn t) k);
-                after = λ h. not_open r (p + length l) (read_by c s p l (p + length l) t).state.block (reading_closed c r p s l i (p + length l) t);
+                after = λ h. not_open r (p + length l) (block_of (read_by c s p l (p + length l) t).state) (reading_closed c r p s l i (p + length l) t);
               };
         }
 

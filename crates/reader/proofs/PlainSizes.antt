@@ -1,8 +1,11 @@
 -- How large a plain board is: its tags, directives and blocks have at most three times the bytes of its record, and its tags, calls and
 -- tricks are at most four for each byte.
+use Rattle.reader.specs.Boards.{in_block, block_of}
+use Rattle.std.specs.Prelude.{Some}
+use Rattle.reader.specs.Sections.{kind_of}
 use Prim.Native.Nat.{ℕ, ◌+◌, ◌-◌, ◌*◌, ◌≤◌}
 use mathlib.Core.Path.{◌≡◌, refl, sym, ap, ◌∙◌}
-use mathlib.Core.Bool.{Bool, true, false, cond, ◌&&◌, not}
+use mathlib.Core.Bool.{Bool, true, false, cond, ◌&&◌}
 use mathlib.Core.List.{List, [], ◌∷◌, ◌++◌, map}
 use mathlib.Core.Option.{some}
 use native.Mathlib.Omega.{arith}
@@ -11,7 +14,6 @@ use lib.ListN.{length, length-append, length-map, length-take, length-drop}
 use borrow.Author.Tests.{eqb-true, ne_eqb, eq-eqb, lt-leb, le-leb}
 use Rattle.tables.specs.declared.letters.Conventions.{Conventions}
 use Rattle.tables.specs.Text.{lead}
-use Rattle.tables.specs.Letters.{among}
 use Rattle.tables.proofs.Laws.{by_cases}
 use Rattle.reader.specs.declared.store.Entry.{Entry}
 use Rattle.reader.specs.declared.tag.Span.{Span}
@@ -29,13 +31,14 @@ use Rattle.reader.specs.TagSteps.{TagInside}
 use Rattle.reader.specs.Pieces.{Out, entry}
 use Rattle.reader.specs.Boards.{closed, no_span, at, tagged, directed, data_added, read_by, with_commentary, blocked, is_all_white, no_state, record_out}
 use Rattle.reader.specs.Plain.{Item, item_of, items_of, bytes_of, TagPair, Remark, tags_in, remarks_in, starts_line, without_returns, block_value, calls_in, tricks_in, items_within, PlainAuction, PlainPlay, PlainBoard, plain_auction, plain_play, plain_by, plain_of}
-use Rattle.reader.proofs.EntryLaws.{All, none, one}
+use Rattle.reader.proofs.EntryLaws.{sum_of, sum_append, All, none, one}
 use Rattle.reader.proofs.Tags.{trim_whole}
 use Rattle.reader.proofs.Inside.{LineInside}
 use Rattle.reader.proofs.Counts.{chosen, cut_len, EntriesFew}
 use Rattle.reader.proofs.PlainSteps.{Late, closed_late, closed_keeps, HoldsOfRecord}
 use Rattle.reader.proofs.PlainTags.{Paired, over, tag, other, TagsPaired}
 use Rattle.reader.proofs.PlainLaws.{force_is}
+use Rattle.reader.proofs.LineLaws.{brace_inside}
 
 -- ---- bytes
 
@@ -44,12 +47,10 @@ abbrev pub size_one : Entry → ℕ
 size_one e = cond (leb e.kind 4) e.y 0
 
 abbrev pub size_in : List Entry → ℕ
-size_in [] = 0
-size_in (e ∷ es) = size_one e + size_in es
+size_in es = sum_of size_one es
 
 size_append : (es fs : List Entry) → size_in (es ++ fs) ≡ size_in es + size_in fs
-size_append [] fs = omega arith
-size_append (e ∷ es) fs = omega (arith, size_append es fs)
+size_append = sum_append size_one
 
 size_late : {es : List Entry} → All Late es → size_in es ≡ 0
 size_late none = refl
@@ -57,7 +58,7 @@ size_late (one {x = e} l a) = rw (lt-leb e.kind 4 (omega (arith, l.late))) (omeg
 
 -- What was read up to the place p: all, or all up to an open block.
 abbrev done : State → ℕ → ℕ
-done s p = cond s.commentary (s.block - 1) p
+done s p = cond (in_block s) (block_of s - 1) p
 
 -- A step from s at p to o at q: an open block starts at the next byte at the latest; three times the bytes read are enough.
 record Sized (p : ℕ) (s : State) (q : ℕ) (o : Out State) : Type 0 where
@@ -67,39 +68,35 @@ record Sized (p : ℕ) (s : State) (q : ℕ) (o : Out State) : Type 0 where
 lead_inside : (l : List ℕ) → length (lead l) ≤ length l
 lead_inside l = omega (arith, simp length-append at (ap length (trim_whole l)))
 
-brace_inside : (l : List ℕ) → last_brace l ≤ length l
-brace_inside [] = omega arith
-brace_inside (b ∷ bs) = by_cases (eqb b 125 && not (among 125 bs)) (λ e. rw e (omega arith)) (λ e. rw e (omega (arith, brace_inside bs)))
-
 closed_sized : (c : Conventions) (r : List ℕ) (p : ℕ) (s : State) → Sized p s p (closed c r s)
 closed_sized c r p s =
     let k = closed_keeps c r s in
-    let e : done (closed c r s).state p ≡ done s p = ap (λ (b : Bool). cond b ((closed c r s).state.block - 1) p) k.commentary_kept ∙ ap (λ (x : ℕ). cond s.commentary (x - 1) p) k.block_kept in
+    let e : done (closed c r s).state p ≡ done s p = ap (λ (b : Bool). cond b (block_of (closed c r s).state - 1) p) k.commentary_kept ∙ ap (λ (x : ℕ). cond (in_block s) (x - 1) p) k.block_kept in
     record { fits = λ h. omega (arith, e, size_late (closed_late c r s)); next = λ h. omega (arith, e) }
 
 idle_sized : (p n : ℕ) (s : State) → Sized p s (p + n) (record { state = s; entries = [] })
 idle_sized p n s =
-    by_cases s.commentary
-    (λ e. let a = on (s.block - 1) p e in let b = on (s.block - 1) (p + n) e in record { fits = λ h. omega arith; next = λ h. omega arith })
-    (λ e. let a = off (s.block - 1) p e in let b = off (s.block - 1) (p + n) e in record { fits = λ h. omega arith; next = λ h. omega arith })
+    by_cases (in_block s)
+    (λ e. let a = on (block_of s - 1) p e in let b = on (block_of s - 1) (p + n) e in record { fits = λ h. omega arith; next = λ h. omega arith })
+    (λ e. let a = off (block_of s - 1) p e in let b = off (block_of s - 1) (p + n) e in record { fits = λ h. omega arith; next = λ h. omega arith })
   where
-    on : (x y : ℕ) → s.commentary ≡ true → cond s.commentary x y ≡ x
+    on : (x y : ℕ) → in_block s ≡ true → cond (in_block s) x y ≡ x
     on x y e = ap (λ (b : Bool). cond b x y) e
 
-    off : (x y : ℕ) → s.commentary ≡ false → cond s.commentary x y ≡ y
+    off : (x y : ℕ) → in_block s ≡ false → cond (in_block s) x y ≡ y
     off x y e = ap (λ (b : Bool). cond b x y) e
 
 -- Entries of at most three times n bytes on a line of n bytes, after which no block is open.
-flat_sized : (p n : ℕ) (s : State) (o : Out State) → o.state.commentary ≡ false → size_in o.entries ≤ 3 * n → Sized p s (p + n) o
+flat_sized : (p n : ℕ) (s : State) (o : Out State) → in_block o.state ≡ false → size_in o.entries ≤ 3 * n → Sized p s (p + n) o
 flat_sized p n s o e h =
-    let a : done o.state (p + n) ≡ p + n = ap (λ (b : Bool). cond b (o.state.block - 1) (p + n)) e in
+    let a : done o.state (p + n) ≡ p + n = ap (λ (b : Bool). cond b (block_of o.state - 1) (p + n)) e in
     record { fits = λ i. omega arith; next = λ i. omega arith }
 
 size_maybe : (b : Bool) (e : Entry) (n : ℕ) → e.y ≤ n → size_in (cond b [] (e ∷ [])) ≤ n
 size_maybe true e n h = omega arith
 size_maybe false e n h = chosen (λ x. x + 0 ≤ n) (leb e.kind 4) e.y 0 (λ t. omega arith) (λ t. omega arith)
 
-blocked_commentary : (r : List ℕ) (s : State) (i j : ℕ) → (blocked r s i j).state.commentary ≡ false
+pub blocked_commentary : (r : List ℕ) (s : State) (i j : ℕ) → in_block (blocked r s i j).state ≡ false
 unfolding blocked
 blocked_commentary r s i j = refl
 
@@ -113,25 +110,25 @@ bracing_sized r p s l =
     let j = p + last_brace l in
     flat_sized p (length l) s (blocked r s i j) (blocked_commentary r s i j) (omega (arith, blocked_size r s i j, brace_inside l))
 
-commentary_sized : (r : List ℕ) (p : ℕ) (s : State) (l : List ℕ) → s.commentary ≡ true → Sized p s (p + length l) (blocked r s s.block (p + last_brace l))
+commentary_sized : (r : List ℕ) (p : ℕ) (s : State) (l : List ℕ) → in_block s ≡ true → Sized p s (p + length l) (blocked r s (block_of s) (p + last_brace l))
 commentary_sized r p s l e =
     let j = p + last_brace l in
-    let o = blocked r s s.block j in
-    let a : done o.state (p + length l) ≡ p + length l = ap (λ (b : Bool). cond b (o.state.block - 1) (p + length l)) (blocked_commentary r s s.block j) in
-    let b : done s p ≡ s.block - 1 = ap (λ (b : Bool). cond b (s.block - 1) p) e in
-    record { fits = λ i. omega (arith, blocked_size r s s.block j, brace_inside l); next = λ i. omega arith }
+    let o = blocked r s (block_of s) j in
+    let a : done o.state (p + length l) ≡ p + length l = ap (λ (b : Bool). cond b (block_of o.state - 1) (p + length l)) (blocked_commentary r s (block_of s) j) in
+    let b : done s p ≡ block_of s - 1 = ap (λ (b : Bool). cond b (block_of s - 1) p) e in
+    record { fits = λ i. omega (arith, blocked_size r s (block_of s) j, brace_inside l); next = λ i. omega arith }
 
-opening_sized : (p : ℕ) (s : State) (l : List ℕ) → Sized p s (p + length l) (record { state = with_commentary s true (p + length (lead l) + 1); entries = [] })
+opening_sized : (p : ℕ) (s : State) (l : List ℕ) → Sized p s (p + length l) (record { state = with_commentary s (Some (p + length (lead l) + 1)); entries = [] })
 opening_sized p s l = record { fits = λ i. omega arith; next = λ i. omega (arith, lead_inside l) }
 
 data_size_lem : (s : State) (p : ℕ) (d : Span) → size_in (data_added s p d).entries ≡ 0
-data_size_lem s p d = chosen (λ es. size_in es ≡ 0) (eqb s.section.kind 0) [] (entry 5 (p + d.start) d.len s.section.kind ∷ []) (λ e. refl) (λ e. refl)
+data_size_lem s p d = chosen (λ es. size_in es ≡ 0) (eqb (kind_of s.section) 0) [] (entry 5 (p + d.start) d.len (kind_of s.section) ∷ []) (λ e. refl) (λ e. refl)
 
 tagged_size : (c : Conventions) (s : State) (p : ℕ) (l : List ℕ) (q n : ℕ) (t : TagPlaces) (split : Span) → TagInside t n → size_in (tagged c s p l q t split).entries ≤ 2 * n
 unfolding tagged
 tagged_size c s p l q n t split i = omega (arith, i.name_inside, i.value_inside)
 
-tagged_commentary : (c : Conventions) (s : State) (p : ℕ) (l : List ℕ) (q : ℕ) (t : TagPlaces) (split : Span) → (tagged c s p l q t split).state.commentary ≡ false
+pub tagged_commentary : (c : Conventions) (s : State) (p : ℕ) (l : List ℕ) (q : ℕ) (t : TagPlaces) (split : Span) → in_block (tagged c s p l q t split).state ≡ false
 unfolding tagged
 tagged_commentary c s p l q t split = refl
 
@@ -187,11 +184,11 @@ remarks_size (k ∷ ks) = length k.bytes + remarks_size ks
 pub bytes_few : (r : List ℕ) (e : Entry) → length (bytes_of r e) ≤ e.y
 bytes_few r e = chosen (λ (l : List ℕ). length l ≤ e.y) (eqb e.kind 8) [] (cut (record { start = e.x; len = e.y }) r) (λ t. omega arith) (λ t. cut_len (record { start = e.x; len = e.y }) r)
 
-returns_few : (b : List ℕ) → length (without_returns b) ≤ length b
+pub returns_few : (b : List ℕ) → length (without_returns b) ≤ length b
 returns_few [] = omega arith
 returns_few (b ∷ bs) = by_cases (eqb b 13 && starts_line bs) (λ e. rw e (omega (arith, returns_few bs))) (λ e. rw e (omega (arith, returns_few bs)))
 
-blocks_few : (ks : List Remark) → remarks_size (map block_value ks) ≤ remarks_size ks
+pub blocks_few : (ks : List Remark) → remarks_size (map block_value ks) ≤ remarks_size ks
 blocks_few [] = omega arith
 blocks_few (k ∷ ks) = omega (arith, returns_few k.bytes, blocks_few ks)
 

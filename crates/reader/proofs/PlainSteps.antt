@@ -1,4 +1,6 @@
 -- What a section that closes adds; and: what holds of every line of a record, and of two steps together, holds of the record.
+use Rattle.reader.specs.Boards.{in_block, block_of}
+use Rattle.std.specs.Prelude.{Some}
 use Prim.Native.Nat.{ℕ, ◌+◌, ◌≤◌}
 use mathlib.Core.Path.{◌≡◌, refl, sym, ◌∙◌}
 use mathlib.Core.Bool.{Bool, true, false, cond}
@@ -25,14 +27,14 @@ use Rattle.reader.specs.declared.board.State.{State}
 use Rattle.reader.specs.Play.{last_trick}
 use Rattle.reader.specs.Lines.{has_brace, last_brace, line_kind}
 use Rattle.reader.specs.Pieces.{Piece, Out, and_then, join_line, raw_lines}
-use Rattle.reader.specs.Sections.{section_data, walked, no_walk, walked_all}
-use Rattle.reader.specs.Boards.{with_sections, rows_closed, board_closed, last_entries, closed_by, closed, directed, data_added, read_by, tag_line_out, with_commentary, blocked, braced, in_commentary, line_by, line_out, lines_out, no_state, record_out}
+use Rattle.reader.specs.Sections.{section_data, walked, no_walk, walked_all, kind_of, opener}
+use Rattle.reader.specs.Boards.{with_sections, rows_closed, rows_taken, board_closed, last_entries, closed_by, closed, directed, data_added, read_by, tag_line_out, with_commentary, blocked, braced, in_commentary, line_by, line_out, lines_out, no_state, record_out}
 use Rattle.reader.proofs.EntryLaws.{All, none, all_append, all_map, Inside, Trick, out_all_lem}
 use Rattle.reader.proofs.AuctionLaws.{CallsInside}
 use Rattle.reader.proofs.PlayLaws.{TricksOnly, LastTrickOnly}
 use Rattle.reader.proofs.SectionLaws.{LineAt, line_at_lem}
 use Rattle.reader.proofs.Counts.{any, chosen, next_line_lem}
-use Rattle.std.specs.Prelude.{Ok, Err}
+use Rattle.std.specs.Prelude.{Ok, Err, Option, Some, None}
 
 -- ---- a section that closes adds calls, annotations and tricks alone
 
@@ -48,17 +50,17 @@ call_late lo hi e i =
 trick_late : (e : Entry) → Trick e → Late e
 trick_late e t = record { late = omega (arith, t.trick) }
 
-walked_late : (c : Conventions) (o : Open) (trump : ℕ) (w : Walk) (q : Piece) → All Late (walked c o trump w q).entries
+walked_late : (c : Conventions) (o : Option Open) (trump : ℕ) (w : Walk) (q : Piece) → All Late (walked c o trump w q).entries
 unfolding walked
 walked_late c o trump w q =
-    by_cases (eqb o.kind 1)
+    by_cases (eqb (kind_of o) 1)
     (λ e. rw e (all_map (λ x i. call_late q.at (q.at + length q.bytes) x i) (CallsInside c w.bidding q)))
     (λ e.
-    by_cases (eqb o.kind 2)
-    (λ f. rw (e, f) (all_map trick_late (TricksOnly c o.seat trump w.tricks q)))
+    by_cases (eqb (kind_of o) 2)
+    (λ f. rw (e, f) (all_map trick_late (TricksOnly c (opener o) trump w.tricks q)))
     (λ f. rw (e, f) none))
 
-section_late : (c : Conventions) (r : List ℕ) (o : Open) (trump : ℕ) → All Late (walked_all c r o trump).entries
+section_late : (c : Conventions) (r : List ℕ) (o : Option Open) (trump : ℕ) → All Late (walked_all c r o trump).entries
 unfolding walked_all
 section_late c r o trump = out_all_lem (walked c o trump) (λ w q u. walked_late c o trump w q) no_walk (any (section_data r o))
 
@@ -69,20 +71,20 @@ pub closed_late : (c : Conventions) (r : List ℕ) (s : State) → All Late (clo
 unfolding closed
 closed_late c r s =
     let w = walked_all c r s.section s.board.contract in
-    chosen (λ (o : Out State). All Late o.entries) (eqb s.section.kind 0) (record { state = s; entries = [] }) (closed_by s w)
+    chosen (λ (o : Out State). All Late o.entries) (eqb (kind_of s.section) 0) (record { state = s; entries = [] }) (closed_by s w)
     (λ e. none)
-    (λ e. all_append (section_late c r s.section s.board.contract) (last_late s.section.kind w.state))
+    (λ e. all_append (section_late c r s.section s.board.contract) (last_late (kind_of s.section) w.state))
 
 -- It leaves the tags and the commentary as they are.
 pub record Keeping (s t : State) : Type 0 where
   pub tags_kept : t.tags ≡ s.tags
-  pub commentary_kept : t.commentary ≡ s.commentary
-  pub block_kept : t.block ≡ s.block
+  pub commentary_kept : in_block t ≡ in_block s
+  pub block_kept : block_of t ≡ block_of s
 
 pub closed_keeps : (c : Conventions) (r : List ℕ) (s : State) → Keeping s (closed c r s).state
 unfolding closed
 closed_keeps c r s =
-    chosen (λ (o : Out State). Keeping s o.state) (eqb s.section.kind 0) (record { state = s; entries = [] }) (closed_by s (walked_all c r s.section s.board.contract))
+    chosen (λ (o : Out State). Keeping s o.state) (eqb (kind_of s.section) 0) (record { state = s; entries = [] }) (closed_by s (walked_all c r s.section s.board.contract))
     (λ e. record { tags_kept = refl; commentary_kept = refl; block_kept = refl })
     (λ e. record { tags_kept = refl; commentary_kept = refl; block_kept = refl })
 
@@ -104,43 +106,43 @@ rows_leave b (Ok cells) = sections_leave b (record { kind = 2; cells = cells }) 
 rows_leave b (Err f) = leaves_all b
 
 -- What a closed section makes of a board: nothing, an auction, a play, or what its rows give.
-pub board_cases : (P : Board → Type 0) (b : Board) (o : Open) (n : ℕ) (w : Walk) → P b
+pub board_cases : (P : Board → Type 0) (b : Board) (o : Option Open) (n : ℕ) (w : Walk) → P b
     → ((a : Section) → P (with_sections b b.table a b.play b.trump))
     → ((a : Section) → P (with_sections b b.table b.auction a b.contract))
-    → P (rows_closed b (gathered w.rows.cells))
+    → ((cells : List ℕ) → w.rows ≡ Some cells → P (rows_closed b (gathered cells)))
     → P (board_closed b o n w)
-board_cases P b o n w same auction play rows = go (eqb o.kind 1) (eqb o.kind 2) w.bidding.any w.tricks.any w.rows.fault
+board_cases P b o n w same auction play rows = go (eqb (kind_of o) 1) (eqb (kind_of o) 2) w.bidding.any w.tricks.any w.rows refl
   where
     called : Section
-    called = record { first = n + 1; count = w.bidding.count; seat = o.seat; end = w.bidding.end }
+    called = record { first = n + 1; count = w.bidding.count; seat = opener o; end = w.bidding.end }
 
     played : Section
-    played = record { first = n + 1; count = (last_trick w.tricks).state.count; seat = o.seat; end = w.tricks.end }
+    played = record { first = n + 1; count = (last_trick w.tricks).state.count; seat = opener o; end = w.tricks.end }
 
-    go : (x y calls cards fault : Bool)
+    go : (x y calls cards : Bool) (t : Option (List ℕ)) → w.rows ≡ t
         → P
         (cond x (cond calls (with_sections b b.table called b.play b.trump) b)
         (cond y (cond cards (with_sections b b.table b.auction played b.contract) b)
-        (cond fault b (rows_closed b (gathered w.rows.cells)))))
-    go true y true cards fault = auction called
-    go true y false cards fault = same
-    go false true calls true fault = play played
-    go false true calls false fault = same
-    go false false calls cards true = same
-    go false false calls cards false = rows
+        (rows_taken b t)))
+    go true y true cards t e = auction called
+    go true y false cards t e = same
+    go false true calls true t e = play played
+    go false true calls false t e = same
+    go false false calls cards None e = same
+    go false false calls cards (Some cells) e = rows cells e
 
 pub closed_leaves : (c : Conventions) (r : List ℕ) (s : State) → Leaves s.board (closed c r s).state.board
 unfolding closed
 closed_leaves c r s =
     let w = walked_all c r s.section s.board.contract in
-    chosen (λ (o : Out State). Leaves s.board o.state.board) (eqb s.section.kind 0) (record { state = s; entries = [] }) (closed_by s w)
+    chosen (λ (o : Out State). Leaves s.board o.state.board) (eqb (kind_of s.section) 0) (record { state = s; entries = [] }) (closed_by s w)
     (λ e. leaves_all s.board)
     (λ e.
     let b = s.board in
     board_cases (Leaves b) b s.section s.n w.state (leaves_all b)
     (λ a. sections_leave b b.table a b.play b.trump)
     (λ a. sections_leave b b.table b.auction a b.contract)
-    (rows_leave b (gathered w.state.rows.cells)))
+    (λ cells e. rows_leave b (gathered cells)))
 
 -- ---- steps
 
@@ -149,27 +151,27 @@ closed_leaves c r s =
 pub record Steps (c : Conventions) (r : List ℕ) (P : ℕ → State → ℕ → Out State → Type 0) : Type 0 where
   pub together : (p q z : ℕ) (s : State) (o k : Out State) → P p s q o → P q o.state z k → P p s z (and_then o k)
   pub closing : (p : ℕ) (s : State) → P p s p (closed c r s)
-  pub idle : (p : ℕ) (s : State) (l : List ℕ) → LineAt r p l → s.commentary ≡ false → P p s (p + length l) (record { state = s; entries = [] })
-  pub quiet : (p : ℕ) (s : State) (l : List ℕ) → LineAt r p l → s.commentary ≡ true → has_brace l ≡ false → P p s (p + length l) (record { state = s; entries = [] })
-  pub opening : (p : ℕ) (s : State) (l : List ℕ) → LineAt r p l → s.commentary ≡ false → line_kind l ≡ Brace → has_brace l ≡ false → P p s (p + length l) (record { state = with_commentary s true (p + length (lead l) + 1); entries = [] })
-  pub bracing : (p : ℕ) (s : State) (l : List ℕ) → LineAt r p l → s.commentary ≡ false → line_kind l ≡ Brace → has_brace l ≡ true → P p s (p + length l) (blocked r s (p + length (lead l) + 1) (p + last_brace l))
-  pub commentary : (p : ℕ) (s : State) (l : List ℕ) → LineAt r p l → s.commentary ≡ true → has_brace l ≡ true → P p s (p + length l) (blocked r s s.block (p + last_brace l))
-  pub directing : (p : ℕ) (s : State) (l : List ℕ) (d : Span) → LineAt r p l → s.commentary ≡ false → line_kind l ≡ Directive d → P p s (p + length l) (directed s p d)
-  pub dating : (p : ℕ) (s : State) (l : List ℕ) (d : Span) → LineAt r p l → s.commentary ≡ false → line_kind l ≡ Data d → P p s (p + length l) (data_added s p d)
+  pub idle : (p : ℕ) (s : State) (l : List ℕ) → LineAt r p l → in_block s ≡ false → P p s (p + length l) (record { state = s; entries = [] })
+  pub quiet : (p : ℕ) (s : State) (l : List ℕ) → LineAt r p l → in_block s ≡ true → has_brace l ≡ false → P p s (p + length l) (record { state = s; entries = [] })
+  pub opening : (p : ℕ) (s : State) (l : List ℕ) → LineAt r p l → in_block s ≡ false → line_kind l ≡ Brace → has_brace l ≡ false → P p s (p + length l) (record { state = with_commentary s (Some (p + length (lead l) + 1)); entries = [] })
+  pub bracing : (p : ℕ) (s : State) (l : List ℕ) → LineAt r p l → in_block s ≡ false → line_kind l ≡ Brace → has_brace l ≡ true → P p s (p + length l) (blocked r s (p + length (lead l) + 1) (p + last_brace l))
+  pub commentary : (p : ℕ) (s : State) (l : List ℕ) → LineAt r p l → in_block s ≡ true → has_brace l ≡ true → P p s (p + length l) (blocked r s (block_of s) (p + last_brace l))
+  pub directing : (p : ℕ) (s : State) (l : List ℕ) (d : Span) → LineAt r p l → in_block s ≡ false → line_kind l ≡ Directive d → P p s (p + length l) (directed s p d)
+  pub dating : (p : ℕ) (s : State) (l : List ℕ) (d : Span) → LineAt r p l → in_block s ≡ false → line_kind l ≡ Data d → P p s (p + length l) (data_added s p d)
   pub tagging : (p : ℕ) (s : State) (l : List ℕ) (t : TagReading) → LineAt r p l → line_kind l ≡ TagOn t → P p s (p + length l) (read_by c s p l (p + length l) t)
 
 module _ (c : Conventions) (r : List ℕ) (P : ℕ → State → ℕ → Out State → Type 0) (h : Steps c r P) where
-  commentary_step : (p : ℕ) (s : State) (l : List ℕ) → LineAt r p l → s.commentary ≡ true → P p s (p + length l) (in_commentary r s p l)
+  commentary_step : (p : ℕ) (s : State) (l : List ℕ) → LineAt r p l → in_block s ≡ true → P p s (p + length l) (in_commentary r s p l)
   unfolding in_commentary
   commentary_step p s l i n =
-      chosen (λ o. P p s (p + length l) o) (has_brace l) (blocked r s s.block (p + last_brace l)) (record { state = s; entries = [] })
+      chosen (λ o. P p s (p + length l) o) (has_brace l) (blocked r s (block_of s) (p + last_brace l)) (record { state = s; entries = [] })
       (λ e. h.commentary p s l i n e)
       (λ e. h.quiet p s l i n e)
 
-  brace_step : (p : ℕ) (s : State) (l : List ℕ) → LineAt r p l → s.commentary ≡ false → line_kind l ≡ Brace → P p s (p + length l) (braced r s p l)
+  brace_step : (p : ℕ) (s : State) (l : List ℕ) → LineAt r p l → in_block s ≡ false → line_kind l ≡ Brace → P p s (p + length l) (braced r s p l)
   unfolding braced
   brace_step p s l i n k =
-      chosen (λ o. P p s (p + length l) o) (has_brace l) (blocked r s (p + length (lead l) + 1) (p + last_brace l)) (record { state = with_commentary s true (p + length (lead l) + 1); entries = [] })
+      chosen (λ o. P p s (p + length l) o) (has_brace l) (blocked r s (p + length (lead l) + 1) (p + last_brace l)) (record { state = with_commentary s (Some (p + length (lead l) + 1)); entries = [] })
       (λ e. h.bracing p s l i n k e)
       (λ e. h.opening p s l i n k e)
 
@@ -178,7 +180,7 @@ module _ (c : Conventions) (r : List ℕ) (P : ℕ → State → ℕ → Out Sta
   tag_step p s l t i k =
       h.together p p (p + length l) s (closed c r s) (read_by c (closed c r s).state p l (p + length l) t) (h.closing p s) (h.tagging p (closed c r s).state l t i k)
 
-  kind_step : (p : ℕ) (s : State) (l : List ℕ) (m : Line) → LineAt r p l → s.commentary ≡ false → line_kind l ≡ m → P p s (p + length l) (line_by c r s p l m)
+  kind_step : (p : ℕ) (s : State) (l : List ℕ) (m : Line) → LineAt r p l → in_block s ≡ false → line_kind l ≡ m → P p s (p + length l) (line_by c r s p l m)
   kind_step p s l Blank i n k = h.idle p s l i n
   kind_step p s l Brace i n k = brace_step p s l i n k
   kind_step p s l (Directive d) i n k = h.directing p s l d i n k
@@ -189,7 +191,7 @@ module _ (c : Conventions) (r : List ℕ) (P : ℕ → State → ℕ → Out Sta
   line_step : (p : ℕ) (s : State) (l : List ℕ) → LineAt r p l → P p s (p + length l) (line_out c r s p l)
   unfolding line_out
   line_step p s l i =
-      chosen (λ o. P p s (p + length l) o) s.commentary (in_commentary r s p l) (line_by c r s p l (line_kind l))
+      chosen (λ o. P p s (p + length l) o) (in_block s) (in_commentary r s p l) (line_by c r s p l (line_kind l))
       (λ e. commentary_step p s l i e)
       (λ e. kind_step p s l (line_kind l) i e refl)
 

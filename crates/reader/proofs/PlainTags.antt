@@ -1,5 +1,7 @@
 -- The tags of a plain board: each value is the entry behind its name, and every name and value can be written.
-use Prim.Native.Nat.{ℕ, suc, ◌+◌, ◌-◌}
+use Rattle.reader.specs.Boards.{block_of}
+use Rattle.reader.specs.Sections.{kind_of}
+use Prim.Native.Nat.{ℕ, ◌+◌, ◌-◌}
 use mathlib.Core.Path.{◌≡◌, refl, sym, ap, ◌∙◌}
 use mathlib.Core.Bool.{Bool, true, false, cond, ◌&&◌, ◌||◌, not}
 use mathlib.Core.List.{List, [], ◌∷◌, ◌++◌}
@@ -34,6 +36,7 @@ use Rattle.reader.proofs.Inside.{LineInside}
 use Rattle.reader.proofs.SectionLaws.{LineAt}
 use Rattle.reader.proofs.PlainLaws.{PartPlaced}
 use Rattle.reader.proofs.PlainSteps.{Late, closed_late, HoldsOfRecord}
+use Rattle.reader.proofs.TagsBack.{kind_bracket}
 
 -- ---- a line has no LF but at its end
 
@@ -124,10 +127,6 @@ tag_starts : {P : Type 0} (l : List ℕ) (t : TagReading) → line_kind l ≡ Ta
 unfolding line_kind
 tag_starts l t e go = by_cases (is_blank l) (λ b. no_blank (rw b at e)) (λ b. starts_by l t (trim_start l) refl (rw b at e) go)
 
-bracket_kind : (l s : List ℕ) → trim_start l ≡ 91 ∷ s → line_kind l ≡ bracket_line l
-unfolding line_kind is_blank
-bracket_kind l s e = rw (trimmed_is l s e, ne_eqb (suc (length (trim_end s))) 0 (λ k. omega arith), e)
-
 same_good : {n v : List ℕ} (n' v' : List ℕ) → n ≡ n' → v ≡ v' → Good n' v' → Good n v
 same_good n' v' a b g = rw (a, b) g
 
@@ -173,10 +172,10 @@ LineGood l t h e =
     let m = trimmed l in
     let w : trim_start (trimmed l) ≡ 91 ∷ trim_end s = ap trim_start (trimmed_is l s q) in
     tag_line_good l m (no_feed l h) t (tag_line l) (tag_line m)
-    (sym (bracket_kind l s q) ∙ e)
+    (sym (kind_bracket l s q) ∙ e)
     (TagStands l ∙ sym (TagTrimmed l) ∙ sym (TagStands m))
     (SplitStands l ∙ sym (SplitTrimmed l) ∙ sym (SplitStands m))
-    (bracket_kind m (trim_end s) w)
+    (kind_bracket m (trim_end s) w)
 
 -- ---- each name is followed by its value
 
@@ -200,7 +199,7 @@ paired_maybe true e x y = over
 paired_maybe false e x y = other x y over
 
 data_paired : {Q : Entry → Entry → Type 0} (s : State) (p : ℕ) (d : Span) → Paired Q (data_added s p d).entries
-data_paired s p d = paired_maybe (eqb s.section.kind 0) (entry 5 (p + d.start) d.len s.section.kind) (λ u. omega arith) (λ u. omega arith)
+data_paired s p d = paired_maybe (eqb (kind_of s.section) 0) (entry 5 (p + d.start) d.len (kind_of s.section)) (λ u. omega arith) (λ u. omega arith)
 
 blocked_paired : {Q : Entry → Entry → Type 0} (r : List ℕ) (s : State) (i j : ℕ) → Paired Q (blocked r s i j).entries
 unfolding blocked
@@ -239,7 +238,7 @@ TagsPaired c r =
       quiet = λ p s l i n k. over;
       opening = λ p s l i n k b. over;
       bracing = λ p s l i n k b. blocked_paired r s (p + length (lead l) + 1) (p + last_brace l);
-      commentary = λ p s l i n k. blocked_paired r s s.block (p + last_brace l);
+      commentary = λ p s l i n k. blocked_paired r s (block_of s) (p + last_brace l);
       directing = λ p s l d i n k. other (λ u. omega arith) (λ u. omega arith) over;
       dating = λ p s l d i n k. data_paired s p d;
       tagging = λ p s l t i k. line_paired c r p s l i t k;

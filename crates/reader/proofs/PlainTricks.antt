@@ -1,4 +1,6 @@
 -- The tricks of a plain board: a trick's slots are those that were played, and each is empty or a card.
+use Rattle.reader.specs.Boards.{block_of}
+use Rattle.std.specs.Prelude.{Option}
 use Prim.Native.Nat.{ℕ, ◌+◌, ◌-◌, ◌*◌, ◌/◌, ◌%◌, ◌≤◌}
 use mathlib.Core.Path.{◌≡◌, refl, sym}
 use mathlib.Core.Bool.{Bool, true, false, cond, ◌||◌}
@@ -26,7 +28,7 @@ use Rattle.reader.specs.Lines.{last_brace}
 use Rattle.reader.specs.Pieces.{Piece, Out, out_all, entry, tokens_of}
 use Rattle.reader.specs.Auction.{called_piece}
 use Rattle.reader.specs.Play.{no_slots, with_slot, trick_entry, new_trick, next_leader, opened, taking, slot_of, with_card, is_gap, played, played_bytes, played_token, played_piece, one_more, last_trick}
-use Rattle.reader.specs.Sections.{section_data, walked, no_walk, walked_all, rowed_piece}
+use Rattle.reader.specs.Sections.{section_data, walked, no_walk, walked_all, rowed_piece, kind_of, opener}
 use Rattle.reader.specs.Boards.{last_entries, closed_by, closed, no_span, at, tagged, data_added, read_by, is_all_white, blocked, record_out}
 use Rattle.reader.specs.Plain.{item_of, items_of, PlainTrick, PlainPlay, slots_of, tricks_in, plain_by, plain_of}
 use Rattle.reader.proofs.EntryLaws.{All, none, one, all_append, all_map, Inside}
@@ -158,29 +160,29 @@ call_good : (lo hi : ℕ) (e : Entry) → Inside lo hi e → TrickGood e
 call_good lo hi e i =
     low_good e (λ u. either (eqb e.kind 6) (eqb e.kind 7) i.placed (λ t. omega (arith, u, eqb-true e.kind 6 t)) (λ t. omega (arith, u, eqb-true e.kind 7 t)))
 
-walked_tricks : (c : Conventions) (o : Open) (trump : ℕ) (w : Walk) (q : Piece) → Cards w.tricks.slots → Walked (walked c o trump w q)
+walked_tricks : (c : Conventions) (o : Option Open) (trump : ℕ) (w : Walk) (q : Piece) → Cards w.tricks.slots → Walked (walked c o trump w q)
 unfolding walked
 walked_tricks c o trump w q h =
     let calls : Out Walk = record { state = record { bidding = (called_piece c w.bidding q).state; tricks = w.tricks; rows = w.rows }; entries = (called_piece c w.bidding q).entries } in
     let cards : Out Walk =
     record {
-      state = record { bidding = w.bidding; tricks = (played_piece c o.seat trump w.tricks q).state; rows = w.rows };
-      entries = (played_piece c o.seat trump w.tricks q).entries;
+      state = record { bidding = w.bidding; tricks = (played_piece c (opener o) trump w.tricks q).state; rows = w.rows };
+      entries = (played_piece c (opener o) trump w.tricks q).entries;
     } in
     let row : Out Walk = record { state = record { bidding = w.bidding; tricks = w.tricks; rows = rowed_piece c w.rows q }; entries = [] } in
-    let p = piece_plays c o.seat trump w.tricks q h in
-    chosen (λ x. Walked x) (eqb o.kind 1) calls (cond (eqb o.kind 2) cards row)
+    let p = piece_plays c (opener o) trump w.tricks q h in
+    chosen (λ x. Walked x) (eqb (kind_of o) 1) calls (cond (eqb (kind_of o) 2) cards row)
     (λ e. record { left = h; given = all_map (λ x i. call_good q.at (q.at + length q.bytes) x i) (CallsInside c w.bidding q) })
-    (λ e. chosen (λ x. Walked x) (eqb o.kind 2) cards row (λ f. record { left = p.left; given = p.given }) (λ f. record { left = h; given = none }))
+    (λ e. chosen (λ x. Walked x) (eqb (kind_of o) 2) cards row (λ f. record { left = p.left; given = p.given }) (λ f. record { left = h; given = none }))
 
-pieces_walked : (c : Conventions) (o : Open) (trump : ℕ) (w : Walk) (qs : List Piece) → Cards w.tricks.slots → Walked (out_all (walked c o trump) w qs)
+pieces_walked : (c : Conventions) (o : Option Open) (trump : ℕ) (w : Walk) (qs : List Piece) → Cards w.tricks.slots → Walked (out_all (walked c o trump) w qs)
 pieces_walked c o trump w [] h = record { left = h; given = none }
 pieces_walked c o trump w (q ∷ qs) h =
     let a = walked_tricks c o trump w q h in
     let b = pieces_walked c o trump (walked c o trump w q).state qs a.left in
     record { left = b.left; given = all_append a.given b.given }
 
-section_walked : (c : Conventions) (r : List ℕ) (o : Open) (trump : ℕ) → Walked (walked_all c r o trump)
+section_walked : (c : Conventions) (r : List ℕ) (o : Option Open) (trump : ℕ) → Walked (walked_all c r o trump)
 unfolding walked_all no_walk
 section_walked c r o trump = pieces_walked c o trump no_walk (section_data r o) no_cards
 
@@ -200,9 +202,9 @@ unfolding closed
 closed_tricks c r s =
     let w = walked_all c r s.section s.board.contract in
     let a = section_walked c r s.section s.board.contract in
-    chosen (λ (o : Out State). All TrickGood o.entries) (eqb s.section.kind 0) (record { state = s; entries = [] }) (closed_by s w)
+    chosen (λ (o : Out State). All TrickGood o.entries) (eqb (kind_of s.section) 0) (record { state = s; entries = [] }) (closed_by s w)
     (λ e. none)
-    (λ e. all_append a.given (last_good s.section.kind w.state a.left))
+    (λ e. all_append a.given (last_good (kind_of s.section) w.state a.left))
 
 -- ---- a record
 
@@ -218,7 +220,7 @@ unfolding blocked
 blocked_tricks r s i j = maybe_one (is_all_white r i j) 4 i (j - i) s.tags (omega arith)
 
 data_tricks : (s : State) (p : ℕ) (d : Span) → All TrickGood (data_added s p d).entries
-data_tricks s p d = maybe_one (eqb s.section.kind 0) 5 (p + d.start) d.len s.section.kind (omega arith)
+data_tricks s p d = maybe_one (eqb (kind_of s.section) 0) 5 (p + d.start) d.len (kind_of s.section) (omega arith)
 
 tagged_tricks : (c : Conventions) (s : State) (p : ℕ) (l : List ℕ) (q : ℕ) (t : TagPlaces) (split : Span) → All TrickGood (tagged c s p l q t split).entries
 unfolding tagged
@@ -242,7 +244,7 @@ TricksGood c r =
       quiet = λ p s l i n b. none;
       opening = λ p s l i n k b. none;
       bracing = λ p s l i n k b. blocked_tricks r s (p + length (lead l) + 1) (p + last_brace l);
-      commentary = λ p s l i n b. blocked_tricks r s s.block (p + last_brace l);
+      commentary = λ p s l i n b. blocked_tricks r s (block_of s) (p + last_brace l);
       directing = λ p s l d i n k. one (low_one 3 (p + d.start) d.len s.tags (omega arith)) none;
       dating = λ p s l d i n k. data_tricks s p d;
       tagging = λ p s l t i k. reading_tricks c s p l (p + length l) t;

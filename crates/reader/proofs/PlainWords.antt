@@ -1,4 +1,5 @@
 -- The words of a card that name entries: each names one of its own record's, and a value's bytes stand at the place of that entry.
+use Rattle.reader.specs.Boards.{block_of}
 use Prim.Native.Nat.{ℕ, zero, suc, ◌+◌, ◌-◌, ◌≤◌, ◌<◌}
 use mathlib.Core.Path.{◌≡◌, refl, sym, ap, ◌∙◌}
 use mathlib.Core.Bool.{Bool, false, cond}
@@ -29,9 +30,9 @@ use Rattle.reader.specs.Tag.{cut}
 use Rattle.reader.specs.Lines.{last_brace}
 use Rattle.reader.specs.Pieces.{Out}
 use Rattle.reader.specs.Play.{last_trick}
-use Rattle.reader.specs.Sections.{walked_all}
+use Rattle.reader.specs.Sections.{walked_all, kind_of, opener}
 use Rattle.reader.specs.SectionSteps.{walk_count}
-use Rattle.reader.specs.Boards.{value_put, is_kept, values_by, applied, with_sections, auction_closed, play_closed, rows_closed, table_closed, closed_entries, last_entries, closed_by, closed, no_span, at, tagged, read_by, blocked, no_state, record_out}
+use Rattle.reader.specs.Boards.{value_put, is_kept, values_by, applied, with_sections, auction_closed, play_closed, rows_closed, rows_taken, table_closed, closed_entries, last_entries, closed_by, closed, no_span, at, tagged, read_by, blocked, no_state, record_out}
 use Rattle.reader.specs.Records.{records_of}
 use Rattle.reader.specs.Editions.{entry_place, value_words, entries_from, entries_of}
 use Rattle.reader.specs.Plain.{Item, item_of, items_of, bytes_of, bytes_at, value_at, value_list, plain_list, held_value, items_within, plain_by, plain_of}
@@ -43,7 +44,7 @@ use Rattle.reader.proofs.Counts.{chosen, TextEntriesFew, EntriesFit}
 use Rattle.reader.proofs.Alike.{entries_in, entries_append}
 use Rattle.reader.proofs.PlainSteps.{HoldsOfRecord}
 use Rattle.reader.proofs.PlainLaws.{RecordHolds}
-use Rattle.std.specs.Prelude.{Ok, Err}
+use Rattle.std.specs.Prelude.{Ok, Err, Option, Some, None}
 
 -- ---- every word names an entry
 
@@ -69,20 +70,20 @@ refers_more h i = record { values_in = more h i.values_in; auction_in = section_
 -- ---- a section that closes
 
 module _ (s : State) (w : Walk) (m : ℕ) (k : walk_count w ≤ m) (h : Refers s.n s.board) where
-  auction_refers : Refers (s.n + m) (auction_closed s.board s.section s.n w)
+  auction_refers : Refers (s.n + m) (auction_closed s.board (opener s.section) s.n w)
   auction_refers =
       let b = s.board in
       chosen (λ x. Refers (s.n + m) x) w.bidding.any
-      (with_sections b b.table (record { first = s.n + 1; count = w.bidding.count; seat = s.section.seat; end = w.bidding.end }) b.play b.trump)
+      (with_sections b b.table (record { first = s.n + 1; count = w.bidding.count; seat = (opener s.section); end = w.bidding.end }) b.play b.trump)
       b
       (λ e. record { values_in = more (omega arith) h.values_in; auction_in = record { ends = omega arith }; play_in = section_more (omega arith) h.play_in })
       (λ e. refers_more (omega arith) h)
 
-  play_refers : (last_trick w.tricks).state.count ≤ m → Refers (s.n + m) (play_closed s.board s.section s.n w)
+  play_refers : (last_trick w.tricks).state.count ≤ m → Refers (s.n + m) (play_closed s.board (opener s.section) s.n w)
   play_refers z =
       let b = s.board in
       chosen (λ x. Refers (s.n + m) x) w.tricks.any
-      (with_sections b b.table b.auction (record { first = s.n + 1; count = (last_trick w.tricks).state.count; seat = s.section.seat; end = w.tricks.end }) b.contract)
+      (with_sections b b.table b.auction (record { first = s.n + 1; count = (last_trick w.tricks).state.count; seat = (opener s.section); end = w.tricks.end }) b.contract)
       b
       (λ e. record { values_in = more (omega arith) h.values_in; auction_in = section_more (omega arith) h.auction_in; play_in = record { ends = omega arith } })
       (λ e. refers_more (omega arith) h)
@@ -93,9 +94,11 @@ module _ (s : State) (w : Walk) (m : ℕ) (k : walk_count w ≤ m) (h : Refers s
 
   table_refers : Refers (s.n + m) (table_closed s.board w)
   table_refers =
-      chosen (λ x. Refers (s.n + m) x) w.rows.fault s.board (rows_closed s.board (gathered w.rows.cells))
-      (λ e. refers_more (omega arith) h)
-      (λ e. rows_refers (gathered w.rows.cells))
+      go w.rows
+    where
+      go : (t : Option (List ℕ)) → Refers (s.n + m) (rows_taken s.board t)
+      go None = refers_more (omega arith) h
+      go (Some cells) = rows_refers (gathered cells)
 
 closed_refers : (c : Conventions) (r : List ℕ) (s : State) → Refers s.n s.board → Refers (closed c r s).state.n (closed c r s).state.board
 unfolding closed
@@ -103,17 +106,17 @@ closed_refers c r s h =
     let w = walked_all c r s.section s.board.contract in
     let v = w.state in
     let m = length (closed_entries s.section w) in
-    let l = length-append w.entries (last_entries s.section.kind v) in
+    let l = length-append w.entries (last_entries (kind_of s.section) v) in
     let n = section_count c r s.section s.board.contract in
     let few : walk_count v ≤ m = omega arith in
-    chosen (λ o. Refers o.state.n o.state.board) (eqb s.section.kind 0) (record { state = s; entries = [] }) (closed_by s w) (λ e. h)
+    chosen (λ o. Refers o.state.n o.state.board) (eqb (kind_of s.section) 0) (record { state = s; entries = [] }) (closed_by s w) (λ e. h)
     (λ e.
-    chosen (λ x. Refers (s.n + m) x) (eqb s.section.kind 1) (auction_closed s.board s.section s.n v) (cond (eqb s.section.kind 2) (play_closed s.board s.section s.n v) (table_closed s.board v))
+    chosen (λ x. Refers (s.n + m) x) (eqb (kind_of s.section) 1) (auction_closed s.board (opener s.section) s.n v) (cond (eqb (kind_of s.section) 2) (play_closed s.board (opener s.section) s.n v) (table_closed s.board v))
     (λ f. auction_refers s v m few h)
     (λ f.
-    chosen (λ x. Refers (s.n + m) x) (eqb s.section.kind 2) (play_closed s.board s.section s.n v) (table_closed s.board v)
+    chosen (λ x. Refers (s.n + m) x) (eqb (kind_of s.section) 2) (play_closed s.board (opener s.section) s.n v) (table_closed s.board v)
     (λ g.
-    let t : last_entries s.section.kind v ≡ (last_trick v.tricks).entries = rw g in
+    let t : last_entries (kind_of s.section) v ≡ (last_trick v.tricks).entries = rw g in
     play_refers s v m few h (omega (arith, ap length t, (last_counted v.tricks).count)))
     (λ g. table_refers s v m few h)))
 
@@ -183,7 +186,7 @@ CardRefers c r =
           quiet = λ p s l i n k. record { stays = λ h. h };
           opening = λ p s l i n k b. record { stays = λ h. h };
           bracing = λ p s l i n k b. blocked_stays r s (p + length (lead l) + 1) (p + last_brace l);
-          commentary = λ p s l i n k. blocked_stays r s s.block (p + last_brace l);
+          commentary = λ p s l i n k. blocked_stays r s (block_of s) (p + last_brace l);
           directing = λ p s l d i n k. record { stays = λ h. refers_more (omega arith) h };
           dating = λ p s l d i n k. record { stays = λ h. refers_more (omega arith) h };
           tagging = λ p s l t i k. record { stays = reading_refers c s p l (p + length l) t };

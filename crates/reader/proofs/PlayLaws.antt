@@ -1,5 +1,5 @@
 -- Laws of the play: slots and winners, what a token comes to, and how many entries a piece adds.
-use Prim.Native.Nat.{ℕ, ◌+◌, ◌/◌, ◌%◌, ◌≤◌}
+use Prim.Native.Nat.{ℕ, ◌+◌, ◌≤◌}
 use mathlib.Core.Path.{◌≡◌, refl, sym, ap, ◌∙◌}
 use mathlib.Core.Bool.{Bool, true, false, cond}
 use mathlib.Core.List.{List, [], ◌∷◌}
@@ -19,8 +19,8 @@ use Rattle.reader.proofs.PieceLaws.{adds_none, emits_none}
 use Rattle.reader.specs.Words.{card_named, section_end}
 use Rattle.reader.specs.Pieces.{Out, tokens_at, Piece}
 use Rattle.reader.specs.PieceSteps.{Adds, Emits}
-use Rattle.reader.specs.Play.{with_card, with_slot, slot_of, taking, new_trick, next_leader, trick_entry, opened, is_gap, played, played_bytes, one_more, last_trick, no_tricks, no_slots, weight, best_slot, winner_of, played_token, played_piece}
-use Rattle.reader.specs.TokenSteps.{Low, Seated, OpenTrick}
+use Rattle.reader.specs.Play.{with_card, with_slot, slot_of, taking, new_trick, next_leader, trick_entry, opened, is_gap, played, played_bytes, one_more, last_trick, no_tricks, played_token, played_piece}
+use Rattle.reader.specs.TokenSteps.{Seated}
 
 pub cond_low : (b : Bool) (x y n : ℕ) → x ≤ n → y ≤ n → cond b x y ≤ n
 cond_low true x y n h k = h

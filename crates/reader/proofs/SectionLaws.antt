@@ -14,7 +14,7 @@ use Rattle.tables.proofs.Laws.{by_cases}
 use Rattle.std.specs.Prelude.{Some, None}
 use Rattle.reader.specs.Tag.{TagLine, Split, tag_line, split_of}
 use Rattle.reader.specs.Lines.{is_blank, has_brace, split_as, split_line, bracket_as, bracket_line, kind_by, line_kind}
-use Rattle.reader.specs.LineWalk.{line_at}
+use Rattle.tables.specs.LineWalk.{line_at}
 use Rattle.reader.specs.Pieces.{raw_lines}
 use Rattle.reader.specs.Sections.{opens_commentary, commentary_after}
 use Rattle.reader.proofs.TagLaws.{byte_front}

@@ -1,5 +1,9 @@
 -- A section that closes is walked over the very data lines that have entries: those of kind 5 from its tag's line on, up to the tag, the
 -- blank line or the end of the record that closes it.
+use Rattle.reader.specs.Boards.{in_block, block_of}
+use Rattle.std.specs.Prelude.{Option, Some}
+use Rattle.reader.specs.declared.section.Kind.TheVariants.{Auction, Play, Optimum}
+use Rattle.reader.specs.declared.section.Kind.{Kind}
 use Prim.Native.Nat.{ℕ, ◌+◌}
 use mathlib.Core.Path.{◌≡◌, refl, sym, ap, ◌∙◌}
 use mathlib.Core.Bool.{Bool, false, cond}
@@ -25,7 +29,7 @@ use Rattle.reader.specs.Names.{tag_number}
 use Rattle.reader.specs.Lines.{line_kind, has_brace, last_brace}
 use Rattle.reader.specs.LineSteps.{LinePlaced}
 use Rattle.reader.specs.Pieces.{Piece, Out, and_then, raw_lines}
-use Rattle.reader.specs.Sections.{commentary_after, stops_at, data_piece, piece_of, data_in, split_piece, section_data}
+use Rattle.reader.specs.Sections.{commentary_after, stops_at, data_piece, piece_of, data_in, split_piece, section_data, kind_of, lines_at, split_off}
 use Rattle.reader.specs.Boards.{no_open, seat_open, open_by, closed, no_span, at, tagged, read_by, tag_line_out, is_all_white, blocked, braced, in_commentary, line_by, line_out}
 use Rattle.reader.specs.BoardSteps.{unchanged}
 use Rattle.reader.specs.Plain.{bytes_of}
@@ -52,7 +56,7 @@ lines_read c r s p [] = unchanged s
 lines_read c r s p (l ∷ ls) = and_then (line_out c r s p l) (lines_read c r (line_out c r s p l).state (p + length l) ls)
 
 -- The section o is still open after x, and its data are the data lines that the entries of x name.
-pub record Walked (r : List ℕ) (o : Open) (x : Out State) : Type 0 where
+pub record Walked (r : List ℕ) (o : Option Open) (x : Out State) : Type 0 where
   pub still_open : x.state.section ≡ o
   pub data_are : section_data r o ≡ data_pieces r x.entries
 
@@ -75,10 +79,10 @@ blocked_pieces r s i j = by_cases (is_all_white r i j) (λ t. rw t) (λ t. rw t)
 
 -- ---- a line of a section
 
-module _ (c : Conventions) (r : List ℕ) (s : State) (p : ℕ) (l : List ℕ) (i : LineAt r p l) (o : eqb s.section.kind 0 ≡ false) where
+module _ (c : Conventions) (r : List ℕ) (s : State) (p : ℕ) (l : List ℕ) (i : LineAt r p l) (o : eqb (kind_of s.section) 0 ≡ false) where
   commentary_pieces : data_pieces r (in_commentary r s p l).entries ≡ []
   unfolding in_commentary
-  commentary_pieces = by_cases (has_brace l) (λ t. rw t (blocked_pieces r s s.block (p + last_brace l))) (λ t. rw t)
+  commentary_pieces = by_cases (has_brace l) (λ t. rw t (blocked_pieces r s (block_of s) (p + last_brace l))) (λ t. rw t)
 
   brace_pieces : data_pieces r (braced r s p l).entries ≡ []
   unfolding braced
@@ -92,26 +96,26 @@ module _ (c : Conventions) (r : List ℕ) (s : State) (p : ℕ) (l : List ℕ) (
   kind_pieces Bracket e h j = refl
   kind_pieces (Data d) e h j = rw (o, PartPlaced r l p d.start d.len i.bytes j)
 
-  line_pieces_lem : stops_at s.commentary l ≡ false → data_pieces r (line_out c r s p l).entries ≡ piece_of s.commentary p l
+  line_pieces_lem : stops_at (in_block s) l ≡ false → data_pieces r (line_out c r s p l).entries ≡ piece_of (in_block s) p l
   unfolding line_out piece_of
   line_pieces_lem h =
-      chosen (λ (x : Out State). data_pieces r x.entries ≡ piece_of s.commentary p l) s.commentary (in_commentary r s p l) (line_by c r s p l (line_kind l))
+      chosen (λ (x : Out State). data_pieces r x.entries ≡ piece_of (in_block s) p l) (in_block s) (in_commentary r s p l) (line_by c r s p l (line_kind l))
       (λ e. commentary_pieces ∙ ap (λ (b : Bool). piece_of b p l) (sym e))
       (λ e. kind_pieces (line_kind l) refl (rw e at h) (LineInside l) ∙ ap (λ (b : Bool). piece_of b p l) (sym e))
 
 -- ---- the lines of a section
 
-lines_walked : (c : Conventions) (r : List ℕ) (s : State) (p : ℕ) (ls : List (List ℕ)) → raw_lines (drop p r) ≡ ls → eqb s.section.kind 0 ≡ false
-    → ((lines_read c r s p (section_lines s.commentary ls)).state.section ≡ s.section)
-    × (data_pieces r (lines_read c r s p (section_lines s.commentary ls)).entries ≡ data_in s.commentary p ls)
+lines_walked : (c : Conventions) (r : List ℕ) (s : State) (p : ℕ) (ls : List (List ℕ)) → raw_lines (drop p r) ≡ ls → eqb (kind_of s.section) 0 ≡ false
+    → ((lines_read c r s p (section_lines (in_block s) ls)).state.section ≡ s.section)
+    × (data_pieces r (lines_read c r s p (section_lines (in_block s) ls)).entries ≡ data_in (in_block s) p ls)
 lines_walked c r s p [] e o = (refl, refl)
 lines_walked c r s p (l ∷ ls) e o =
-    by_cases (stops_at s.commentary l)
+    by_cases (stops_at (in_block s) l)
     (λ t. rw t (refl, refl))
     (λ t.
     let k = line_keeps c r s p l t in
     let x = line_out c r s p l in
-    let q : eqb x.state.section.kind 0 ≡ false = rw k.section_kept o in
+    let q : eqb (kind_of x.state.section) 0 ≡ false = rw k.section_kept o in
     let z = lines_walked c r x.state (p + length l) ls (next_line_lem r p l ls e).rest q in
     let m = line_pieces_lem c r s p l (first_line r p l ls e) o t in
     rw (t, ← k.commentary_is)
@@ -120,34 +124,34 @@ lines_walked c r s p (l ∷ ls) e o =
 -- ---- the tag's line
 
 -- An open section that starts at q, with what was split off its tag's line.
-record Starts (q : ℕ) (split : Span) (o : Open) : Type 0 where
-  starts : eqb o.kind 0 ≡ false → (o.at ≡ q) × (o.split ≡ split)
+record Starts (q : ℕ) (split : Span) (o : Option Open) : Type 0 where
+  starts : eqb (kind_of o) 0 ≡ false → (lines_at o ≡ q) × (split_off o ≡ split)
 
 none_starts : (q : ℕ) (split : Span) → Starts q split no_open
 none_starts q split = record { starts = λ h. clash (sym h) }
 
-seat_starts : (kind seat q : ℕ) (split : Span) → Starts q split (seat_open kind seat q split)
+seat_starts : (kind : ℕ → Kind) (seat q : ℕ) (split : Span) → Starts q split (seat_open kind seat q split)
 seat_starts kind seat q split =
-    chosen (Starts q split) (ltb seat 4) (record { kind = kind; seat = seat; at = q; split = split }) no_open (λ e. record { starts = λ h. (refl, refl) }) (λ e. none_starts q split)
+    chosen (Starts q split) (ltb seat 4) (Some (record { kind = kind seat; at = q; split = split })) no_open (λ e. record { starts = λ h. (refl, refl) }) (λ e. none_starts q split)
 
 open_starts : (c : Conventions) (k : ℕ) (value : List ℕ) (q : ℕ) (split : Span) → Starts q split (open_by c k value q split)
 unfolding open_by
 open_starts c k value q split =
     let seat = seat_of c (first_character value) in
-    let rows : Open = record { kind = 3; seat = 4; at = q; split = split } in
-    chosen (Starts q split) (eqb k 15) (seat_open 1 seat q split) (cond (eqb k 16) (seat_open 2 seat q split) (cond (eqb k 19) rows no_open)) (λ e. seat_starts 1 seat q split)
+    let rows : Option Open = Some (record { kind = Optimum; at = q; split = split }) in
+    chosen (Starts q split) (eqb k 15) (seat_open Auction seat q split) (cond (eqb k 16) (seat_open Play seat q split) (cond (eqb k 19) rows no_open)) (λ e. seat_starts Auction seat q split)
     (λ e.
-    chosen (Starts q split) (eqb k 16) (seat_open 2 seat q split) (cond (eqb k 19) rows no_open) (λ f. seat_starts 2 seat q split)
+    chosen (Starts q split) (eqb k 16) (seat_open Play seat q split) (cond (eqb k 19) rows no_open) (λ f. seat_starts Play seat q split)
     (λ f. chosen (Starts q split) (eqb k 19) rows no_open (λ g. record { starts = λ h. (refl, refl) }) (λ g. none_starts q split)))
 
 -- After a tag's line its section starts behind the line, and the line's data is what was split off.
 record Opened (r : List ℕ) (q : ℕ) (x : Out State) : Type 0 where
-  commentary_off : x.state.commentary ≡ false
-  lines_at : x.state.section.at ≡ q
-  split_is : data_pieces r x.entries ≡ split_piece r x.state.section.split
+  commentary_off : (in_block x.state) ≡ false
+  lines_at : lines_at x.state.section ≡ q
+  split_is : data_pieces r x.entries ≡ split_piece r (split_off x.state.section)
 
 module _ (c : Conventions) (r : List ℕ) (s : State) (p : ℕ) (l : List ℕ) (q : ℕ) where
-  reading_opens : (t : TagReading) → ReadingLate t → eqb (read_by c s p l q t).state.section.kind 0 ≡ false → Opened r q (read_by c s p l q t)
+  reading_opens : (t : TagReading) → ReadingLate t → eqb (kind_of (read_by c s p l q t).state.section) 0 ≡ false → Opened r q (read_by c s p l q t)
   unfolding tagged
   reading_opens (Plain t) j o =
       let a = (open_starts c (tag_number (cut t.name l)) (cut t.value l) q no_span).starts o in
@@ -168,31 +172,31 @@ module _ (c : Conventions) (r : List ℕ) (s : State) (p : ℕ) (l : List ℕ) (
         split_is = pieces_append r (closed c r s).entries (read_by c (closed c r s).state p l q t).entries ∙ rw (late_pieces r (closed_late c r s)) h.split_is;
       }
 
-line_tag : (c : Conventions) (r : List ℕ) (s : State) (p : ℕ) (l : List ℕ) (t : TagReading) → s.commentary ≡ false → line_kind l ≡ TagOn t
+line_tag : (c : Conventions) (r : List ℕ) (s : State) (p : ℕ) (l : List ℕ) (t : TagReading) → in_block s ≡ false → line_kind l ≡ TagOn t
     → line_out c r s p l ≡ and_then (closed c r s) (read_by c (closed c r s).state p l (p + length l) t)
 unfolding line_out tag_line_out
 line_tag c r s p l t n k =
-    chosen (λ (x : Out State). x ≡ and_then (closed c r s) (read_by c (closed c r s).state p l (p + length l) t)) s.commentary (in_commentary r s p l) (line_by c r s p l (line_kind l))
+    chosen (λ (x : Out State). x ≡ and_then (closed c r s) (read_by c (closed c r s).state p l (p + length l) t)) (in_block s) (in_commentary r s p l) (line_by c r s p l (line_kind l))
     (λ e. clash (sym n ∙ e))
     (λ e. ap (line_by c r s p l) k)
 
 -- THEOREM. Where a tag, in any state, opens a section, the data over which the section is walked when it closes are the data lines that
 -- the entries of the tag's line, and of the lines of its section, name.
-pub SectionLines : (c : Conventions) (r : List ℕ) (s : State) (p : ℕ) (l : List ℕ) (t : TagReading) → LineAt r p l → s.commentary ≡ false → line_kind l ≡ TagOn t
-    → eqb (line_out c r s p l).state.section.kind 0 ≡ false
+pub SectionLines : (c : Conventions) (r : List ℕ) (s : State) (p : ℕ) (l : List ℕ) (t : TagReading) → LineAt r p l → in_block s ≡ false → line_kind l ≡ TagOn t
+    → eqb (kind_of (line_out c r s p l).state.section) 0 ≡ false
     → Walked r (line_out c r s p l).state.section (lines_read c r s p (l ∷ section_lines false (raw_lines (drop (p + length l) r))))
 unfolding section_data
 SectionLines c r s p l t i n k o =
     let q = p + length l in
     let e = line_tag c r s p l t n k in
     let j : ReadingLate t = rw k at (line_late l) in
-    let h : Opened r q (line_out c r s p l) = moved e (closed_opens c r s p l q t (reading_opens c r (closed c r s).state p l q t j (ap (λ (x : Out State). eqb x.state.section.kind 0) (sym e) ∙ o))) in
+    let h : Opened r q (line_out c r s p l) = moved e (closed_opens c r s p l q t (reading_opens c r (closed c r s).state p l q t j (ap (λ (x : Out State). eqb (kind_of x.state.section) 0) (sym e) ∙ o))) in
     walked (line_out c r s p l) h o
   where
     moved : {q : ℕ} {x y : Out State} → x ≡ y → Opened r q y → Opened r q x
     moved e h = rw e h
 
-    walked : (x : Out State) → Opened r (p + length l) x → eqb x.state.section.kind 0 ≡ false
+    walked : (x : Out State) → Opened r (p + length l) x → eqb (kind_of x.state.section) 0 ≡ false
         → Walked r x.state.section (and_then x (lines_read c r x.state (p + length l) (section_lines false (raw_lines (drop (p + length l) r)))))
     walked x h o =
         let q = p + length l in
@@ -201,9 +205,9 @@ SectionLines c r s p l t i n k o =
         record {
           still_open = ap (λ (y : Out State). y.state.section) (sym w) ∙ z.0;
           data_are =
-              ap (λ (m : ℕ). split_piece r x.state.section.split ++ data_in false m (raw_lines (drop m r))) h.lines_at
-              ∙ ap (λ (b : Bool). split_piece r x.state.section.split ++ data_in b q (raw_lines (drop q r))) (sym h.commentary_off)
-              ∙ ap (λ (qs : List Piece). split_piece r x.state.section.split ++ qs) (sym z.1 ∙ ap (λ (y : Out State). data_pieces r y.entries) w)
+              ap (λ (m : ℕ). split_piece r (split_off x.state.section) ++ data_in false m (raw_lines (drop m r))) h.lines_at
+              ∙ ap (λ (b : Bool). split_piece r (split_off x.state.section) ++ data_in b q (raw_lines (drop q r))) (sym h.commentary_off)
+              ∙ ap (λ (qs : List Piece). split_piece r (split_off x.state.section) ++ qs) (sym z.1 ∙ ap (λ (y : Out State). data_pieces r y.entries) w)
               ∙ ap (λ (qs : List Piece). qs ++ data_pieces r (lines_read c r x.state q (section_lines false (raw_lines (drop q r)))).entries) (sym h.split_is)
               ∙ sym (pieces_append r x.entries (lines_read c r x.state q (section_lines false (raw_lines (drop q r)))).entries);
         }

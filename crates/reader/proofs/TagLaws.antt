@@ -11,10 +11,10 @@ use lib.Seq.{take-suc, drop-append-le, length-take-le, get_or-drop}
 use borrow.Author.Tests.{lt-ltb, le-ltb, ltb-true, ltb-false}
 use Rattle.tables.specs.Text.{is_white, front, beyond, lead, trim_start, trim_end, trimmed, before, differs}
 use Rattle.tables.specs.Letters.{among}
-use Rattle.tables.proofs.Laws.{step, by_cases, clash}
+use Rattle.tables.proofs.Laws.{step, stop, by_cases, clash}
 use Rattle.tables.proofs.TextLaws.{drop_front, front_few}
 use Rattle.reader.specs.declared.tag.Span.{Span}
-use Rattle.std.specs.Prelude.{Some, None}
+use Rattle.std.specs.Prelude.{Option, Some, None, is_some, unwrap_or}
 use Rattle.std.specs.Bool.{then_some}
 use Rattle.reader.specs.Tag.{part, last_after, last_byte, trim_part, trim_span, ends_quoted, close_at, is_quoted, find_at}
 
@@ -60,6 +60,10 @@ find_from_is x a n s e =
     by_cases (ltb n (length (drop a s)))
     (λ t. rw (lt-ltb (a + n) (length s) (omega (arith, length-drop a s, ltb-true n _ t)), find_is x a (drop a s), ← e, t))
     (λ t. rw (le-ltb (a + n) (length s) (omega (arith, length-drop a s, ltb-false n _ t)), find_is x a (drop a s), ← e, t))
+
+pub trim_twice : (s : List ℕ) → trim_start (trim_start s) ≡ trim_start s
+trim_twice [] = refl
+trim_twice (b ∷ bs) = by_cases (is_white b) (λ e. rw e (trim_twice bs)) (λ e. rw e (rw e))
 
 -- ---- spans
 
@@ -120,15 +124,45 @@ close_past a i (suc r) s h f =
     close_turn a i s h (omega (arith, t.0)) (rw here) ∙ rw z at (close_past a (i + 1) r s (omega arith) (λ j l. let k : i + 1 + j ≡ i + suc j = omega arith in rw k (f (suc j) (omega arith))))
 
 -- The search goes on at the next `]`.
-pub close_next : (a i r : ℕ) (s : List ℕ) → a ≤ i → r ≡ length (before 93 (drop i s)) → close_at i (part a i s) (drop i s) ≡ close_at (i + r) (part a (i + r) s) (drop (i + r) s)
+close_next : (a i r : ℕ) (s : List ℕ) → a ≤ i → r ≡ length (before 93 (drop i s)) → close_at i (part a i s) (drop i s) ≡ close_at (i + r) (part a (i + r) s) (drop (i + r) s)
 close_next a i r s h e =
     close_past a i r s h
     (λ j l.
     let few : length (before 93 (drop i s)) ≤ length (drop i s) = front_few (differs 93) (drop i s) in
     (omega (arith, few, e, length-drop i s), rw (← get_or-drop i s j 0) (before_none 93 (drop i s) j (omega (arith, e)))))
 
-pub close_there : (i r : ℕ) (s : List ℕ) → r ≡ length (before 93 (drop i s)) → i + r < length s → eqb (get_or s (i + r) 0) 93 ≡ true
+close_there : (i r : ℕ) (s : List ℕ) → r ≡ length (before 93 (drop i s)) → i + r < length s → eqb (get_or s (i + r) 0) 93 ≡ true
 close_there i r s e h = rw (← get_or-drop i s r 0, e) (before_here 93 (drop i s) (omega (arith, e, length-drop i s)))
+
+find_some : (x k i : ℕ) (s : List ℕ) → find_at x k s ≡ Some i → (i ≡ k + length (before x s)) × (length (before x s) < length s)
+find_some x k i s e =
+    by_cases (ltb (length (before x s)) (length s))
+    (λ t. let n : find_at x k s ≡ Some (k + length (before x s)) = find_is x k s ∙ rw t in (ap (λ (o : Option ℕ). unwrap_or o 0) (sym e ∙ n), ltb-true _ _ t))
+    (λ t. let n : find_at x k s ≡ None = find_is x k s ∙ rw t in clash (ap is_some (sym n ∙ e)))
+
+find_none : (x k : ℕ) (s : List ℕ) → find_at x k s ≡ None → length s ≤ length (before x s)
+find_none x k s e =
+    by_cases (ltb (length (before x s)) (length s))
+    (λ t. let n : find_at x k s ≡ Some (k + length (before x s)) = find_is x k s ∙ rw t in clash (ap is_some (sym e ∙ n)))
+    (λ t. ltb-false _ _ t)
+
+pub record CloseTo (a n i : ℕ) (s : List ℕ) : Type 0 where
+  pub close_on : close_at n (part a n s) (drop n s) ≡ close_at i (part a i s) (drop i s)
+  pub later : n ≤ i
+  pub inside : i < length s
+  pub is_bracket : eqb (get_or s i 0) 93 ≡ true
+
+pub close_to : (a n i : ℕ) (s : List ℕ) → a ≤ n → find_at 93 n (drop n s) ≡ Some i → CloseTo a n i s
+close_to a n i s h e =
+    let f = find_some 93 n i (drop n s) e in
+    let l : n + length (before 93 (drop n s)) < length s = omega (arith, f.1, length-drop n s) in
+    rw f.0 (record { close_on = close_next a n _ s h refl; later = omega arith; inside = l; is_bracket = close_there n _ s refl l })
+
+-- Where none is left, none closes.
+pub close_none : (a n : ℕ) (s : List ℕ) → a ≤ n → find_at 93 n (drop n s) ≡ None → close_at n (part a n s) (drop n s) ≡ None
+close_none a n s h e =
+    let f : length s ≤ n + length (before 93 (drop n s)) = omega (arith, find_none 93 n (drop n s) e, length-drop n s) in
+    close_next a n _ s h refl ∙ rw (stop s (n + length (before 93 (drop n s))) f)
 
 -- ---- the value
 

@@ -1,4 +1,7 @@
 -- Laws of a tag's line.
+use Rattle.reader.specs.Boards.{in_block, block_of}
+use Rattle.std.specs.Prelude.{Some, None}
+use Rattle.std.specs.Prelude.{Option}
 use Prim.Native.Nat.{ℕ, ◌+◌, ◌≤◌}
 use mathlib.Core.Path.{◌≡◌, refl, ap}
 use mathlib.Core.Bool.{Bool, true, false, cond}
@@ -20,17 +23,15 @@ use Rattle.reader.specs.declared.store.Entry.{Entry}
 use Rattle.reader.specs.declared.tag.Span.{Span}
 use Rattle.reader.specs.declared.tag.Tag.{Tag}
 use Rattle.reader.specs.Boards.{applied, open_by, no_span, at, adding, counted_state, closed, closed_by, tagged, directed, data_entries, data_added, read_by, tag_line_out, with_commentary, blocked, braced, in_commentary, line_by, line_out}
-use Rattle.reader.specs.BoardSteps.{Sound, Stepped, split_in}
+use Rattle.reader.specs.BoardSteps.{Sound, Stepped}
 use Rattle.reader.specs.Lines.{line_kind, has_brace, last_brace}
-use Rattle.reader.specs.LineSteps.{tag_in, ReadingPlaced}
 use Rattle.reader.specs.Names.{tag_number}
 use Rattle.reader.specs.Pieces.{Out, and_then, entry}
 use Rattle.reader.specs.declared.store.Entries.{Entries}
 use Rattle.reader.specs.PieceSteps.{Adds, Emits}
-use Rattle.reader.specs.Sections.{walked_all}
+use Rattle.reader.specs.Sections.{walked_all, kind_of}
 use Rattle.reader.specs.Tag.{cut}
-use Rattle.reader.specs.TagSteps.{TagInside}
-use Rattle.reader.proofs.ApplyLaws.{Seated, open_seated}
+use Rattle.reader.proofs.ApplyLaws.{Opened, open_early}
 use Rattle.reader.proofs.PieceLaws.{adds_then, emits_then}
 
 -- ---- what holds of a state
@@ -39,9 +40,6 @@ use Rattle.reader.proofs.PieceLaws.{adds_then, emits_then}
 pub sound_later : {p q : ℕ} {s : State} → p ≤ q → Sound p s → Sound q s
 sound_later {p} {q} {s} h k =
     record {
-      kind_low = k.kind_low;
-      seat_low = k.seat_low;
-      leader_low = k.leader_low;
       lines_before = omega (arith, h, k.lines_before);
       split_before = omega (arith, h, k.split_before);
       block_before = omega (arith, h, k.block_before);
@@ -50,9 +48,6 @@ sound_later {p} {q} {s} h k =
 pub counted_sound : {p : ℕ} {s : State} (n : ℕ) → Sound p s → Sound p (counted_state s n)
 counted_sound n k =
     record {
-      kind_low = k.kind_low;
-      seat_low = k.seat_low;
-      leader_low = k.leader_low;
       lines_before = k.lines_before;
       split_before = k.split_before;
       block_before = k.block_before;
@@ -65,22 +60,19 @@ opened_sound : (c : Conventions) (k : ℕ) (value : List ℕ) (p q : ℕ) (split
     p ≤ q →
     split.start + split.len ≤ q →
     t.section ≡ open_by c k value q split →
-    t.block ≡ s.block →
+    block_of t ≤ q + 1 →
     Sound q t
 opened_sound c k value p q split s t h pq sq e b =
-    let o : Seated q split t.section = rw e (open_seated c k value q split) in
+    let o : Opened q split t.section = rw e (open_early c k value q split) in
     record {
-      kind_low = o.kind_low;
-      seat_low = o.seat_low;
-      leader_low = o.leader_low;
-      lines_before = o.lines_at;
+      lines_before = o.lines_early;
       split_before = omega (arith, o.split_end, sq);
-      block_before = omega (arith, h.block_before, pq, b);
+      block_before = b;
     }
 
 -- A tag's step from its parts: its two entries, its board and its section.
 pub tag_stepped :
-    (c : Conventions) (l : List ℕ) (t : Tag) (split : Span) {s : State} {p q k : ℕ} {name value : List ℕ} {e e' e'' : Entries} {board : Board} {section : Open} →
+    (c : Conventions) (l : List ℕ) (t : Tag) (split : Span) {s : State} {p q k : ℕ} {name value : List ℕ} {e e' e'' : Entries} {board : Board} {section : Option Open} →
     Sound p s →
     p ≤ q →
     split.start + split.len ≤ q →
@@ -91,12 +83,12 @@ pub tag_stepped :
     value ≡ cut t.value l →
     board ≡ applied c k value (s.n + 2) s.board →
     section ≡ open_by c k value q split →
-    Stepped q e e'' (record { board = board; section = section; tags = s.tags + 1; n = s.n + 2; commentary = false; block = s.block }) (tagged c s p l q t split)
+    Stepped q e e'' (record { board = board; section = section; tags = s.tags + 1; n = s.n + 2; commentary = None }) (tagged c s p l q t split)
 unfolding tagged
 tag_stepped c l t split {s} {p} {q} {k} {name} {value} {e} {e'} {e''} {board} {section} h pq sq e1 e2 en ek ev eb es =
     record {
       emits = record { answer = rw (eb, es, ek, en, ev); adds = adds_then e1 e2 };
-      sound = opened_sound c k value p q split s _ h pq sq es refl;
+      sound = opened_sound c k value p q split s _ h pq sq es (omega arith);
     }
 
 -- ---- a tag with its comment or its data
@@ -112,46 +104,28 @@ stepped_then {r = r} {o = o} f h k =
       sound = rw k.answer (counted_sound (length (f r)) h.sound);
     }
 
-pub read_plain :
-    (c : Conventions) (s : State) (p : ℕ) (l : List ℕ) {q : ℕ} {r : State} {e e' : Entries} {t : TagReading} {tag x : Tag} {split : Span} →
-    t ≡ Plain x →
-    tag ≡ tag_in t →
-    split ≡ split_in p t →
-    Stepped q e e' r (tagged c s p l q tag split) →
-    Stepped q e e' r (read_by c s p l q t)
-read_plain c s p l {q} {r} {e} {e'} {x = x} et eg es h =
-    let k : Stepped q e e' r (tagged c s p l q x no_span) = rw (← ap tag_in et, ← ap (split_in p) et, ← eg, ← es) h in
-    rw et k
-
 pub read_comment :
-    (c : Conventions) (s : State) (p : ℕ) (l : List ℕ) {q : ℕ} {r r' : State} {e e' e'' : Entries} {t : TagReading} {tag x : Tag} {split d : Span} →
+    (c : Conventions) (s : State) (p : ℕ) (l : List ℕ) {q : ℕ} {r r' : State} {e e' e'' : Entries} {t : TagReading} {x : Tag} {d : Span} →
     t ≡ WithComment x d →
-    tag ≡ tag_in t →
-    split ≡ split_in p t →
-    Stepped q e e' r (tagged c s p l q tag split) →
+    Stepped q e e' r (tagged c s p l q x no_span) →
     Emits e' e'' r' (directed r p d) →
     Stepped q e e'' r' (read_by c s p l q t)
-read_comment c s p l {q} {r} {e = e} {e' = e'} {x = x} {d = d} et eg es h f =
-    let k : Stepped q e e' r (tagged c s p l q x no_span) = rw (← ap tag_in et, ← ap (split_in p) et, ← eg, ← es) h in
-    rw et (stepped_then (λ (y : State). entry 3 (p + d.start) d.len y.tags ∷ []) k f)
+read_comment c s p l {d = d} et h f = rw et (stepped_then (λ (y : State). entry 3 (p + d.start) d.len y.tags ∷ []) h f)
 
 pub read_data :
-    (c : Conventions) (s : State) (p : ℕ) (l : List ℕ) {q : ℕ} {r r' : State} {e e' e'' : Entries} {t : TagReading} {tag x : Tag} {split d : Span} →
+    (c : Conventions) (s : State) (p : ℕ) (l : List ℕ) {q : ℕ} {r r' : State} {e e' e'' : Entries} {t : TagReading} {x : Tag} {d split : Span} →
     t ≡ WithData x d →
-    tag ≡ tag_in t →
-    split ≡ split_in p t →
-    Stepped q e e' r (tagged c s p l q tag split) →
+    split ≡ at p d →
+    Stepped q e e' r (tagged c s p l q x split) →
     Emits e' e'' r' (data_added r p d) →
     Stepped q e e'' r' (read_by c s p l q t)
-read_data c s p l {q} {r} {e = e} {e' = e'} {x = x} {d = d} et eg es h f =
-    let k : Stepped q e e' r (tagged c s p l q x (at p d)) = rw (← ap tag_in et, ← ap (split_in p) et, ← eg, ← es) h in
-    rw et (stepped_then (λ (x : State). data_entries x.section.kind p d) k f)
+read_data c s p l {d = d} et es h f = rw et (stepped_then (λ (x : State). data_entries x.section p d) (rw es at h) f)
 
 -- ---- sections closed before a tag
 
 pub closed_tags : (c : Conventions) (r : List ℕ) (s : State) → (closed c r s).state.tags ≡ s.tags
 unfolding closed
-closed_tags c r s = go (eqb s.section.kind 0) (walked_all c r s.section s.board.contract)
+closed_tags c r s = go (eqb (kind_of s.section) 0) (walked_all c r s.section s.board.contract)
   where
     go : (t : Bool) (w : Out Walk) → (cond t (record { state = s; entries = [] }) (closed_by s w)).state.tags ≡ s.tags
     go true w = refl
@@ -159,15 +133,12 @@ closed_tags c r s = go (eqb s.section.kind 0) (walked_all c r s.section s.board.
 
 pub closed_sound : {p : ℕ} (c : Conventions) (r : List ℕ) (s : State) → Sound p s → Sound p (closed c r s).state
 unfolding closed
-closed_sound {p} c r s h = go (eqb s.section.kind 0) (walked_all c r s.section s.board.contract)
+closed_sound {p} c r s h = go (eqb (kind_of s.section) 0) (walked_all c r s.section s.board.contract)
   where
     go : (t : Bool) (w : Out Walk) → Sound p (cond t (record { state = s; entries = [] }) (closed_by s w)).state
     go true w = h
     go false w =
         record {
-          kind_low = omega arith;
-          seat_low = omega arith;
-          leader_low = λ e. absurd (omega arith);
           lines_before = omega arith;
           split_before = omega arith;
           block_before = h.block_before;
@@ -198,13 +169,13 @@ read_tags c w s p l (WithData t d) = ap (λ (k : ℕ). k + 1) (closed_tags c w s
 -- A line adds one tag at most.
 pub line_tags_lem : (c : Conventions) (r : List ℕ) (s : State) (p : ℕ) (l : List ℕ) → (line_out c r s p l).state.tags ≤ s.tags + 1
 unfolding line_out in_commentary braced blocked
-line_tags_lem c r s p l = go s.commentary
+line_tags_lem c r s p l = go (in_block s)
   where
-    brace : (t : Bool) (i j : ℕ) → (cond t (blocked r s i j) (record { state = with_commentary s true i; entries = [] })).state.tags ≤ s.tags + 1
+    brace : (t : Bool) (i j : ℕ) → (cond t (blocked r s i j) (record { state = with_commentary s (Some i); entries = [] })).state.tags ≤ s.tags + 1
     brace true i j = omega arith
     brace false i j = omega arith
 
-    in_commentary_lem : (t : Bool) (j : ℕ) → (cond t (blocked r s s.block j) (record { state = s; entries = [] })).state.tags ≤ s.tags + 1
+    in_commentary_lem : (t : Bool) (j : ℕ) → (cond t (blocked r s (block_of s) j) (record { state = s; entries = [] })).state.tags ≤ s.tags + 1
     in_commentary_lem true j = omega arith
     in_commentary_lem false j = omega arith
 

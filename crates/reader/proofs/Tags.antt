@@ -17,6 +17,7 @@ use Rattle.reader.specs.declared.tag.Tag.{Tag}
 use Rattle.std.specs.Prelude.{Option as Maybe, Some, None, option_and_then}
 use Rattle.reader.specs.Tag.{TagLine, Split, cut, part, last_after, trim_part, bracket_of, ends_quoted, close_at, name_of, is_quoted, value_of, is_comment, comment_of, tag_line, find_at, with_data, data_bracket, data_after, split_of}
 use Rattle.reader.specs.TagBytes.{◌>>=◌, Cut, push, quoted, close, past, behind, ahead, unquote, filled, comment_bytes, TagBytes, read_tag, tag_bytes, read_split, split_bytes}
+use Rattle.reader.proofs.TagLaws.{trim_twice}
 
 -- ---- what holds of any partial answer
 
@@ -464,13 +465,9 @@ SplitStands line =
 
 -- ---- the trimmed line reads the same
 
-start_start : (s : List ℕ) → trim_start (trim_start s) ≡ trim_start s
-start_start [] = refl
-start_start (b ∷ bs) = by_cases (is_white b) (λ e. rw e (start_start bs)) (λ e. rw e (rw e))
-
 pub trimmed_twice : (s : List ℕ) → trimmed (trimmed s) ≡ trimmed s
 unfolding trimmed
-trimmed_twice s = trimmed_end (trim_start s) ∙ ap trim_end (start_start s)
+trimmed_twice s = trimmed_end (trim_start s) ∙ ap trim_end (trim_twice s)
 
 -- THEOREM. A tag is read alike from a line and from the trimmed line.
 pub TagTrimmed : (line : List ℕ) → read_tag (trimmed line) ≡ read_tag line

@@ -98,7 +98,7 @@ tag_text_lem n v hw hn hv =
     (ap (λ (a : ℕ). Some (record { name = record { start = 1; len = length n }; value = record { start = a; len = length v } }, None)) (omega arith))
 
 -- A line that starts with a bracket.
-kind_bracket : (line s : List ℕ) → trim_start line ≡ 91 ∷ s → line_kind line ≡ bracket_line line
+pub kind_bracket : (line s : List ℕ) → trim_start line ≡ 91 ∷ s → line_kind line ≡ bracket_line line
 unfolding line_kind is_blank
 kind_bracket line s e = rw (trimmed_is line s e, ne_eqb (suc (length (trim_end s))) 0 (λ k. omega arith), e)
 
@@ -125,7 +125,7 @@ among_trimmed x s e =
     let h : among x (lead s ++ (trimmed s ++ trail (trim_start s))) ≡ false = ap (among x) (trim_whole s) ∙ e in
     (among_append x (trimmed s) (trail (trim_start s)) (among_append x (lead s) (trimmed s ++ trail (trim_start s)) h).1).0
 
-behind_is : (x : ℕ) (s : List ℕ) {r : List ℕ} → behind x s ≡ some r → s ≡ x ∷ r
+pub behind_is : (x : ℕ) (s : List ℕ) {r : List ℕ} → behind x s ≡ some r → s ≡ x ∷ r
 behind_is x [] e = never e
 behind_is x (b ∷ bs) e = let h = cond_some (eqb b x) e in cc (eqb-true b x h.0, h.1)
 

@@ -1,11 +1,12 @@
 -- Laws of walking a section's data.
+use Rattle.reader.specs.declared.section.Kind.TheVariants.{Auction, Play, Optimum}
+use Rattle.std.specs.Prelude.{Option, Some}
 use Prim.Native.Nat.{ℕ, ◌+◌, ◌-◌, ◌*◌, ◌≤◌}
 use mathlib.Core.Path.{◌≡◌, refl, sym, ap, ◌∙◌}
-use mathlib.Core.List.{List, [], ◌∷◌, ◌++◌, append_assoc, append-nil}
+use mathlib.Core.List.{List, [], ◌∷◌, ◌++◌, append_assoc}
 use native.Mathlib.Omega.{arith}
 use lib.Dec.{eqb}
-use lib.ListN.{length, take, drop, length-take}
-use borrow.Author.Tests.{eq-eqb, ne_eqb}
+use lib.ListN.{length}
 use Rattle.tables.specs.declared.letters.Conventions.{Conventions}
 use Rattle.tables.specs.Tables.{row_of}
 use Rattle.tables.proofs.Laws.{by_cases}
@@ -14,33 +15,32 @@ use Rattle.reader.specs.declared.auction.Bidding.{Bidding}
 use Rattle.reader.specs.declared.play.Tricks.{Tricks}
 use Rattle.reader.specs.declared.section.Next.{Next}
 use Rattle.reader.specs.declared.section.Open.{Open}
-use Rattle.reader.specs.declared.section.Rows.{Rows}
 use Rattle.reader.specs.declared.section.Walk.{Walk}
 use Rattle.reader.specs.Pieces.{Piece, Out, and_then, out_all}
 use Rattle.reader.specs.PieceSteps.{Emits}
 use Rattle.reader.specs.Auction.{called_piece}
 use Rattle.reader.specs.Play.{played_piece}
 use Rattle.reader.specs.TokenSteps.{Seated}
-use Rattle.reader.specs.Sections.{split_piece, lines_data, section_data, row_stored, rowed_piece, walked, no_walk, walked_all}
+use Rattle.reader.specs.Sections.{split_piece, lines_data, section_data, row_stored, rowed_piece, walked, no_walk, walked_all, kind_of, opener, lines_at, split_off}
 use Rattle.reader.specs.SectionSteps.{data_from, PieceFrom, walk_count, Walks}
 use Rattle.reader.proofs.EntryLaws.{out_count}
 use Rattle.reader.proofs.AuctionLaws.{calls_counted}
 use Rattle.reader.proofs.PlayLaws.{none_seated, tricks_counted}
-use Rattle.reader.proofs.PieceLaws.{adds_none, adds_then, emits_none, ToEmit, to_emit, emitted}
+use Rattle.reader.proofs.PieceLaws.{adds_none, adds_then, ToEmit, to_emit, emitted}
 
 -- ---- the number of entries
 
-walked_count : (c : Conventions) (o : Open) (trump : ℕ) (w : Walk) (q : Piece) → walk_count (walked c o trump w q).state ≡ walk_count w + length (walked c o trump w q).entries
+walked_count : (c : Conventions) (o : Option Open) (trump : ℕ) (w : Walk) (q : Piece) → walk_count (walked c o trump w q).state ≡ walk_count w + length (walked c o trump w q).entries
 unfolding walked
 walked_count c o trump w q =
-    by_cases (eqb o.kind 1)
+    by_cases (eqb (kind_of o) 1)
     (λ e. rw e (omega (arith, calls_counted c w.bidding q)))
     (λ e.
-    by_cases (eqb o.kind 2)
-    (λ f. rw (e, f) (omega (arith, tricks_counted c o.seat trump w.tricks q)))
+    by_cases (eqb (kind_of o) 2)
+    (λ f. rw (e, f) (omega (arith, tricks_counted c (opener o) trump w.tricks q)))
     (λ f. rw (e, f) (omega arith)))
 
-pub walk_count_lem : (c : Conventions) (o : Open) (trump : ℕ) (w : Walk) (qs : List Piece)
+pub walk_count_lem : (c : Conventions) (o : Option Open) (trump : ℕ) (w : Walk) (qs : List Piece)
     → walk_count (out_all (walked c o trump) w qs).state ≡ walk_count w + length (out_all (walked c o trump) w qs).entries
 walk_count_lem c o trump w qs = out_count (walked c o trump) walk_count (walked_count c o trump) w qs
 
@@ -49,7 +49,7 @@ unfolding no_walk
 no_count = refl
 
 -- A section has as many entries as its walk counts.
-pub section_count : (c : Conventions) (r : List ℕ) (o : Open) (trump : ℕ) → walk_count (walked_all c r o trump).state ≡ length (walked_all c r o trump).entries
+pub section_count : (c : Conventions) (r : List ℕ) (o : Option Open) (trump : ℕ) → walk_count (walked_all c r o trump).state ≡ length (walked_all c r o trump).entries
 unfolding walked_all
 section_count c r o trump = omega (arith, no_count, walk_count_lem c o trump no_walk (section_data r o))
 
@@ -66,26 +66,23 @@ start_seated e = rw e no_seated
 pub start_none : {w : Walk} → w ≡ no_walk → walk_count w ≡ 0
 start_none e = rw e no_count
 
-pub piece_called : (c : Conventions) (o : Open) (trump : ℕ) (w : Walk) (q : Piece) (k : ℕ) (l l' : Entries) (b : Bidding) → o.kind ≡ 1
+pub piece_called : (c : Conventions) (o : Open) (trump : ℕ) (w : Walk) (q : Piece) (k : ℕ) (l l' : Entries) (b : Bidding) {dealer : ℕ} → o.kind ≡ Auction dealer
     → Emits l l' b (called_piece c w.bidding q) → b.count ≤ w.bidding.count + 3 * k → Seated w.tricks
-    → Walks (walk_count w + 3 * k) l l' (record { bidding = b; tricks = w.tricks; rows = w.rows }) (walked c o trump w q)
+    → Walks (walk_count w + 3 * k) l l' (record { bidding = b; tricks = w.tricks; rows = w.rows }) (walked c (Some o) trump w q)
 unfolding walked
-piece_called c o trump w q k l l' b h e m s =
-    rw (eq-eqb o.kind 1 h) (record { emits = record { answer = rw e.answer; adds = e.adds }; seated = s; few = omega arith })
+piece_called c o trump w q k l l' b h e m s = rw h (record { emits = record { answer = rw e.answer; adds = e.adds }; seated = s; few = omega arith })
 
-pub piece_played : (c : Conventions) (o : Open) (trump : ℕ) (w : Walk) (q : Piece) (k : ℕ) (l l' : Entries) (t : Tricks) → (o.kind ≡ 1 → ⊥) → o.kind ≡ 2
-    → Emits l l' t (played_piece c o.seat trump w.tricks q) → t.count ≤ w.tricks.count + k → Seated t
-    → Walks (walk_count w + 3 * k) l l' (record { bidding = w.bidding; tricks = t; rows = w.rows }) (walked c o trump w q)
+pub piece_played : (c : Conventions) (o : Open) (trump : ℕ) (w : Walk) (q : Piece) (k : ℕ) (l l' : Entries) (t : Tricks) {lead : ℕ} → o.kind ≡ Play lead
+    → Emits l l' t (played_piece c lead trump w.tricks q) → t.count ≤ w.tricks.count + k → Seated t
+    → Walks (walk_count w + 3 * k) l l' (record { bidding = w.bidding; tricks = t; rows = w.rows }) (walked c (Some o) trump w q)
 unfolding walked
-piece_played c o trump w q k l l' t g h e m s =
-    rw (ne_eqb o.kind 1 g, eq-eqb o.kind 2 h) (record { emits = record { answer = rw e.answer; adds = e.adds }; seated = s; few = omega arith })
+piece_played c o trump w q k l l' t h e m s = rw h (record { emits = record { answer = rw e.answer; adds = e.adds }; seated = s; few = omega arith })
 
-pub piece_row : (c : Conventions) (o : Open) (trump : ℕ) (w : Walk) (q : Piece) (k : ℕ) (l : Entries) (v : Rows) → (o.kind ≡ 1 → ⊥) → (o.kind ≡ 2 → ⊥)
+pub piece_row : (c : Conventions) (o : Open) (trump : ℕ) (w : Walk) (q : Piece) (k : ℕ) (l : Entries) (v : Option (List ℕ)) → o.kind ≡ Optimum
     → v ≡ row_stored (row_of c 0 q.bytes) w.rows → Seated w.tricks
-    → Walks (walk_count w + 3 * k) l l (record { bidding = w.bidding; tricks = w.tricks; rows = v }) (walked c o trump w q)
+    → Walks (walk_count w + 3 * k) l l (record { bidding = w.bidding; tricks = w.tricks; rows = v }) (walked c (Some o) trump w q)
 unfolding walked rowed_piece
-piece_row c o trump w q k l v g h e s =
-    rw (ne_eqb o.kind 1 g, ne_eqb o.kind 2 h) (record { emits = record { answer = rw e; adds = adds_none l }; seated = s; few = omega arith })
+piece_row c o trump w q k l v h e s = rw h (record { emits = record { answer = rw e; adds = adds_none l }; seated = s; few = omega arith })
 
 -- ---- the loop
 
@@ -106,27 +103,27 @@ emitting_run f l₀ o l s xs rest l' s' t e =
     }
 
 -- The walk over the data of the section o, of which the data lines from the place `at` on are left.
-pub record Walking (c : Conventions) (r : List ℕ) (o : Open) (trump : ℕ) (l₀ : Entries) (w : Walk) (at : ℕ) (l : Entries) : Type 0 where
+pub record Walking (c : Conventions) (r : List ℕ) (o : Option Open) (trump : ℕ) (l₀ : Entries) (w : Walk) (at : ℕ) (l : Entries) : Type 0 where
   pub left : ToEmit (walked c o trump) l₀ (walked_all c r o trump) l w (data_from r at)
   pub counted : l.count ≡ l₀.count + walk_count w
   pub seated : Seated w.tricks
-  pub few : walk_count w ≤ 3 * (o.split.len + (at - o.at))
-  pub from_at : o.at ≤ at
+  pub few : walk_count w ≤ 3 * ((split_off o).len + (at - (lines_at o)))
+  pub from_at : lines_at o ≤ at
   pub inside : at ≤ length r
 
-module _ (c : Conventions) (r : List ℕ) (o : Open) (trump : ℕ) (l₀ : Entries) where
-  all_left : ToEmit (walked c o trump) l₀ (walked_all c r o trump) l₀ no_walk (split_piece r o.split ++ lines_data r o)
+module _ (c : Conventions) (r : List ℕ) (o : Option Open) (trump : ℕ) (l₀ : Entries) where
+  all_left : ToEmit (walked c o trump) l₀ (walked_all c r o trump) l₀ no_walk (split_piece r (split_off o) ++ lines_data r o)
   unfolding walked_all section_data
-  all_left = to_emit (walked c o trump) l₀ no_walk (split_piece r o.split ++ lines_data r o)
+  all_left = to_emit (walked c o trump) l₀ no_walk (split_piece r (split_off o) ++ lines_data r o)
 
   -- What was split off the tag line is walked.
-  pub walking : (w₀ w : Walk) (l : Entries) → w₀ ≡ no_walk → o.at ≤ length r
-      → Walks (walk_count w₀ + 3 * o.split.len) l₀ l w (out_all (walked c o trump) w₀ (split_piece r o.split)) → Walking c r o trump l₀ w o.at l
+  pub walking : (w₀ w : Walk) (l : Entries) → w₀ ≡ no_walk → lines_at o ≤ length r
+      → Walks (walk_count w₀ + 3 * (split_off o).len) l₀ l w (out_all (walked c o trump) w₀ (split_piece r (split_off o))) → Walking c r o trump l₀ w (lines_at o) l
   walking w₀ w l e h k =
-      let t : ToEmit (walked c o trump) l₀ (walked_all c r o trump) l₀ w₀ (split_piece r o.split ++ data_from r o.at) = rw e all_left in
+      let t : ToEmit (walked c o trump) l₀ (walked_all c r o trump) l₀ w₀ (split_piece r (split_off o) ++ data_from r (lines_at o)) = rw e all_left in
       record {
-        left = emitting_run (walked c o trump) l₀ (walked_all c r o trump) l₀ w₀ (split_piece r o.split) (data_from r o.at) l w t k.emits;
-        counted = rw k.emits.answer (omega (arith, start_none e, k.emits.adds.count, walk_count_lem c o trump w₀ (split_piece r o.split)));
+        left = emitting_run (walked c o trump) l₀ (walked_all c r o trump) l₀ w₀ (split_piece r (split_off o)) (data_from r (lines_at o)) l w t k.emits;
+        counted = rw k.emits.answer (omega (arith, start_none e, k.emits.adds.count, walk_count_lem c o trump w₀ (split_piece r (split_off o))));
         seated = k.seated;
         few = omega (arith, start_none e, k.few);
         from_at = omega arith;
@@ -150,5 +147,5 @@ module _ (c : Conventions) (r : List ℕ) (o : Open) (trump : ℕ) (l₀ : Entri
       }
 
   pub walk_ended : (w : Walk) (at : ℕ) (l : Entries) → Walking c r o trump l₀ w at l → data_from r at ≡ []
-      → Walks (3 * (o.split.len + (length r - o.at))) l₀ l w (walked_all c r o trump)
+      → Walks (3 * ((split_off o).len + (length r - (lines_at o)))) l₀ l w (walked_all c r o trump)
   walk_ended w at l v e = record { emits = emitted (rw e at v.left); seated = v.seated; few = omega (arith, v.few, v.inside) }

@@ -5,8 +5,8 @@ use mathlib.Core.Bool.{Bool, true, false, cond, ◌&&◌}
 use mathlib.Core.List.{List, [], ◌∷◌}
 use native.Mathlib.Numerals.{add-one}
 use native.Mathlib.Omega.{arith}
-use Rattle.std.specs.Prelude.{Option, Some, None, MatchOption, unwrap_or}
-use Rattle.std.specs.Bool.{MatchBool}
+use Rattle.std.specs.Prelude.{Option, Some, None, MatchOption, IfSome, unwrap_or}
+use Rattle.std.specs.Bool.{MatchBool, then_some}
 use lib.Dec.{eqb}
 use lib.ListN.{length, take, drop, get_or, replicate}
 use borrow.Author.Tests.{eqb-true, eq-eqb, ne_eqb}
@@ -15,7 +15,7 @@ use Rattle.tables.specs.Text.{front, is_inside, first_character}
 use Rattle.tables.specs.Letters.{capital, strain_of, suit_of, rank_of, every}
 use Rattle.tables.proofs.Laws.{by_cases, both, clash}
 use Rattle.tables.proofs.TextLaws.{front_more, front_stop, front_end}
-use Rattle.reader.specs.Words.{same, same_word, level_of, bid_code, bid_of, is_pass, is_underscore, underscore_code, sign_code, call_of, is_doubling, trump_suit, contract_trump, card_number, card_named}
+use Rattle.reader.specs.Words.{same, same_word, level_of, bid_code, bid_of, is_underscore, is_doubling, trump_suit, contract_trump, card_number, card_named}
 
 -- ---- equal texts
 
@@ -77,6 +77,10 @@ underscores_are [] n h = refl
 underscores_are (x ∷ xs) zero h = absurd (omega arith)
 underscores_are (x ∷ xs) (suc n) h = rw (underscores_are xs n (omega arith))
 
+pub code_is : (b : Bool) (v d : ℕ) → v < d → (unwrap_or (then_some b v) d ≡ cond b v d) × IfSome (then_some b v) (λ k. k < d)
+code_is true v d h = (refl, h)
+code_is false v d h = (refl, tt)
+
 pub nothing_is : (t : List ℕ) → same [] t ≡ eqb (length t) 0
 nothing_is [] = refl
 nothing_is (x ∷ xs) = sym (ne_eqb (length (x ∷ xs)) 0 (λ e. omega arith))
@@ -112,8 +116,3 @@ same_is (x ∷ xs) [] e = clash e
 same_is (x ∷ xs) (y ∷ ys) e =
     let h = both (eqb x y) (same xs ys) e in
     rw (eqb-true x y h.0, same_is xs ys h.1)
-
--- Nothing is no call.
-pub call_nothing : (c : Conventions) → call_of c [] ≡ 47
-unfolding is_pass underscore_code sign_code call_of
-call_nothing c = refl

@@ -123,7 +123,7 @@ spelled c p s k h =
     (rw s.plus)
     (λ n b. rw (line_written c n b) (every_replicate p (n + 1) 95 s.underscore))
 
-capital_differs : (b : ℕ) → is_capital b ≡ true → differs 0 b ≡ true
+pub capital_differs : (b : ℕ) → is_capital b ≡ true → differs 0 b ≡ true
 unfolding is_capital
 capital_differs b e = rw (ne_eqb b 0 (λ k. omega (arith, leb-true 65 b (both (leb 65 b) (leb b 90) e).0)))
 

@@ -1,5 +1,9 @@
 -- What a record says besides places fits words of 32 bits: the marks of its entries, the seats of its tricks, and the seats, ends and
 -- trump of its sections.
+use Rattle.reader.specs.Boards.{block_of}
+use Rattle.std.specs.Prelude.{None}
+use Rattle.reader.specs.declared.section.Kind.TheVariants.{Auction, Play, Optimum}
+use Rattle.reader.specs.declared.section.Kind.{Kind}
 use Prim.Native.Nat.{ℕ, ◌+◌, ◌-◌, ◌≤◌, ◌<◌}
 use mathlib.Core.Path.{◌≡◌, sym}
 use mathlib.Core.Bool.{Bool, true, false, cond, ◌&&◌, ◌||◌}
@@ -34,8 +38,8 @@ use Rattle.reader.specs.Pieces.{Piece, Out, out_all, and_then, entry, tokens_of}
 use Rattle.reader.specs.Auction.{call_with, call_parts, call_token_of, annotation, called_by, called, called_piece}
 use Rattle.reader.specs.Play.{no_slots, with_slot, is_full, winner_of, trick_entry, new_trick, next_leader, opened, taking, slot_of, with_card, is_gap, played, played_bytes, played_token, played_piece, one_more, last_trick}
 use Rattle.reader.specs.TokenSteps.{Low}
-use Rattle.reader.specs.Sections.{section_data, walked, no_walk, walked_all, rowed_piece}
-use Rattle.reader.specs.Boards.{is_kept_contract, contract_by, applied, no_span, no_open, at, seat_open, open_by, with_sections, auction_closed, play_closed, rows_closed, table_closed, last_entries, closed_by, closed, adding, tagged, directed, data_added, read_by, is_all_white, with_commentary, blocked, no_state, record_out}
+use Rattle.reader.specs.Sections.{section_data, walked, no_walk, walked_all, rowed_piece, kind_of, opener, kind_number, kind_seat}
+use Rattle.reader.specs.Boards.{is_kept_contract, contract_by, applied, no_span, no_open, at, seat_open, open_by, with_sections, auction_closed, play_closed, rows_closed, rows_taken, table_closed, last_entries, closed_by, closed, adding, tagged, directed, data_added, read_by, is_all_white, with_commentary, blocked, no_state, record_out}
 use Rattle.reader.specs.Plain.{tag_one, AnchoredEntries, free, next}
 use Rattle.reader.proofs.EntryLaws.{All, none, one, all_append}
 use Rattle.reader.proofs.ApplyBounds.{seat_low, trump_low}
@@ -44,7 +48,7 @@ use Rattle.reader.proofs.Counts.{chosen, EntriesFew}
 use Rattle.reader.proofs.PlainCalls.{call_low}
 use Rattle.reader.proofs.PlainAnchors.{TagsBefore}
 use Rattle.reader.proofs.PlainSteps.{HoldsOfRecord}
-use Rattle.std.specs.Prelude.{Ok, Err}
+use Rattle.std.specs.Prelude.{Ok, Err, Option, Some, None}
 
 -- ---- entries
 
@@ -230,26 +234,26 @@ record InWalk (w : Walk) : Type 0 where
   calls_inside : Ends w.bidding
   tricks_in : InPlay w.tricks
 
-walked_step : (c : Conventions) (o : Open) (trump : ℕ) → o.seat ≤ 4 → (w : Walk) (q : Piece) → InWalk w → Step InWalk (walked c o trump w q)
+walked_step : (c : Conventions) (o : Option Open) (trump : ℕ) → opener o ≤ 4 → (w : Walk) (q : Piece) → InWalk w → Step InWalk (walked c o trump w q)
 unfolding walked
 walked_step c o trump low w q h =
     let calls : Out Walk = record { state = record { bidding = (called_piece c w.bidding q).state; tricks = w.tricks; rows = w.rows }; entries = (called_piece c w.bidding q).entries } in
     let cards : Out Walk =
     record {
-      state = record { bidding = w.bidding; tricks = (played_piece c o.seat trump w.tricks q).state; rows = w.rows };
-      entries = (played_piece c o.seat trump w.tricks q).entries;
+      state = record { bidding = w.bidding; tricks = (played_piece c (opener o) trump w.tricks q).state; rows = w.rows };
+      entries = (played_piece c (opener o) trump w.tricks q).entries;
     } in
     let row : Out Walk = record { state = record { bidding = w.bidding; tricks = w.tricks; rows = rowed_piece c w.rows q }; entries = [] } in
     let x = calls_step c w.bidding q h.calls_inside in
-    let y = plays_step c o.seat trump w.tricks q low h.tricks_in in
-    chosen (λ x. Step InWalk x) (eqb o.kind 1) calls (cond (eqb o.kind 2) cards row)
+    let y = plays_step c (opener o) trump w.tricks q low h.tricks_in in
+    chosen (λ x. Step InWalk x) (eqb (kind_of o) 1) calls (cond (eqb (kind_of o) 2) cards row)
     (λ e. record { left = record { calls_inside = x.left; tricks_in = h.tricks_in }; given = x.given })
     (λ e.
-    chosen (λ x. Step InWalk x) (eqb o.kind 2) cards row
+    chosen (λ x. Step InWalk x) (eqb (kind_of o) 2) cards row
     (λ f. record { left = record { calls_inside = h.calls_inside; tricks_in = y.left }; given = y.given })
     (λ f. record { left = record { calls_inside = h.calls_inside; tricks_in = h.tricks_in }; given = none }))
 
-section_step : (c : Conventions) (r : List ℕ) (o : Open) (trump : ℕ) → o.seat ≤ 4 → Step InWalk (walked_all c r o trump)
+section_step : (c : Conventions) (r : List ℕ) (o : Option Open) (trump : ℕ) → opener o ≤ 4 → Step InWalk (walked_all c r o trump)
 unfolding walked_all no_walk
 section_step c r o trump low =
     steps (walked c o trump) InWalk (walked_step c o trump low) no_walk (section_data r o)
@@ -278,33 +282,37 @@ pub record SectionsLow (b : Board) : Type 0 where
   pub trump_of_contract : b.contract ≤ 4
 
 record Ready (s : State) : Type 0 where
-  opener_low : s.section.seat ≤ 4
-  kind_low : s.section.kind ≤ 3
+  opener_low : opener s.section ≤ 4
+  kind_low : kind_of s.section ≤ 3
   board_in : SectionsLow s.board
 
 rows_low : (b : Board) (x : TableReading) → SectionsLow b → SectionsLow (rows_closed b x)
 rows_low b (Ok cells) h = record { auction_seat = h.auction_seat; auction_end = h.auction_end; play_seat = h.play_seat; play_end = h.play_end; trump_in = h.trump_in; trump_of_contract = h.trump_of_contract }
 rows_low b (Err f) h = h
 
-module _ (b : Board) (o : Open) (n : ℕ) (w : Walk) (low : o.seat ≤ 4) (i : InWalk w) (h : SectionsLow b) where
-  auction_low : SectionsLow (auction_closed b o n w)
+module _ (b : Board) (o : Option Open) (n : ℕ) (w : Walk) (low : opener o ≤ 4) (i : InWalk w) (h : SectionsLow b) where
+  auction_low : SectionsLow (auction_closed b (opener o) n w)
   auction_low =
       chosen (λ x. SectionsLow x) w.bidding.any
-      (with_sections b b.table (record { first = n + 1; count = w.bidding.count; seat = o.seat; end = w.bidding.end }) b.play b.trump)
+      (with_sections b b.table (record { first = n + 1; count = w.bidding.count; seat = opener o; end = w.bidding.end }) b.play b.trump)
       b
       (λ e. record { auction_seat = low; auction_end = i.calls_inside; play_seat = h.play_seat; play_end = h.play_end; trump_in = h.trump_in; trump_of_contract = h.trump_of_contract })
       (λ e. h)
 
-  play_low : SectionsLow (play_closed b o n w)
+  play_low : SectionsLow (play_closed b (opener o) n w)
   play_low =
       chosen (λ x. SectionsLow x) w.tricks.any
-      (with_sections b b.table b.auction (record { first = n + 1; count = (last_trick w.tricks).state.count; seat = o.seat; end = w.tricks.end }) b.contract)
+      (with_sections b b.table b.auction (record { first = n + 1; count = (last_trick w.tricks).state.count; seat = opener o; end = w.tricks.end }) b.contract)
       b
       (λ e. record { auction_seat = h.auction_seat; auction_end = h.auction_end; play_seat = low; play_end = i.tricks_in.end_low; trump_in = h.trump_of_contract; trump_of_contract = h.trump_of_contract })
       (λ e. h)
 
   table_low : SectionsLow (table_closed b w)
-  table_low = chosen (λ x. SectionsLow x) w.rows.fault b (rows_closed b (gathered w.rows.cells)) (λ e. h) (λ e. rows_low b (gathered w.rows.cells) h)
+  table_low = go w.rows
+    where
+      go : (t : Option (List ℕ)) → SectionsLow (rows_taken b t)
+      go None = h
+      go (Some cells) = rows_low b (gathered cells) h
 
 closed_step : (c : Conventions) (r : List ℕ) (s : State) → Ready s → Step Ready (closed c r s)
 unfolding closed
@@ -316,7 +324,7 @@ closed_step c r s h =
     let low = h.opener_low in
     let i = x.left in
     let b = h.board_in in
-    chosen (λ o. Step Ready o) (eqb s.section.kind 0) (record { state = s; entries = [] }) (closed_by s w)
+    chosen (λ o. Step Ready o) (eqb (kind_of s.section) 0) (record { state = s; entries = [] }) (closed_by s w)
     (λ e. record { left = h; given = none })
     (λ e.
     record {
@@ -324,35 +332,35 @@ closed_step c r s h =
         opener_low = omega arith;
         kind_low = omega arith;
         board_in =
-            chosen (λ x. SectionsLow x) (eqb o.kind 1) (auction_closed s.board o s.n v) (cond (eqb o.kind 2) (play_closed s.board o s.n v) (table_closed s.board v))
+            chosen (λ x. SectionsLow x) (eqb (kind_of o) 1) (auction_closed s.board (opener o) s.n v) (cond (eqb (kind_of o) 2) (play_closed s.board (opener o) s.n v) (table_closed s.board v))
             (λ f. auction_low s.board o s.n v low i b)
             (λ f.
-            chosen (λ x. SectionsLow x) (eqb o.kind 2) (play_closed s.board o s.n v) (table_closed s.board v)
+            chosen (λ x. SectionsLow x) (eqb (kind_of o) 2) (play_closed s.board (opener o) s.n v) (table_closed s.board v)
             (λ g. play_low s.board o s.n v low i b)
             (λ g. table_low s.board o s.n v low i b));
       };
-      given = all_append x.given (last_said s.section.kind v i);
+      given = all_append x.given (last_said (kind_of s.section) v i);
     })
 
 -- ---- lines
 
-record Opens (o : Open) : Type 0 where
-  seat_in : o.seat ≤ 4
-  kind_in : o.kind ≤ 3
+record Opens (o : Option Open) : Type 0 where
+  seat_in : opener o ≤ 4
+  kind_in : kind_of o ≤ 3
 
 open_low : (c : Conventions) (k : ℕ) (value : List ℕ) (q : ℕ) (split : Span) → Opens (open_by c k value q split)
 unfolding open_by
 open_low c k value q split =
     let seat = seat_of c (first_character value) in
-    let rows : Open = record { kind = 3; seat = 4; at = q; split = split } in
+    let rows : Option Open = Some (record { kind = Optimum; at = q; split = split }) in
     let none_open : Opens no_open = record { seat_in = omega arith; kind_in = omega arith } in
-    let seated : (kind : ℕ) → kind ≤ 3 → Opens (seat_open kind seat q split) = λ kind h.
-    chosen (λ x. Opens x) (ltb seat 4) (record { kind = kind; seat = seat; at = q; split = split }) no_open
-    (λ e. record { seat_in = seat_low c (first_character value); kind_in = h })
+    let seated : (kind : ℕ → Kind) → kind_number (kind seat) ≤ 3 → kind_seat (kind seat) ≤ 4 → Opens (seat_open kind seat q split) = λ kind h g.
+    chosen (λ x. Opens x) (ltb seat 4) (Some (record { kind = kind seat; at = q; split = split })) no_open
+    (λ e. record { seat_in = g; kind_in = h })
     (λ e. none_open) in
-    chosen (λ x. Opens x) (eqb k 15) (seat_open 1 seat q split) (cond (eqb k 16) (seat_open 2 seat q split) (cond (eqb k 19) rows no_open)) (λ e. seated 1 (omega arith))
+    chosen (λ x. Opens x) (eqb k 15) (seat_open Auction seat q split) (cond (eqb k 16) (seat_open Play seat q split) (cond (eqb k 19) rows no_open)) (λ e. seated Auction (omega arith) (seat_low c (first_character value)))
     (λ e.
-    chosen (λ x. Opens x) (eqb k 16) (seat_open 2 seat q split) (cond (eqb k 19) rows no_open) (λ f. seated 2 (omega arith))
+    chosen (λ x. Opens x) (eqb k 16) (seat_open Play seat q split) (cond (eqb k 19) rows no_open) (λ f. seated Play (omega arith) (seat_low c (first_character value)))
     (λ f. chosen (λ x. Opens x) (eqb k 19) rows no_open (λ g. record { seat_in = omega arith; kind_in = omega arith }) (λ g. none_open)))
 
 tagged_step : (c : Conventions) (s : State) (p : ℕ) (l : List ℕ) (q : ℕ) (t : TagPlaces) (split : Span) → Ready s → Step Ready (tagged c s p l q t split)
@@ -390,18 +398,18 @@ maybe_said false e h = one h none
 
 data_step : (s : State) (p : ℕ) (d : Span) → Ready s → Step Ready (data_added s p d)
 data_step s p d h =
-    let k = s.section.kind in
+    let k = (kind_of s.section) in
     let e = entry 5 (p + d.start) d.len k in
     adding_step s (cond (eqb k 0) [] (e ∷ [])) h (maybe_said (eqb k 0) e (other_said 5 (p + d.start) d.len k (omega arith) (omega (arith, h.kind_low))))
 
-commentary_ready : (s : State) (b : Bool) (n : ℕ) → Ready s → Ready (with_commentary s b n)
-commentary_ready s b n h = record { opener_low = h.opener_low; kind_low = h.kind_low; board_in = h.board_in }
+commentary_ready : (s : State) (o : Option ℕ) → Ready s → Ready (with_commentary s o)
+commentary_ready s o h = record { opener_low = h.opener_low; kind_low = h.kind_low; board_in = h.board_in }
 
 blocked_step : (r : List ℕ) (s : State) (i j : ℕ) → Ready s → Step Ready (blocked r s i j)
 unfolding blocked
 blocked_step r s i j h =
     let e = entry 4 i (j - i) s.tags in
-    adding_step (with_commentary s false 0) (cond (is_all_white r i j) [] (e ∷ [])) (commentary_ready s false 0 h) (maybe_said (is_all_white r i j) e (block_said i (j - i) s.tags))
+    adding_step (with_commentary s None) (cond (is_all_white r i j) [] (e ∷ [])) (commentary_ready s None h) (maybe_said (is_all_white r i j) e (block_said i (j - i) s.tags))
 
 then_step : (o k : Out State) → Step Ready o → Step Ready k → Step Ready (and_then o k)
 then_step o k a b = record { left = b.left; given = all_append a.given b.given }
@@ -439,9 +447,9 @@ record_step c r =
           closing = λ p s. record { keeps = closed_step c r s };
           idle = λ p s l i n. record { keeps = λ h. record { left = h; given = none } };
           quiet = λ p s l i n k. record { keeps = λ h. record { left = h; given = none } };
-          opening = λ p s l i n k b. record { keeps = λ h. record { left = commentary_ready s true (p + length (lead l) + 1) h; given = none } };
+          opening = λ p s l i n k b. record { keeps = λ h. record { left = commentary_ready s (Some (p + length (lead l) + 1)) h; given = none } };
           bracing = λ p s l i n k b. record { keeps = blocked_step r s (p + length (lead l) + 1) (p + last_brace l) };
-          commentary = λ p s l i n k. record { keeps = blocked_step r s s.block (p + last_brace l) };
+          commentary = λ p s l i n k. record { keeps = blocked_step r s (block_of s) (p + last_brace l) };
           directing = λ p s l d i n k. record { keeps = directed_step s p d };
           dating = λ p s l d i n k. record { keeps = data_step s p d };
           tagging = λ p s l t i k. record { keeps = reading_step c s p l (p + length l) t };

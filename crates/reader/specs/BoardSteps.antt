@@ -1,24 +1,23 @@
 -- Parts of a line's step, and what the functions that read a line promise of the state after it.
-use Rattle.std.specs.Prelude.{ℕ, ◌+◌, ◌≤◌, ◌≡◌, List, [], cond, length}
+use Rattle.reader.specs.Boards.{block_of}
+use Rattle.std.specs.Prelude.{ℕ, ◌+◌, ◌≤◌, ◌≡◌, [], Some, None, length}
+use Rattle.tables.specs.Numbers.{Number}
+use Rattle.reader.specs.Sections.{lines_at, split_off}
 use Rattle.reader.specs.declared.tag.Span.{Span}
 use Rattle.reader.specs.declared.line.TagReading.{TagReading}
 use Rattle.reader.specs.declared.line.TagReading.TheVariants.{Plain, WithComment, WithData}
-use Rattle.reader.specs.declared.board.Values.{Values}
 use Rattle.reader.specs.declared.board.State.{State}
 use Rattle.reader.specs.declared.section.Walk.{Walk}
 use Rattle.reader.specs.Pieces.{Out}
 use Rattle.reader.specs.declared.store.Entries.{Entries}
 use Rattle.reader.specs.PieceSteps.{Adds, Emits}
 use Rattle.reader.specs.SectionSteps.{walk_count}
-use Rattle.reader.specs.Boards.{is_kept_value, value_put, no_span, last_entries, data_entries, at}
+use Rattle.reader.specs.Boards.{no_span, last_entries, at}
 
--- The values after a tag other than Deal.
-unfoldable pub values_put : ℕ → List ℕ → ℕ → Values → Values
-values_put k value place v = cond (is_kept_value k value) (value_put k place v) v
-
--- The entries of a data line, and how many they are.
-abbrev pub data_out : ℕ → ℕ → Span → Out ℕ
-data_out kind p d = record { state = length (data_entries kind p d); entries = data_entries kind p d }
+-- Whether there is a number, 1 or 0, and the number.
+abbrev pub met_words : Number → ℕ × ℕ
+met_words None = (0, 0)
+met_words (Some v) = (1, v)
 
 -- What is split off a tag line as section data.
 abbrev pub split_in : ℕ → TagReading → Span
@@ -33,12 +32,9 @@ unchanged s = record { state = s; entries = [] }
 -- ---- what holds of a state at the place p of a record: its section starts at or before p, its block at p + 1 or before
 
 pub record Sound (p : ℕ) (s : State) : Type 0 where
-  pub kind_low : s.section.kind ≤ 3
-  pub seat_low : s.section.seat ≤ 4
-  pub leader_low : s.section.kind ≡ 2 → s.section.seat ≤ 3
-  pub lines_before : s.section.at ≤ p
-  pub split_before : s.section.split.start + s.section.split.len ≤ p
-  pub block_before : s.block ≤ p + 1
+  pub lines_before : lines_at s.section ≤ p
+  pub split_before : (split_off s.section).start + (split_off s.section).len ≤ p
+  pub block_before : block_of s ≤ p + 1
 
 -- The contract of a step: its answer and its entries, and what holds after it at q.
 pub record Stepped (q : ℕ) (l l' : Entries) (r : State) (o : Out State) : Type 0 where

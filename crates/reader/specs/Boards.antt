@@ -1,6 +1,8 @@
 -- A board: what each line of its record does to it, and the entries that the line adds. Places are counted from the record's
 -- start, entries from its first.
-use Rattle.std.specs.Prelude.{ℕ, ◌+◌, ◌-◌, List, [], ◌∷◌, ◌++◌, Bool, true, false, cond, ◌&&◌, ◌||◌, not, ltb, eqb, length, replicate, Some, None, Option, Ok, Err}
+use Rattle.reader.specs.declared.section.Kind.TheVariants.{Auction, Play, Optimum}
+use Rattle.reader.specs.declared.section.Kind.{Kind}
+use Rattle.std.specs.Prelude.{ℕ, ◌+◌, ◌-◌, List, [], ◌∷◌, ◌++◌, Bool, false, cond, ◌&&◌, ◌||◌, not, ltb, eqb, length, replicate, Some, None, Option, is_some, unwrap_or, Ok, Err}
 use Rattle.tables.specs.declared.letters.Conventions.{Conventions}
 use Rattle.tables.specs.Text.{is_white, lead, trimmed, first_character}
 use Rattle.tables.specs.Numbers.{Number, number_of, signed_of}
@@ -30,7 +32,7 @@ use Rattle.reader.specs.Deals.{DealRead, deal_of, hand_words}
 use Rattle.reader.specs.Pieces.{Out, and_then, entry, raw_lines}
 use Rattle.reader.specs.Tag.{cut}
 use Rattle.reader.specs.Play.{last_trick}
-use Rattle.reader.specs.Sections.{walked_all}
+use Rattle.reader.specs.Sections.{walked_all, kind_of, opener}
 
 -- ---- what a tag's value does to a board
 
@@ -138,52 +140,57 @@ applied c k value place b =
 abbrev pub no_span : Span
 no_span = record { start = 0; len = 0 }
 
-abbrev pub no_open : Open
-no_open = record { kind = 0; seat = 4; at = 0; split = no_span }
+abbrev pub no_open : Option Open
+no_open = None
 
 -- A section with a seat: none where the seat is bad.
-abbrev pub seat_open : ℕ → ℕ → ℕ → Span → Open
-seat_open kind seat at split = cond (ltb seat 4) (record { kind = kind; seat = seat; at = at; split = split }) no_open
+abbrev pub seat_open : (ℕ → Kind) → ℕ → ℕ → Span → Option Open
+seat_open kind seat at split = cond (ltb seat 4) (Some (record { kind = kind seat; at = at; split = split })) no_open
 
 -- Auction, Play and OptimumResultTable open a section; at is where the lines after the tag start.
-unfoldable pub open_by : Conventions → ℕ → List ℕ → ℕ → Span → Open
+unfoldable pub open_by : Conventions → ℕ → List ℕ → ℕ → Span → Option Open
 open_by c k value at split =
-    cond (eqb k auction_name) (seat_open 1 (seat_of c (first_character value)) at split)
-    (cond (eqb k play_name) (seat_open 2 (seat_of c (first_character value)) at split)
-    (cond (eqb k optimum_result_table_name) (record { kind = 3; seat = 4; at = at; split = split }) no_open))
+    cond (eqb k auction_name) (seat_open Auction (seat_of c (first_character value)) at split)
+    (cond (eqb k play_name) (seat_open Play (seat_of c (first_character value)) at split)
+    (cond (eqb k optimum_result_table_name) (Some (record { kind = Optimum; at = at; split = split })) no_open))
 
 abbrev pub with_sections : Board → TableCard → Section → Section → ℕ → Board
 with_sections b table auction play trump = record b { table = table; auction = auction; play = play; trump = trump }
 
 -- The board after its open section: a section with tokens replaces an earlier one; a whole table of rows wins.
-abbrev pub auction_closed : Board → Open → ℕ → Walk → Board
-auction_closed b o n w =
+abbrev pub auction_closed : Board → ℕ → ℕ → Walk → Board
+auction_closed b dealer n w =
     cond w.bidding.any
-    (with_sections b b.table (record { first = n + 1; count = w.bidding.count; seat = o.seat; end = w.bidding.end }) b.play b.trump)
+    (with_sections b b.table (record { first = n + 1; count = w.bidding.count; seat = dealer; end = w.bidding.end }) b.play b.trump)
     b
 
-abbrev pub play_closed : Board → Open → ℕ → Walk → Board
-play_closed b o n w =
+abbrev pub play_closed : Board → ℕ → ℕ → Walk → Board
+play_closed b leader n w =
     cond w.tricks.any
-    (with_sections b b.table b.auction (record { first = n + 1; count = (last_trick w.tricks).state.count; seat = o.seat; end = w.tricks.end }) b.contract)
+    (with_sections b b.table b.auction (record { first = n + 1; count = (last_trick w.tricks).state.count; seat = leader; end = w.tricks.end }) b.contract)
     b
 
 abbrev pub rows_closed : Board → TableReading → Board
 rows_closed b (Ok cells) = with_sections b (record { kind = 2; cells = cells }) b.auction b.play b.trump
 rows_closed b (Err f) = b
 
-abbrev pub table_closed : Board → Walk → Board
-table_closed b w = cond w.rows.fault b (rows_closed b (gathered w.rows.cells))
+-- The cells of a table's rows, none after a bad row.
+abbrev pub rows_taken : Board → Option (List ℕ) → Board
+rows_taken b None = b
+rows_taken b (Some cells) = rows_closed b (gathered cells)
 
-abbrev pub board_closed : Board → Open → ℕ → Walk → Board
-board_closed b o n w = cond (eqb o.kind 1) (auction_closed b o n w) (cond (eqb o.kind 2) (play_closed b o n w) (table_closed b w))
+abbrev pub table_closed : Board → Walk → Board
+table_closed b w = rows_taken b w.rows
+
+abbrev pub board_closed : Board → Option Open → ℕ → Walk → Board
+board_closed b o n w = cond (eqb (kind_of o) 1) (auction_closed b (opener o) n w) (cond (eqb (kind_of o) 2) (play_closed b (opener o) n w) (table_closed b w))
 
 -- Calls and tricks stand where their section closes; the trick that is open then is the last.
 abbrev pub last_entries : ℕ → Walk → List Entry
 last_entries kind w = cond (eqb kind 2) (last_trick w.tricks).entries []
 
-abbrev pub closed_entries : Open → Out Walk → List Entry
-closed_entries o w = w.entries ++ last_entries o.kind w.state
+abbrev pub closed_entries : Option Open → Out Walk → List Entry
+closed_entries o w = w.entries ++ last_entries (kind_of o) w.state
 
 abbrev pub closed_state : State → Board → ℕ → State
 closed_state s b k = record s { board = b; section = no_open; n = s.n + k }
@@ -196,7 +203,7 @@ closed_by s w =
     }
 
 unfoldable pub closed : Conventions → List ℕ → State → Out State
-closed c r s = cond (eqb s.section.kind 0) (record { state = s; entries = [] }) (closed_by s (walked_all c r s.section s.board.contract))
+closed c r s = cond (eqb (kind_of s.section) 0) (record { state = s; entries = [] }) (closed_by s (walked_all c r s.section s.board.contract))
 
 -- ---- lines
 
@@ -215,8 +222,7 @@ tagged c s p l q t split =
         section = open_by c (tag_number (cut t.name l)) (cut t.value l) q split;
         tags = s.tags + 1;
         n = s.n + 2;
-        commentary = false;
-        block = s.block;
+        commentary = None;
       };
       entries = entry 1 (p + t.name.start) t.name.len 0 ∷ entry 2 (p + t.value.start) t.value.len 0 ∷ [];
     }
@@ -225,13 +231,13 @@ tagged c s p l q t split =
 abbrev pub directed : State → ℕ → Span → Out State
 directed s p d = adding s (entry 3 (p + d.start) d.len s.tags ∷ [])
 
--- The entry of a data line, where a section of the kind is open.
-abbrev pub data_entries : ℕ → ℕ → Span → List Entry
-data_entries kind p d = cond (eqb kind 0) [] (entry 5 (p + d.start) d.len kind ∷ [])
+-- The entry of a data line, where a section is open.
+abbrev pub data_entries : Option Open → ℕ → Span → List Entry
+data_entries o p d = cond (eqb (kind_of o) 0) [] (entry 5 (p + d.start) d.len (kind_of o) ∷ [])
 
 -- A data line: its entry, if a section is open.
 abbrev pub data_added : State → ℕ → Span → Out State
-data_added s p d = adding s (data_entries s.section.kind p d)
+data_added s p d = adding s (data_entries s.section p d)
 
 -- A part of the line at p, as a part of the record.
 abbrev pub at : ℕ → Span → Span
@@ -250,21 +256,28 @@ tag_line_out c r s p l t = and_then (closed c r s) (read_by c (closed c r s).sta
 abbrev pub is_all_white : List ℕ → ℕ → ℕ → Bool
 is_all_white r i j = every is_white (cut (record { start = i; len = j - i }) r)
 
-abbrev pub with_commentary : State → Bool → ℕ → State
-with_commentary s commentary block = record s { commentary = commentary; block = block }
+abbrev pub with_commentary : State → Option ℕ → State
+with_commentary s commentary = record s { commentary = commentary }
+
+-- Whether commentary is open, and where its block starts.
+abbrev pub in_block : State → Bool
+in_block s = is_some s.commentary
+
+abbrev pub block_of : State → ℕ
+block_of s = unwrap_or s.commentary 0
 
 unfoldable pub blocked : List ℕ → State → ℕ → ℕ → Out State
-blocked r s i j = adding (with_commentary s false 0) (cond (is_all_white r i j) [] (entry 4 i (j - i) s.tags ∷ []))
+blocked r s i j = adding (with_commentary s None) (cond (is_all_white r i j) [] (entry 4 i (j - i) s.tags ∷ []))
 
 -- A line that opens commentary; its block starts after the `{`.
 unfoldable pub braced : List ℕ → State → ℕ → List ℕ → Out State
 braced r s p l =
     cond (has_brace l) (blocked r s (p + length (lead l) + 1) (p + last_brace l))
-    (record { state = with_commentary s true (p + length (lead l) + 1); entries = [] })
+    (record { state = with_commentary s (Some (p + length (lead l) + 1)); entries = [] })
 
 -- A line inside commentary.
 unfoldable pub in_commentary : List ℕ → State → ℕ → List ℕ → Out State
-in_commentary r s p l = cond (has_brace l) (blocked r s s.block (p + last_brace l)) (record { state = s; entries = [] })
+in_commentary r s p l = cond (has_brace l) (blocked r s (block_of s) (p + last_brace l)) (record { state = s; entries = [] })
 
 abbrev pub line_by : Conventions → List ℕ → State → ℕ → List ℕ → Line → Out State
 line_by c r s p l Blank = record { state = s; entries = [] }
@@ -276,7 +289,7 @@ line_by c r s p l (Data d) = data_added s p d
 
 -- One line of the record r, at p.
 unfoldable pub line_out : Conventions → List ℕ → State → ℕ → List ℕ → Out State
-line_out c r s p l = cond s.commentary (in_commentary r s p l) (line_by c r s p l (line_kind l))
+line_out c r s p l = cond (in_block s) (in_commentary r s p l) (line_by c r s p l (line_kind l))
 
 -- The record's lines from p on; at its end an open section is closed.
 abbrev pub lines_out : Conventions → List ℕ → State → ℕ → List (List ℕ) → Out State
@@ -302,7 +315,7 @@ no_board =
     }
 
 abbrev pub no_state : State
-no_state = record { board = no_board; section = no_open; tags = 0; n = 0; commentary = false; block = 0 }
+no_state = record { board = no_board; section = no_open; tags = 0; n = 0; commentary = None }
 
 -- What the text of a record reads as: its board, and its entries.
 unfoldable pub record_out : Conventions → List ℕ → Out State

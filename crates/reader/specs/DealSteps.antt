@@ -21,8 +21,12 @@ cards_placed x o = o >>= place x
 unfoldable pub hand_into : Conventions → ℕ → List ℕ → HandRead
 hand_into c x t = cards_placed x (cards_named c t)
 
+-- The card k put to the cards x.
+abbrev pub card_added : ℕ → ℕ → HandRead
+card_added x k = cond (has k x) None (Some (x + 2 ^ k))
+
 unfoldable pub add_card : Conventions → ℕ → ℕ → ℕ → HandRead
-add_card c x s b = cond (eqb (rank_of c b) 13) None (cond (has (13 * s + rank_of c b) x) None (Some (x + 2 ^ (13 * s + rank_of c b))))
+add_card c x s b = cond (eqb (rank_of c b) 13) None (card_added x (13 * s + rank_of c b))
 
 -- One byte: a dot (46) ends a suit, any other byte is a card.
 unfoldable pub step_of : Conventions → PartHand → ℕ → Option PartHand

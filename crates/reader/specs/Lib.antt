@@ -3,14 +3,13 @@ pub mod Tag
 pub mod TagSteps
 pub mod Lines
 pub mod LineSteps
+pub mod Tokens
 pub mod Words
 pub mod Names
-pub mod NameSteps
 pub mod Deals
 pub mod DealSteps
 pub mod Pieces
 pub mod PieceSteps
-pub mod LineWalk
 pub mod Auction
 pub mod TokenSteps
 pub mod Play

@@ -14,7 +14,7 @@ CallInside Annotation n = Unit {0}
 CallInside (Call code k) n = k ≤ n
 CallInside NoCall n = Unit {0}
 
--- What holds of a play throughout: slots are bytes, seats are in range; and of an open trick besides: a seat is left.
+-- What holds of a play throughout: slots and the leader are bytes, the winner and the seats taken at most 4; and of an open trick besides: a seat is left.
 pub record Low (s : Slots) : Type 0 where
   pub a_low : s.a ≤ 255
   pub b_low : s.b ≤ 255
@@ -22,7 +22,7 @@ pub record Low (s : Slots) : Type 0 where
   pub d_low : s.d ≤ 255
 
 pub record Seated (t : Tricks) : Type 0 where
-  pub leader_low : t.leader ≤ 4
+  pub leader_low : t.leader ≤ 255
   pub winner_low : t.winner ≤ 4
   pub seat_low : t.seat ≤ 4
   pub slots_low : Low t.slots

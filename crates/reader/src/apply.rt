@@ -1,16 +1,18 @@
 // What a tag does to a board, and the section that it opens (apply_tag).
-ghost use Rattle.std.specs.Prelude.{◌≡◌, ◌≤◌};
+ghost use Rattle.std.specs.Prelude.{◌≡◌, ◌≤◌, ℕ, cond, eqb, length};
 ghost use Rattle.tables.specs.Text.{first_character};
 ghost use Rattle.tables.specs.Letters.{seat_of};
-ghost use Rattle.reader.specs.Words.{vulnerability_of};
-ghost use Rattle.reader.specs.Names.{deal_name, double_dummy_tricks_name, number_of};
-ghost use Rattle.reader.specs.Boards.{with_number, with_result, identity_by, parsed_deal, table_by, is_kept_contract, contract_by, is_kept_value, value_put, applied, no_open, seat_open, open_by, no_board};
-ghost use Rattle.reader.specs.BoardSteps.{values_put};
+ghost use Rattle.reader.specs.Names.{deal_name, contract_name, double_dummy_tricks_name, number_of};
+ghost use Rattle.reader.specs.Boards.{with_number, with_result, parsed_deal, table_by, is_kept_contract, applied, open_by, no_board};
+ghost use Rattle.reader.specs.BoardSteps.{met_words};
 
-use crate::board::{Board, DealCard, Identity, Section, TableCard, Values};
+use crate::board::{
+    Board, DIGITS, DealCard, Identity, NO_DEAL, NO_TABLE, PARSED, ROWS, Section, TableCard,
+    UNPARSED, Values,
+};
 use crate::deal::{Hands, hand_words, read_deal};
 use crate::names::TagName;
-use crate::section::{AUCTION, NO_SECTION, OPTIMUM, Open, PLAY};
+use crate::section::{Kind, Open};
 use crate::tag::Span;
 use crate::words::{contract_trump, same, vulnerability_of};
 use tables::dd::dd_table_from_pbn;
@@ -18,66 +20,42 @@ use tables::letters::{Conventions, seat_of};
 use tables::numbers::{parse_number, parse_signed};
 use tables::text::{first_character, trim};
 
-// The seat that a value's first character names, 4 where it names none.
+// The seat that a value's first character names, 4 where it names none, as words 4 and 6 of a card say it in C.
 fn seat_in(c: Conventions, value: &[u8]) -> usize
     ensures { (result ≡ seat_of c (first_character value.now)) × (result ≤ 4) }
 {
     usize::from(seat_of(c, first_character(value)).unwrap_or(4))
 }
 
-fn with_number(mut i: Identity, n: Option<u32>) -> Identity
+// Whether there is a number, and the number: two words of a card.
+fn met_words(n: Option<u32>) -> (usize, usize)
+    ensures { result ≡ met_words n }
+{
+    match n {
+        Some(v) => (1, v as usize),
+        None => (0, 0),
+    }
+}
+
+fn with_number(i: Identity, n: Option<u32>) -> Identity
     ensures { result ≡ with_number i n }
 {
-    match n {
-        Some(v) => {
-            i.number_met = 1;
-            i.number = v as usize;
-        }
-        None => {
-            i.number_met = 0;
-            i.number = 0;
-        }
+    let (number_met, number) = met_words(n);
+    Identity {
+        number_met,
+        number,
+        ..i
     }
-    i
 }
 
-fn with_result(mut i: Identity, n: Option<u32>) -> Identity
+fn with_result(i: Identity, n: Option<u32>) -> Identity
     ensures { result ≡ with_result i n }
 {
-    match n {
-        Some(v) => {
-            i.result_met = 1;
-            i.result = v as usize;
-        }
-        None => {
-            i.result_met = 0;
-            i.result = 0;
-        }
-    }
-    i
-}
-
-// Board, Dealer, Vulnerable, Declarer, Result.
-#[tactic(auto, unfolding(crate::specs::Boards::identity_by))]
-fn identity_by(c: Conventions, k: Option<TagName>, value: &[u8], mut i: Identity) -> Identity
-    ensures { result ≡ identity_by c (number_of k) value.now i }
-{
-    match k {
-        Some(TagName::Board) => with_number(i, parse_number(value, 4294967295)),
-        Some(TagName::Dealer) => {
-            i.dealer = seat_in(c, value);
-            i
-        }
-        Some(TagName::Vulnerable) => {
-            i.vulnerability = vulnerability_of(value) as usize;
-            i
-        }
-        Some(TagName::Declarer) => {
-            i.declarer = seat_in(c, value);
-            i
-        }
-        Some(TagName::Result) => with_result(i, parse_signed(value, 128)),
-        _ => i,
+    let (result_met, result) = met_words(n);
+    Identity {
+        result_met,
+        result,
+        ..i
     }
 }
 
@@ -86,25 +64,24 @@ fn parsed_deal(h: Hands, d: DealCard) -> DealCard
     ensures { result ≡ parsed_deal h d }
 {
     DealCard {
-        kind: if d.kind == 2 { 2 } else { 1 },
+        kind: if d.kind == UNPARSED { UNPARSED } else { PARSED },
         words: hand_words(h),
     }
 }
 
 // Deal: read once, for the hands and for the value that is kept.
-fn deal_tag(c: Conventions, value: &[u8], place: usize, mut b: Board) -> Board
-    ensures { result ≡ applied c deal_name value.now place b }
+#[tactic(auto, unfolding(crate::specs::Boards::applied, crate::specs::Boards::identity_by, crate::specs::Boards::deal_by, crate::specs::Boards::table_by, crate::specs::Boards::values_by, crate::specs::Boards::is_kept, crate::specs::Boards::is_kept_value, crate::specs::Boards::contract_by))]
+fn deal_tag(c: Conventions, value: &[u8], place: usize, b: &mut Board)
+    ensures { b.new ≡ applied c deal_name value.now place b.old }
 {
-    let Some(h) = read_deal(c, value) else {
-        if trim(value).len() == 0 {
-            return b;
+    match read_deal(c, value) {
+        Some(h) => b.deal = parsed_deal(h, b.deal),
+        None if trim(value).is_empty() => {}
+        None => {
+            b.deal.kind = UNPARSED;
+            b.values.deal = place;
         }
-        b.deal.kind = 2;
-        b.values.deal = place;
-        return b;
-    };
-    b.deal = parsed_deal(h, b.deal);
-    b
+    }
 }
 
 // DoubleDummyTricks: never over a table of an OptimumResultTable.
@@ -113,13 +90,16 @@ fn table_by(value: &[u8], t: TableCard) -> TableCard
     ensures { result ≡ table_by double_dummy_tricks_name value.now t }
 {
     let kind = t.kind;
-    if kind == 2 {
+    if kind == ROWS {
         return t;
     }
     match dd_table_from_pbn(value) {
-        Ok(cells) => TableCard { kind: 1, cells },
+        Ok(cells) => TableCard {
+            kind: DIGITS,
+            cells,
+        },
         Err(_) => TableCard {
-            kind: 0,
+            kind: NO_TABLE,
             cells: [0; 20],
         },
     }
@@ -129,117 +109,67 @@ fn table_by(value: &[u8], t: TableCard) -> TableCard
 fn is_kept_contract(value: &[u8]) -> bool
     ensures { result ≡ is_kept_contract value.now }
 {
-    !(value.len() == 0) & !same(b"?", value)
+    !value.is_empty() & !same(b"?", value)
 }
 
-#[tactic(auto, unfolding(crate::specs::Boards::contract_by))]
-fn contract_by(c: Conventions, k: Option<TagName>, value: &[u8], trump: usize) -> usize
-    ensures { result ≡ contract_by c (number_of k) value.now trump }
+// Contract: kept, and the trump of a play after it.
+#[tactic(auto, unfolding(crate::specs::Boards::applied, crate::specs::Boards::identity_by, crate::specs::Boards::deal_by, crate::specs::Boards::table_by, crate::specs::Boards::values_by, crate::specs::Boards::is_kept, crate::specs::Boards::is_kept_value, crate::specs::Boards::contract_by))]
+fn contract_tag(c: Conventions, value: &[u8], place: usize, b: &mut Board)
+    ensures { b.new ≡ applied c contract_name value.now place b.old }
 {
-    if matches!(k, Some(TagName::Contract)) && is_kept_contract(value) {
-        return contract_trump(c, value) as usize;
-    }
-    trump
-}
-
-// Whether the value of a tag other than Deal is kept.
-#[tactic(auto, unfolding(crate::specs::Boards::is_kept_value))]
-fn is_kept(k: Option<TagName>, value: &[u8]) -> bool
-    ensures { result ≡ is_kept_value (number_of k) value.now }
-{
-    match k {
-        Some(TagName::Contract) => is_kept_contract(value),
-        Some(TagName::OptimumScore) | Some(TagName::ParContract) => true,
-        _ => value.len() != 0,
+    if is_kept_contract(value) {
+        b.contract = usize::from(contract_trump(c, value));
+        b.values.contract = place;
     }
 }
 
-fn value_put(k: Option<TagName>, place: usize, mut v: Values) -> Values
-    ensures { result ≡ value_put (number_of k) place v }
+// The entry of a value: the one before where the value is empty.
+fn kept(value: &[u8], place: usize, before: usize) -> usize
+    ensures { result ≡ cond (eqb (length value.now) 0) before place }
 {
-    match k {
-        Some(TagName::Board) => v.id = place,
-        Some(TagName::Deal) => v.deal = place,
-        Some(TagName::Event) => v.event = place,
-        Some(TagName::Site) => v.site = place,
-        Some(TagName::Date) => v.date = place,
-        Some(TagName::Contract) => v.contract = place,
-        Some(TagName::North) => v.north = place,
-        Some(TagName::East) => v.east = place,
-        Some(TagName::South) => v.south = place,
-        Some(TagName::West) => v.west = place,
-        Some(TagName::OptimumScore) => v.score = place,
-        Some(TagName::ParContract) => v.par = place,
-        _ => {}
-    }
-    v
-}
-
-#[tactic(auto, unfolding(crate::specs::BoardSteps::values_put))]
-fn values_by(k: Option<TagName>, value: &[u8], place: usize, v: Values) -> Values
-    ensures { result ≡ values_put (number_of k) value.now place v }
-{
-    if is_kept(k, value) {
-        return value_put(k, place, v);
-    }
-    v
+    if value.is_empty() { before } else { place }
 }
 
 // A board after a tag whose name is k; place is the value's entry plus 1.
+#[tactic(auto, using(crate::proofs::ApplyLaws::same_values), unfolding(crate::specs::Boards::applied, crate::specs::Boards::identity_by, crate::specs::Boards::deal_by, crate::specs::Boards::table_by, crate::specs::Boards::values_by, crate::specs::Boards::is_kept, crate::specs::Boards::is_kept_value, crate::specs::Boards::contract_by))]
 pub(crate) fn apply_tag(
     c: Conventions,
     k: Option<TagName>,
     value: &[u8],
     place: usize,
-    mut b: Board,
-) -> Board
-    ensures { result ≡ applied c (number_of k) value.now place b }
+    b: &mut Board,
+)
+    ensures { b.new ≡ applied c (number_of k) value.now place b.old }
 {
     let Some(name) = k else {
-        return b;
+        return;
     };
     match name {
-        TagName::Note => b,
+        TagName::Board => {
+            b.id = with_number(b.id, parse_number(value, 4294967295));
+            b.values.id = kept(value, place, b.values.id);
+        }
+        TagName::Dealer => b.id.dealer = seat_in(c, value),
+        TagName::Vulnerable => b.id.vulnerability = usize::from(vulnerability_of(value)),
         TagName::Deal => deal_tag(c, value, place, b),
-        TagName::DoubleDummyTricks => {
-            b.table = table_by(value, b.table);
-            b
-        }
-        _ => {
-            b.id = identity_by(c, k, value, b.id);
-            b.values = values_by(k, value, place, b.values);
-            b.contract = contract_by(c, k, value, b.contract);
-            b
-        }
+        TagName::Event => b.values.event = kept(value, place, b.values.event),
+        TagName::Site => b.values.site = kept(value, place, b.values.site),
+        TagName::Date => b.values.date = kept(value, place, b.values.date),
+        TagName::Declarer => b.id.declarer = seat_in(c, value),
+        TagName::Contract => contract_tag(c, value, place, b),
+        TagName::Result => b.id = with_result(b.id, parse_signed(value, 128)),
+        TagName::North => b.values.north = kept(value, place, b.values.north),
+        TagName::East => b.values.east = kept(value, place, b.values.east),
+        TagName::South => b.values.south = kept(value, place, b.values.south),
+        TagName::West => b.values.west = kept(value, place, b.values.west),
+        TagName::DoubleDummyTricks => b.table = table_by(value, b.table),
+        TagName::OptimumScore => b.values.score = place,
+        TagName::ParContract => b.values.par = place,
+        TagName::Auction | TagName::Play | TagName::Note | TagName::OptimumResultTable => {}
     }
 }
 
-pub(crate) fn no_open() -> Open
-    ensures { result ≡ no_open }
-{
-    Open {
-        kind: NO_SECTION,
-        seat: 4,
-        at: 0,
-        split: Span { start: 0, len: 0 },
-    }
-}
-
-fn seat_open(kind: usize, seat: usize, at: usize, split: Span) -> Open
-    ensures { result ≡ seat_open kind seat at split }
-{
-    if seat < 4 {
-        return Open {
-            kind,
-            seat,
-            at,
-            split,
-        };
-    }
-    no_open()
-}
-
-// The section that a tag opens.
+// The section that a tag opens; none where it names no seat that it has to.
 #[tactic(auto, unfolding(crate::specs::Boards::open_by))]
 pub(crate) fn open_by(
     c: Conventions,
@@ -247,20 +177,16 @@ pub(crate) fn open_by(
     value: &[u8],
     at: usize,
     split: Span,
-) -> Open
-    ensures { (result ≡ open_by c (number_of k) value.now at split) × (result.seat ≤ 4) × (result.kind ≤ 3) × (result.kind ≡ 2 → result.seat ≤ 3) × (result.kind ≡ 1 → result.seat ≤ 3) }
+) -> Option<Open>
+    ensures { result ≡ open_by c (number_of k) value.now at split }
 {
-    match k {
-        Some(TagName::Auction) => seat_open(AUCTION, seat_in(c, value), at, split),
-        Some(TagName::Play) => seat_open(PLAY, seat_in(c, value), at, split),
-        Some(TagName::OptimumResultTable) => Open {
-            kind: OPTIMUM,
-            seat: 4,
-            at,
-            split,
-        },
-        _ => no_open(),
-    }
+    let kind = match k {
+        Some(TagName::Auction) => Kind::Auction(seat_of(c, first_character(value))?),
+        Some(TagName::Play) => Kind::Play(seat_of(c, first_character(value))?),
+        Some(TagName::OptimumResultTable) => Kind::Optimum,
+        _ => return None,
+    };
+    Some(Open { kind, at, split })
 }
 
 // No number, no result, no seat and no vulnerability.
@@ -291,11 +217,11 @@ pub(crate) fn no_board() -> Board
     Board {
         id: no_identity(),
         deal: DealCard {
-            kind: 0,
+            kind: NO_DEAL,
             words: [0; 8],
         },
         table: TableCard {
-            kind: 0,
+            kind: NO_TABLE,
             cells: [0; 20],
         },
         values: Values::default(),

@@ -1,16 +1,17 @@
 // The auction section (parse_auction).
-ghost use Rattle.std.specs.Prelude.{◌≡◌, ◌∷◌, [], ◌+◌, ◌*◌, ◌≤◌, ◌<◌, ◌^◌, length};
-ghost use Rattle.reader.specs.Pieces.{entry};
-ghost use Rattle.reader.specs.PieceSteps.{Adds, Emits, piece};
+ghost use Rattle.std.specs.Prelude.{◌≡◌, ◌+◌, ◌*◌, ◌≤◌, ◌^◌, length};
+ghost use Rattle.reader.specs.PieceSteps.{Emits, piece};
 ghost use Rattle.reader.specs.Auction.{call_token_of, bidding, called, call_out, passes_out, called_piece};
 ghost use Rattle.reader.specs.TokenSteps.{CallInside};
 
-use crate::store::{ANNOTATION, CALL, Entries, Entry};
-use crate::words::{call_code, call_len, is_all_pass, section_end};
+use crate::store::{ANNOTATION, CALL, Entries};
+use crate::tokens::tokens_in;
+use crate::words::{PASS, PLUS, call_code, call_len, is_all_pass, section_end};
 use tables::letters::Conventions;
-use tables::text::{from, lead_len, upto, word_len};
+use tables::text::upto;
 
-// What a token of an auction is.
+// What a token of an auction is. The specs say what a token is and what it does apart, and one function of both would be longer than 40
+// lines.
 #[derive(Clone, Copy)]
 pub enum CallToken {
     Plus,
@@ -21,7 +22,10 @@ pub enum CallToken {
     NoCall,
 }
 
-// Bidding so far; before the first token it is the default.
+// Bidding so far; before the first token it is the default. `any`, whether a token was met, `made`, whether a call was, to which an
+// annotation alone goes, and `stopped` are facts with no value of their own: `end` (0, 1 or 2, as the card has it) and `count` are 0 before
+// the first token too, and are read then, so that each use of an Option<Bidding> would begin with unwrap_or_default. The bounds of `count`
+// stand in contracts for the reason at Entries (store.rt).
 #[derive(Clone, Copy, Default)]
 pub struct Bidding {
     pub any: bool,
@@ -67,40 +71,14 @@ fn bid(made: bool, end: usize, stopped: bool, count: usize) -> Bidding
     }
 }
 
-// Stores a call of `len` bytes at the place `at` of its record.
-fn put_call_entry(entries: &mut Entries, at: usize, len: usize, code: usize)
-    requires { (entries.old.start + at < 2 ^ 63) × (entries.old.count ≤ 2 ^ 60) }
-    ensures { Adds entries.old entries.new (entry 6 at len code ∷ []) }
-{
-    entries.push(Entry {
-        kind: CALL,
-        x: at,
-        y: len,
-        z: code,
-    });
-}
-
-// The same for an annotation.
-fn put_annotation(entries: &mut Entries, at: usize, len: usize)
-    requires { (entries.old.start + at < 2 ^ 63) × (entries.old.count ≤ 2 ^ 60) }
-    ensures { Adds entries.old entries.new (entry 7 at len 0 ∷ []) }
-{
-    entries.push(Entry {
-        kind: ANNOTATION,
-        x: at,
-        y: len,
-        z: 0,
-    });
-}
-
 // A call with its annotation, if it has one.
 fn put_call(b: Bidding, len: usize, at: usize, k: usize, code: u8, entries: &mut Entries) -> Bidding
     requires { (entries.old.start + at + len ≤ 2 ^ 40) × (entries.old.count ≤ 2 ^ 59) × (b.count ≤ 2 ^ 60) × (k ≤ len) }
     ensures { Emits entries.old entries.new result (call_out b at len k code) × (result.count ≤ b.count + 3) }
 {
-    put_call_entry(entries, at, k, code as usize);
+    entries.put(CALL, at, k, usize::from(code));
     if k < len {
-        put_annotation(entries, at + k, len - k);
+        entries.put(ANNOTATION, at + k, len - k, 0);
         return bid(true, b.end, false, b.count + 2);
     }
     bid(true, b.end, false, b.count + 1)
@@ -111,9 +89,9 @@ fn put_passes(b: Bidding, len: usize, at: usize, entries: &mut Entries) -> Biddi
     requires { (entries.old.start + at + len ≤ 2 ^ 40) × (entries.old.count ≤ 2 ^ 59) × (b.count ≤ 2 ^ 60) }
     ensures { Emits entries.old entries.new result (passes_out b at len) × (result.count ≤ b.count + 3) }
 {
-    put_call_entry(entries, at, len, 0);
-    put_call_entry(entries, at, len, 0);
-    put_call_entry(entries, at, len, 0);
+    entries.put(CALL, at, len, PASS as usize);
+    entries.put(CALL, at, len, PASS as usize);
+    entries.put(CALL, at, len, PASS as usize);
     bid(true, b.end, true, b.count + 3)
 }
 
@@ -127,14 +105,14 @@ fn call_step(c: Conventions, b: Bidding, t: &[u8], at: usize, entries: &mut Entr
     }
     match call_token(c, t) {
         CallToken::Plus => {
-            put_call_entry(entries, at, t.len(), 38);
+            entries.put(CALL, at, t.len(), PLUS as usize);
             bid(true, 1, false, b.count + 1)
         }
         CallToken::Star => bid(b.made, 2, true, b.count),
         CallToken::AllPass => put_passes(b, t.len(), at, entries),
         CallToken::Annotation => {
             if b.made {
-                put_annotation(entries, at, t.len());
+                entries.put(ANNOTATION, at, t.len(), 0);
                 return bid(true, b.end, false, b.count + 1);
             }
             bid(false, b.end, false, b.count)
@@ -156,12 +134,8 @@ pub(crate) fn call_piece(
     ensures { Emits entries.old entries.new result (called_piece c b (piece at s.now)) × (result.count ≤ b.count + 3 * length s.now) }
 {
     let mut w = b;
-    let mut i = lead_len(s);
-    while i < s.len() {
-        let rest = from(s, i);
-        let n = word_len(rest);
-        w = call_step(c, w, upto(rest, n), at + i, entries);
-        i = i + n + lead_len(from(rest, n));
+    for t in tokens_in(s) {
+        w = call_step(c, w, t.of(s), at + t.start, entries);
     }
     w
 }

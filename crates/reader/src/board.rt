@@ -1,8 +1,9 @@
 // The structs of a board and of a record's state.
 use crate::section::Open;
 
-// The number and the result each have a word before them that says whether there is one, as words 2, 3, 7 and 8 of a card: the writer
-// reads the same struct back from any four words.
+// Words 2 to 8 of a card: the number and the result each have a word before them that says whether there is one; 4 is no dealer, no
+// declarer and (as word 5 never is) no vulnerability. A card is any words that a caller lends, and specs read this struct from any of
+// them (`board_held` of the writer): words like 7 for the seat, or a result behind a 0, for which Options have no value.
 #[derive(Clone, Copy)]
 pub struct Identity {
     pub number_met: usize,
@@ -14,15 +15,27 @@ pub struct Identity {
     pub result: usize,
 }
 
-// 0 none, 1 parsed, 2 kept unparsed; the words of the last deal that parsed. The kind is word 9 of a card, which the writer reads back
-// from any word.
+// Word 9 of a card, whose words 10 to 17 are those of the last deal that parsed. `board_held` reads any number here, too, where an enum
+// would have these three.
+pub const NO_DEAL: usize = 0;
+
+pub const PARSED: usize = 1;
+
+pub const UNPARSED: usize = 2;
+
 #[derive(Clone, Copy)]
 pub struct DealCard {
     pub kind: usize,
     pub words: [u32; 8],
 }
 
-// 0 none, 1 DoubleDummyTricks, 2 OptimumResultTable: word 38 of a card, which the writer reads back from any word.
+// Word 38 of a card: none, of DoubleDummyTricks, or of an OptimumResultTable; a number for the reason of word 9.
+pub const NO_TABLE: usize = 0;
+
+pub const DIGITS: usize = 1;
+
+pub const ROWS: usize = 2;
+
 #[derive(Clone, Copy)]
 pub struct TableCard {
     pub kind: usize,
@@ -56,7 +69,8 @@ pub struct Section {
     pub end: usize,
 }
 
-// trump is the play's; contract is the trump of the last kept contract.
+// trump is the play's, word 59 of a card, which may be any number as those of `Identity`; contract is the trump of the last kept contract,
+// which becomes it. 4 is none or notrump.
 #[derive(Clone, Copy)]
 pub struct Board {
     pub id: Identity,
@@ -69,13 +83,14 @@ pub struct Board {
     pub contract: usize,
 }
 
-// The board so far, its open section, its tags and entries, and whether commentary is open and where its block starts.
+// The board so far, its open section, its tags and entries, and where the block of commentary starts that is open. How many entries there
+// may be stands in the contracts of the steps (2^57 to 2^59), not here: a step from the greatest number would break a bound that is the
+// same before and after it, and only the loop of `read_board` knows the record's length.
 #[derive(Clone, Copy)]
 pub struct State {
     pub board: Board,
-    pub section: Open,
+    pub section: Option<Open>,
     pub tags: usize,
     pub n: usize,
-    pub commentary: bool,
-    pub block: usize,
+    pub commentary: Option<usize>,
 }

@@ -3,11 +3,13 @@
 ghost use Rattle.std.specs.Prelude.{◌≡◌, ◌+◌, ◌*◌, ◌/◌, ◌%◌, ◌^◌, ◌≤◌, ◌<◌, IfSome};
 ghost use Rattle.tables.specs.Text.{word};
 ghost use Rattle.reader.specs.Deals.{has, is_dash, hands_after, turned, deal_in, deal_of, InDeck, whole_hands, hand_words, hands_of_words};
-ghost use Rattle.reader.specs.DealSteps.{add_card, IsGrown, step_of, Fine, IsFine, end_of, run_from, start_hand, hand_into, deal_words};
+ghost use Rattle.reader.specs.DealSteps.{card_added, add_card, IsGrown, step_of, Fine, IsFine, end_of, run_from, start_hand, hand_into, deal_words};
 
+use crate::store::low_word;
 use tables::letters::{Conventions, rank_of, seat_of};
 use tables::text::{byte_at, from, is_white, next_words, trim, word_len};
 
+// By name, not an array by seat: none of those who take hands apart has a seat to ask with, and `h.north` needs no bound.
 #[derive(Clone, Copy)]
 pub struct Hands {
     pub north: u64,
@@ -39,6 +41,17 @@ pub fn holds(x: u64, k: u8) -> bool
     (x >> k) % 2 == 1
 }
 
+// The card k put to the cards x, None where it is there.
+pub fn card_added(x: u64, k: u8) -> Option<u64>
+    requires { (x < 2 ^ 52) × (k < 52) }
+    ensures { (result ≡ card_added x k) × IsGrown x result }
+{
+    if holds(x, k) {
+        return None;
+    }
+    Some(x + power(k))
+}
+
 // The card of suit s whose rank is b, put to the cards x.
 #[tactic(auto, unfolding(crate::specs::DealSteps::add_card))]
 fn add_card(c: Conventions, x: u64, s: u8, b: u8) -> Option<u64>
@@ -46,11 +59,7 @@ fn add_card(c: Conventions, x: u64, s: u8, b: u8) -> Option<u64>
     ensures { (result ≡ add_card c x s b) × IsGrown x result }
 {
     let k = rank_of(c, b)?;
-    let d = 13 * s + k;
-    if holds(x, d) {
-        return None;
-    }
-    Some(x + power(d))
+    card_added(x, 13 * s + k)
 }
 
 // One byte of a hand: a dot ends a suit, any other byte is a rank.
@@ -82,7 +91,8 @@ fn end_of(h: PartHand) -> Option<u64>
     (h.suit == 0).then_some(h.cards)
 }
 
-// The suits of the first field of s.
+// The suits of the first field of s. `seen < 2 ^ 52` stands here and at `read_hand` alone, and in `card_added`: a struct of cards would
+// be opened at each step, since hands are what one such number has more than another.
 fn read_suits(c: Conventions, seen: u64, s: &[u8]) -> Option<u64>
     requires { seen < 2 ^ 52 }
     ensures { (result ≡ run_from c (word s.now) (start_hand seen)) × IsGrown seen result }
@@ -147,10 +157,10 @@ fn read_hands(c: Conventions, s: &[u8]) -> Option<Hands>
     let t = next_words(s);
     let u = next_words(t);
     let v = next_words(u);
-    if v.len() == 0 {
+    if v.is_empty() {
         return None;
     }
-    if next_words(v).len() > 0 {
+    if !next_words(v).is_empty() {
         return None;
     }
     deal_words(c, s, t, u, v)
@@ -202,19 +212,8 @@ pub fn is_whole(h: Hands) -> bool
         & (h.west.count_ones() == 13)
 }
 
-fn low_word(x: u64) -> u32
-    ensures { result ≡ x % 4294967296 }
-{
-    (x % 4294967296) as u32
-}
-
-fn high_word(x: u64) -> u32
-    ensures { result ≡ x / 4294967296 }
-{
-    (x / 4294967296) as u32
-}
-
-fn from_words(low: u32, high: u32) -> u64
+// A number of 64 bits from its words.
+pub fn from_words(low: u32, high: u32) -> u64
     ensures { result ≡ high * 4294967296 + low }
 {
     u64::from(high) * 4294967296 + u64::from(low)
@@ -226,14 +225,14 @@ pub(crate) fn hand_words(h: Hands) -> [u32; 8]
     ensures { result ≡ hand_words h }
 {
     [
-        low_word(h.north),
-        high_word(h.north),
-        low_word(h.east),
-        high_word(h.east),
-        low_word(h.south),
-        high_word(h.south),
-        low_word(h.west),
-        high_word(h.west),
+        low_word(h.north as usize),
+        low_word((h.north >> 32) as usize),
+        low_word(h.east as usize),
+        low_word((h.east >> 32) as usize),
+        low_word(h.south as usize),
+        low_word((h.south >> 32) as usize),
+        low_word(h.west as usize),
+        low_word((h.west >> 32) as usize),
     ]
 }
 

@@ -1,4 +1,5 @@
-// An edition: its records read into cards and entries (read_pbn).
+// An edition: its records read into cards and entries (read_pbn). C lends the two side by side, and so they are handed to the three
+// functions inside: a struct of both would be made in one function and taken apart in the next.
 ghost use Rattle.std.specs.Prelude.{◌≡◌, ◌∷◌, cond, ◌+◌, ◌-◌, ◌≤◌, ◌^◌, eqb, length, take, drop};
 ghost use Rattle.std.proofs.lemmas.List.Edits.{sets};
 ghost use Rattle.tables.specs.Letters.{built_in};
@@ -6,13 +7,13 @@ ghost use Rattle.reader.specs.Store.{low_word, put};
 ghost use Rattle.reader.specs.Editions.{read_number, read_carries, entry_place, head_words, value_words, section_words, tail_words, back_words, card_words, IsRead};
 ghost use Rattle.reader.specs.EditionSteps.{RecordIn, AllIn, ReadingEnded};
 
-use crate::board::{Board, Section, TableCard, Values};
+use crate::board::{Board, Section, State, TableCard, Values};
 use crate::reading::read_board;
 use crate::record::record_end;
 use crate::store::{Entries, copy_in, low_word};
+use crate::tag::Span;
 use tables::letters::{Conventions, built_in};
-use tables::refused::Refused;
-use tables::text::{from, upto};
+use tables::refused::{Edition, Refused};
 
 // Refusals 1 to 3, each with its carried number; specs/Editions.antt gives the numbers.
 #[derive(Clone, Copy, Debug, PartialEq, Eq)]
@@ -20,6 +21,14 @@ pub enum ReadRefusal {
     Overlong(u64),
     BoxFull(u64),
     ListFull(u64),
+}
+
+// Where a record stands in its text, and the entries before it.
+#[derive(Clone, Copy)]
+pub struct Place {
+    pub start: usize,
+    pub end: usize,
+    pub before: usize,
 }
 
 // The boards and entries of an edition.
@@ -44,8 +53,8 @@ impl Refused for ReadRefusal {
         }
     }
 
-    fn edition(self) -> u64 {
-        0
+    fn edition(self) -> Option<Edition> {
+        None
     }
 
     fn carried(self) -> u64 {
@@ -55,7 +64,7 @@ impl Refused for ReadRefusal {
     }
 }
 
-// The entry x (plus 1) of a record with n entries before it.
+// The entry x (plus 1) of a record with n entries before it; 0 is none, as in `Values` and `Section`.
 fn placed_word(n: usize, x: usize) -> u32
     ensures { result ≡ entry_place n x }
 {
@@ -65,6 +74,7 @@ fn placed_word(n: usize, x: usize) -> u32
     low_word(n % 4294967296 + x % 4294967296)
 }
 
+// The word of none is that of a vulnerability that no tag gave.
 fn vulnerability_word(v: usize) -> u32
     ensures { result ≡ low_word (cond (eqb v 4) 0 v) }
 {
@@ -96,13 +106,7 @@ fn head_words(n: usize, count: usize, b: Board) -> [u32; 10]
 fn cell_words(t: TableCard) -> [u32; 20]
     ensures { result ≡ t.cells }
 {
-    // The array's map would take some 500 instructions a board more.
-    let cells = t.cells;
-    let mut words = [0; 20];
-    for i in 0..20 {
-        words[i] = cells[i] as u32;
-    }
-    words
+    t.cells.map(u32::from)
 }
 
 // The table's kind, and the value entries.
@@ -137,70 +141,76 @@ fn section_words(n: usize, s: Section) -> [u32; 4]
     ]
 }
 
-fn tail_words(start: usize, end: usize, b: Board) -> [u32; 5]
-    ensures { result ≡ tail_words start end b }
+fn tail_words(at: Place, b: Board) -> [u32; 5]
+    ensures { result ≡ tail_words at.start at.end b }
 {
-    [low_word(b.trump), low_word(start), low_word(end), 0, 0]
+    [
+        low_word(b.trump),
+        low_word(at.start),
+        low_word(at.end),
+        0,
+        0,
+    ]
 }
 
-// Words 38 to 63 of a card, stored from index at.
-fn put_back(cards: &mut [u32], at: usize, start: usize, end: usize, n: usize, b: Board)
-    requires { at + 26 ≤ length cards.old }
-    ensures { cards.new ≡ sets cards.old at (back_words start end n b) }
+// Words 38 to 63 of a card, stored from index i.
+fn put_back(cards: &mut [u32], i: usize, at: Place, b: Board)
+    requires { i + 26 ≤ length cards.old }
+    ensures { cards.new ≡ sets cards.old i (back_words at.start at.end at.before b) }
 {
-    let table = b.table;
-    let values = value_words(table.kind, n, b.values);
-    copy_in(cards, at, &values);
-    let auction = section_words(n, b.auction);
-    copy_in(cards, at + 13, &auction);
-    let play = section_words(n, b.play);
-    copy_in(cards, at + 17, &play);
-    let tail = tail_words(start, end, b);
-    copy_in(cards, at + 21, &tail);
+    let values = value_words(b.table.kind, at.before, b.values);
+    copy_in(cards, i, &values);
+    let auction = section_words(at.before, b.auction);
+    copy_in(cards, i + 13, &auction);
+    let play = section_words(at.before, b.play);
+    copy_in(cards, i + 17, &play);
+    let tail = tail_words(at, b);
+    copy_in(cards, i + 21, &tail);
 }
 
-// Stores the k-th card, where there is room for a whole one: a record from start to end, with n entries before it and count of its own.
-fn put_card(cards: &mut [u32], k: usize, start: usize, end: usize, n: usize, count: usize, b: Board)
-    ensures { (cards.new ≡ put 64 cards.old k (card_words start end n count b)) × (length (card_words start end n count b) ≡ 64) }
+// Stores the k-th card, where there is room for a whole one: k goes on behind the last lent card, since boards without one are counted.
+fn put_card(cards: &mut [u32], k: usize, at: Place, s: State)
+    ensures { (cards.new ≡ put 64 cards.old k (card_words at.start at.end at.before s.n s.board)) × (length (card_words at.start at.end at.before s.n s.board) ≡ 64) }
 {
-    let deal = b.deal;
+    let b = s.board;
     let cells = cell_words(b.table);
     if k < cards.len() / 64 {
-        let at = 64 * k;
-        let head = head_words(n, count, b);
-        copy_in(cards, at, &head);
-        copy_in(cards, at + 10, &deal.words);
-        copy_in(cards, at + 18, &cells);
-        put_back(cards, at + 38, start, end, n, b);
+        let i = 64 * k;
+        let head = head_words(at.before, s.n, b);
+        copy_in(cards, i, &head);
+        copy_in(cards, i + 10, &b.deal.words);
+        copy_in(cards, i + 18, &cells);
+        put_back(cards, i + 38, at, b);
     }
 }
 
-// Reads the record from a to e as the k-th board, n entries before it. How many entries there are then.
+// Reads a record as the k-th board. How many entries there are then.
 fn read_record(
     c: Conventions,
     text: &[u8],
-    a: usize,
-    e: usize,
+    at: Place,
     cards: &mut [u32],
     k: usize,
     entries: &mut [u32],
-    n: usize,
 ) -> usize
-    requires { (a ≤ e) × (e ≤ length text.now) × (length text.now ≤ 16777215) × (n ≤ 2 ^ 56) }
-    ensures { RecordIn c (take (e - a) (drop a text.now)) a k n cards.old entries.old result cards.new entries.new }
+    requires { (at.start ≤ at.end) × (at.end ≤ length text.now) × (length text.now ≤ 16777215) × (at.before ≤ 2 ^ 56) }
+    ensures { RecordIn c (take (at.end - at.start) (drop at.start text.now)) at.start k at.before cards.old entries.old result cards.new entries.new }
 {
-    let own = upto(from(text, a), e - a);
+    let start = at.start;
+    let len = at.end - start;
+    let own = Span { start, len }.of(text);
     let mut list = Entries {
         words: entries,
-        start: a,
-        count: n,
+        start: at.start,
+        count: at.before,
     };
     let s = read_board(c, own, &mut list);
-    put_card(cards, k, a, e, n, s.n, s.board);
+    put_card(cards, k, at, s);
     list.count
 }
 
-// Reads all records of a text.
+// Reads all records of a text. An iterator of records would hold `a` alone, whose last value is where no record is left: the boards and
+// the entries, which say where the next card and entry go, would be counted here all the same.
 fn read_records(c: Conventions, text: &[u8], cards: &mut [u32], entries: &mut [u32]) -> Counts
     requires { length text.now ≤ 16777215 }
     ensures { AllIn c text.now cards.old entries.old result cards.new entries.new }
@@ -209,7 +219,12 @@ fn read_records(c: Conventions, text: &[u8], cards: &mut [u32], entries: &mut [u
     let mut boards = 0;
     let mut n = 0;
     while let Some(e) = record_end(text, a) {
-        n = read_record(c, text, a, e, cards, boards, entries, n);
+        let at = Place {
+            start: a,
+            end: e,
+            before: n,
+        };
+        n = read_record(c, text, at, cards, boards, entries);
         boards += 1;
         a = e;
     }
@@ -256,7 +271,8 @@ pub fn read_pbn_with(
     finish_reading(cards, entries, counts)
 }
 
-// Reads a text into the lent words.
+// Reads a text into the lent words, by the built-in letters, as `golavimes_read` does: Rattle has no default argument, and the layers above
+// pass letters of their own.
 pub fn read_pbn(text: &[u8], cards: &mut [u32], entries: &mut [u32]) -> Result<Counts, ReadRefusal>
     ensures { IsRead built_in text.now cards.old entries.old result cards.new entries.new }
 {

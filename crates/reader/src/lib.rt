@@ -14,5 +14,5 @@ pub mod record; // where a record ends
 pub mod section; // the data of a section
 pub mod store; // blocks of words stored into lent slices
 pub mod tag; // tag lines
-pub mod walk; // the lines of a text, one after the other
+pub mod tokens; // the tokens of a text
 pub mod words; // calls, cards, contracts, vulnerability

@@ -1,12 +1,13 @@
 // The kinds of lines.
-ghost use Rattle.std.specs.Prelude.{◌≡◌, ◌≤◌, length};
+ghost use Rattle.std.specs.Prelude.{◌≡◌, false, MatchOption, length};
 ghost use Rattle.reader.specs.Lines.{is_blank, has_brace, last_brace, line_kind, split_line, bracket_line, opens_board};
-ghost use Rattle.reader.specs.LineSteps.{LinePlaced};
+ghost use Rattle.reader.specs.LineSteps.{LastBrace, LinePlaced};
 
 use crate::tag::{Span, Tag, contains, parse_tag_line, split_tag_and_data, trim_span};
 use tables::text::{byte_at, lead_len};
 
-// A tag: alone on its line, with a comment, or with section data split off.
+// A tag: alone on its line, with a comment, or with section data split off. `tag_read` alone takes it apart, once, with a branch for each;
+// a tag beside an enum of what follows would be the same three branches.
 #[derive(Clone, Copy)]
 pub enum TagReading {
     Plain(Tag),
@@ -40,11 +41,11 @@ pub(crate) fn has_brace(line: &[u8]) -> bool
     contains(line, b'}')
 }
 
-// The place of the last `}`, the line's length where there is none.
-pub(crate) fn last_brace(line: &[u8]) -> usize
-    ensures { (result ≡ last_brace line.now) × (result ≤ length line.now) }
+// The place of the last `}`.
+pub(crate) fn last_brace(line: &[u8]) -> Option<usize>
+    ensures { MatchOption result (has_brace line.now ≡ false) (λ k. LastBrace line.now k) }
 {
-    line.iter().rposition(|b| *b == b'}').unwrap_or(line.len())
+    line.iter().rposition(|b| *b == b'}')
 }
 
 // A line that starts with `[` and is no tag, unless section data is split off.

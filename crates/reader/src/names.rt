@@ -1,9 +1,6 @@
 // The tag names that a reader knows.
 ghost use Rattle.std.specs.Prelude.{◌≡◌};
 ghost use Rattle.reader.specs.Names.{number_of, tag_number};
-ghost use Rattle.reader.specs.NameSteps.{text_of};
-
-use crate::words::same;
 
 #[derive(Clone, Copy)]
 pub enum TagName {
@@ -30,64 +27,36 @@ pub enum TagName {
     ParContract,
 }
 
-const ALL: [TagName; 21] = [
-    TagName::Board,
-    TagName::Dealer,
-    TagName::Vulnerable,
-    TagName::Deal,
-    TagName::Event,
-    TagName::Site,
-    TagName::Date,
-    TagName::Declarer,
-    TagName::Contract,
-    TagName::Result,
-    TagName::North,
-    TagName::East,
-    TagName::South,
-    TagName::West,
-    TagName::Auction,
-    TagName::Play,
-    TagName::Note,
-    TagName::DoubleDummyTricks,
-    TagName::OptimumResultTable,
-    TagName::OptimumScore,
-    TagName::ParContract,
+// Each name beside its text. A `match` over the texts would say the names once, and was tried: it is read byte by byte, and none of its
+// 144 ways to no name is proved without an answer.
+const NAMES: [(&[u8], TagName); 21] = [
+    (b"Board", TagName::Board),
+    (b"Dealer", TagName::Dealer),
+    (b"Vulnerable", TagName::Vulnerable),
+    (b"Deal", TagName::Deal),
+    (b"Event", TagName::Event),
+    (b"Site", TagName::Site),
+    (b"Date", TagName::Date),
+    (b"Declarer", TagName::Declarer),
+    (b"Contract", TagName::Contract),
+    (b"Result", TagName::Result),
+    (b"North", TagName::North),
+    (b"East", TagName::East),
+    (b"South", TagName::South),
+    (b"West", TagName::West),
+    (b"Auction", TagName::Auction),
+    (b"Play", TagName::Play),
+    (b"Note", TagName::Note),
+    (b"DoubleDummyTricks", TagName::DoubleDummyTricks),
+    (b"OptimumResultTable", TagName::OptimumResultTable),
+    (b"OptimumScore", TagName::OptimumScore),
+    (b"ParContract", TagName::ParContract),
 ];
-
-impl TagName {
-    // As it is written.
-    fn text(self) -> &'static [u8]
-        ensures { result.now ≡ text_of self }
-    {
-        match self {
-            TagName::Board => b"Board",
-            TagName::Dealer => b"Dealer",
-            TagName::Vulnerable => b"Vulnerable",
-            TagName::Deal => b"Deal",
-            TagName::Event => b"Event",
-            TagName::Site => b"Site",
-            TagName::Date => b"Date",
-            TagName::Declarer => b"Declarer",
-            TagName::Contract => b"Contract",
-            TagName::Result => b"Result",
-            TagName::North => b"North",
-            TagName::East => b"East",
-            TagName::South => b"South",
-            TagName::West => b"West",
-            TagName::Auction => b"Auction",
-            TagName::Play => b"Play",
-            TagName::Note => b"Note",
-            TagName::DoubleDummyTricks => b"DoubleDummyTricks",
-            TagName::OptimumResultTable => b"OptimumResultTable",
-            TagName::OptimumScore => b"OptimumScore",
-            TagName::ParContract => b"ParContract",
-        }
-    }
-}
 
 // The tag name that a text is.
 pub fn tag_name(text: &[u8]) -> Option<TagName>
     ensures { number_of result ≡ tag_number text.now }
 {
-    ALL.iter().find(|name| same(name.text(), text)).copied()
+    let (_, name) = NAMES.iter().find(|(word, _)| *word == text)?;
+    Some(*name)
 }

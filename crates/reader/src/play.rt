@@ -5,11 +5,12 @@ ghost use Rattle.reader.specs.Play.{no_slots, with_slot, is_full, weight, best_s
 ghost use Rattle.reader.specs.TokenSteps.{Low, Seated, OpenTrick};
 
 use crate::store::{Entries, Entry, TRICK};
+use crate::tokens::tokens_in;
 use crate::words::{card_named, same, section_end};
 use tables::letters::Conventions;
-use tables::text::{from, lead_len, upto, word_len};
 
-// The four slots of a trick, 255 for an empty one, as the bytes of a trick's last word in C.
+// The four slots of a trick, 255 for an empty one, as the bytes of a trick's last word in C. By name and not as an array, which the
+// definitions see as a list of any length: each law of a trick's slots would first have to say that there are four.
 #[derive(Clone, Copy)]
 pub struct Slots {
     pub a: usize,
@@ -22,11 +23,15 @@ pub struct Slots {
 #[derive(Clone, Copy)]
 pub struct Terms {
     pub c: Conventions,
-    pub lead: usize,
+    pub lead: u8,
     pub trump: usize,
 }
 
-// Play so far.
+// Play so far: whether a trick is open, its leader and its winner, 4 for none as the words of its entry in C, its slots, and how many seats
+// of it are taken; the end mark, 0, 1 or 2 as the word of the card, whether the section has stopped, and how many tricks were closed, which
+// hold before the first trick too. That seats and slots are in range stands in contracts (Seated, OpenTrick, Low), and not in ghost
+// fields: the definitions make tricks and slots at each token, and each would have to carry its proof. The bounds of `count` stand in
+// contracts for the reason at Entries (store.rt).
 #[derive(Clone, Copy)]
 pub struct Tricks {
     pub any: bool,
@@ -80,7 +85,7 @@ fn weigh(trump: usize, led: usize, card: usize) -> usize
     0
 }
 
-// The first of the heaviest.
+// The first of the heaviest: max_by_key would answer the last of them.
 #[tactic(auto, unfolding(crate::specs::Play::best_slot))]
 fn best_slot(p: usize, q: usize, r: usize, s: usize) -> usize
     ensures { (result ≡ best_slot p q r s) × (result ≤ 3) }
@@ -99,7 +104,7 @@ fn best_slot(p: usize, q: usize, r: usize, s: usize) -> usize
 
 // The seat that wins a full trick (determine_winner).
 pub fn winner(trump: usize, leader: usize, s: Slots) -> usize
-    requires { (leader ≤ 4) × Low s }
+    requires { (leader ≤ 255) × Low s }
     ensures { (result ≡ winner_of trump leader s) × (result ≤ 4) }
 {
     let led = s.a / 13;
@@ -118,9 +123,9 @@ fn is_full(s: Slots) -> bool
     (s.a != 255) & ((s.b != 255) & ((s.c != 255) & (s.d != 255)))
 }
 
-// The winner once a trick is full, until then the one before.
+// The winner once a trick is full, until then the one before, which is 4 for none, as a trick's entry has it.
 fn winner_now(trump: usize, leader: usize, before: usize, s: Slots) -> usize
-    requires { (leader ≤ 4) × (before ≤ 4) × Low s }
+    requires { (leader ≤ 255) × (before ≤ 4) × Low s }
     ensures { (result ≡ cond (is_full s) (winner_of trump leader s) before) × (result ≤ 4) }
 {
     if is_full(s) {
@@ -143,16 +148,16 @@ pub fn with_slot(s: Slots, k: usize, v: usize) -> Slots
 
 // The slot of a seat, counted from the trick's own leader.
 pub fn slot_of(lead: usize, seat: usize, leader: usize) -> usize
-    requires { (lead ≤ 3) × (seat ≤ 4) × (leader ≤ 4) }
+    requires { (lead ≤ 255) × (seat ≤ 255) }
     ensures { result ≡ slot_of lead seat leader }
 {
-    (lead + seat + 4 - leader) % 4
+    (lead + seat + 4).saturating_sub(leader) % 4
 }
 
 // A trick as an entry.
 fn trick_entry(t: Tricks) -> Entry
     requires { Seated t }
-    ensures { (result ≡ trick_entry t) × (result.x ≤ 4) }
+    ensures { (result ≡ trick_entry t) × (result.x ≤ 255) }
 {
     let s = t.slots;
     Entry {
@@ -164,7 +169,7 @@ fn trick_entry(t: Tricks) -> Entry
 }
 
 fn new_trick(leader: usize, end: usize, count: usize) -> Tricks
-    requires { leader ≤ 4 }
+    requires { leader ≤ 255 }
     ensures { (result ≡ new_trick leader end count) × OpenTrick result }
 {
     Tricks {
@@ -187,8 +192,8 @@ fn next_leader(winner: usize, leader: usize) -> usize
 }
 
 // A token opens the first trick, and after a full one the next; the full one is stored.
-fn open_trick(lead: usize, t: Tricks, entries: &mut Entries) -> Tricks
-    requires { (lead ≤ 3) × Seated t × (entries.old.start ≤ 2 ^ 40) × (entries.old.count ≤ 2 ^ 60) × (t.count ≤ 2 ^ 60) }
+fn open_trick(lead: u8, t: Tricks, entries: &mut Entries) -> Tricks
+    requires { Seated t × (entries.old.start ≤ 2 ^ 40) × (entries.old.count ≤ 2 ^ 60) × (t.count ≤ 2 ^ 60) }
     ensures { Emits entries.old entries.new result (opened lead t) × OpenTrick result }
 {
     if t.any {
@@ -198,7 +203,7 @@ fn open_trick(lead: usize, t: Tricks, entries: &mut Entries) -> Tricks
         }
         return t;
     }
-    new_trick(lead, t.end, t.count)
+    new_trick(usize::from(lead), t.end, t.count)
 }
 
 fn take_seat(t: Tricks, end: usize, stopped: bool, seat: usize) -> Tricks
@@ -229,16 +234,12 @@ fn with_card(trump: usize, t: Tricks, s: Slots) -> Tricks
 }
 
 // A card into the slot of the next seat.
-fn play_card(lead: usize, trump: usize, t: Tricks, card: usize) -> Tricks
-    requires { (lead ≤ 3) × OpenTrick t × (card ≤ 255) }
-    ensures { (result ≡ with_card trump t (with_slot t.slots (slot_of lead t.seat t.leader) card)) × Seated result }
+fn play_card(by: Terms, t: Tricks, card: u8) -> Tricks
+    requires { OpenTrick t }
+    ensures { (result ≡ with_card by.trump t (with_slot t.slots (slot_of by.lead t.seat t.leader) card)) × Seated result }
 {
-    let s = t.slots;
-    with_card(
-        trump,
-        t,
-        with_slot(s, slot_of(lead, t.seat, t.leader), card),
-    )
+    let k = slot_of(usize::from(by.lead), t.seat, t.leader);
+    with_card(by.trump, t, with_slot(t.slots, k, usize::from(card)))
 }
 
 #[tactic(auto, unfolding(crate::specs::Play::is_gap))]
@@ -251,7 +252,7 @@ fn is_dash(token: &[u8]) -> bool
 // What a token does in an open trick.
 #[tactic(auto, unfolding(crate::specs::Play::played))]
 fn play_token(by: Terms, t: Tricks, token: &[u8]) -> Tricks
-    requires { (by.lead ≤ 3) × OpenTrick t }
+    requires { OpenTrick t }
     ensures { (result ≡ played by.c by.lead by.trump t token.now) × Seated result }
 {
     let end = section_end(token);
@@ -267,12 +268,12 @@ fn play_token(by: Terms, t: Tricks, token: &[u8]) -> Tricks
     let Some(card) = card_named(by.c, token) else {
         return t;
     };
-    play_card(by.lead, by.trump, t, card as usize)
+    play_card(by, t, card)
 }
 
 // One token.
 fn play_step(by: Terms, t: Tricks, token: &[u8], entries: &mut Entries) -> Tricks
-    requires { (by.lead ≤ 3) × Seated t × (entries.old.start ≤ 2 ^ 40) × (entries.old.count ≤ 2 ^ 60) × (t.count ≤ 2 ^ 60) }
+    requires { Seated t × (entries.old.start ≤ 2 ^ 40) × (entries.old.count ≤ 2 ^ 60) × (t.count ≤ 2 ^ 60) }
     ensures { Emits entries.old entries.new result (played_bytes by.c by.lead by.trump t token.now) × Seated result }
 {
     if t.stopped {
@@ -283,16 +284,12 @@ fn play_step(by: Terms, t: Tricks, token: &[u8], entries: &mut Entries) -> Trick
 
 // All tokens of a piece of data at the place `at` of its record.
 pub(crate) fn play_piece(by: Terms, t: Tricks, s: &[u8], at: usize, entries: &mut Entries) -> Tricks
-    requires { (by.lead ≤ 3) × Seated t × (entries.old.start + at + length s.now ≤ 2 ^ 40) × (entries.old.count ≤ 2 ^ 58) × (t.count ≤ 2 ^ 59) }
+    requires { Seated t × (entries.old.start + at + length s.now ≤ 2 ^ 40) × (entries.old.count ≤ 2 ^ 58) × (t.count ≤ 2 ^ 59) }
     ensures { Emits entries.old entries.new result (played_piece by.c by.lead by.trump t (piece at s.now)) × Seated result × (result.count ≤ t.count + length s.now) }
 {
     let mut w = t;
-    let mut i = lead_len(s);
-    while i < s.len() {
-        let rest = from(s, i);
-        let n = word_len(rest);
-        w = play_step(by, w, upto(rest, n), entries);
-        i = i + n + lead_len(from(rest, n));
+    for d in tokens_in(s) {
+        w = play_step(by, w, d.of(s), entries);
     }
     w
 }

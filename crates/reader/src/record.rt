@@ -5,7 +5,7 @@ ghost use Rattle.reader.specs.RecordSteps.{FirstEnd};
 
 use crate::line::{is_blank, opens_board};
 use crate::section::commentary_after;
-use crate::walk::lines_from;
+use tables::lines::lines_from;
 
 // Whether commentary is open, and whether a tag was met since the record's start.
 #[derive(Clone, Copy)]

@@ -1,10 +1,10 @@
 // The data of an open section, walked again when the section closes.
-ghost use Rattle.std.specs.Prelude.{◌≡◌, ◌+◌, ◌-◌, ◌*◌, ◌≤◌, ◌^◌, length};
+ghost use Rattle.std.specs.Prelude.{◌≡◌, ◌+◌, ◌-◌, ◌*◌, ◌≤◌, ◌^◌, Some, length};
 ghost use Rattle.tables.specs.Tables.{row_of};
 ghost use Rattle.reader.specs.Pieces.{out_all};
 ghost use Rattle.reader.specs.PieceSteps.{piece};
 ghost use Rattle.reader.specs.TokenSteps.{Seated};
-ghost use Rattle.reader.specs.Sections.{commentary_after, split_piece, row_stored, walked, no_walk, walked_all};
+ghost use Rattle.reader.specs.Sections.{kind_number, commentary_after, split_piece, row_stored, walked, no_walk, walked_all};
 ghost use Rattle.reader.specs.SectionSteps.{visit_of, NextPiece, walk_count, Walks};
 
 use crate::auction::{Bidding, call_piece};
@@ -12,41 +12,47 @@ use crate::line::{Line, has_brace, line_kind};
 use crate::play::{Terms, Tricks, no_tricks, play_piece};
 use crate::store::Entries;
 use crate::tag::Span;
-use crate::walk::line_at;
 use tables::dd::{no_cells, read_row, stored_row};
 use tables::letters::Conventions;
+use tables::lines::lines_from;
 use tables::text::{byte_at, from, lead_len, upto};
 
-// The kinds of open sections: numbers, as the last word of a data line's entry in C; 0 where none is open.
-pub(crate) const NO_SECTION: usize = 0;
+// What an open section is of, with the seat of an auction's dealer or of a play's opening leader.
+#[derive(Clone, Copy)]
+pub enum Kind {
+    Auction(u8),
+    Play(u8),
+    Optimum,
+}
 
-pub(crate) const AUCTION: usize = 1;
-
-pub(crate) const PLAY: usize = 2;
-
-pub(crate) const OPTIMUM: usize = 3;
+impl Kind {
+    // The last word of a data line's entry in C.
+    pub(crate) fn number(self) -> usize
+        ensures { (result ≡ kind_number self) × (result ≤ 3) }
+    {
+        match self {
+            Kind::Auction(_) => 1,
+            Kind::Play(_) => 2,
+            Kind::Optimum => 3,
+        }
+    }
+}
 
 // An open section: where the lines after its tag start, and what was split off its tag line.
 #[derive(Clone, Copy)]
 pub struct Open {
-    pub kind: usize,
-    pub seat: usize,
+    pub kind: Kind,
     pub at: usize,
     pub split: Span,
 }
 
-// The rows of an OptimumResultTable so far.
-#[derive(Clone, Copy)]
-pub struct Rows {
-    pub cells: [u8; 20],
-    pub fault: bool,
-}
-
+// What a section's data come to so far: the bidding, the tricks, and the cells of an OptimumResultTable, none after a bad row. An enum of
+// the three would be matched in walk_piece, board_closed and last_entries all the same, and hold the seat besides, which the section has.
 #[derive(Clone, Copy)]
 pub struct Walk {
     pub bidding: Bidding,
     pub tricks: Tricks,
-    pub rows: Rows,
+    pub rows: Option<[u8; 20]>,
 }
 
 // Whether commentary is open after the line. Of a line outside commentary only the first byte that is not white matters.
@@ -101,14 +107,10 @@ fn next_piece(r: &[u8], at: usize) -> Option<Next>
 {
     let mut commentary = false;
     let mut e = at;
-    while e < r.len() {
-        let l = line_at(r, e);
+    for l in lines_from(r, at) {
         match visit_line(commentary, l) {
             Visit::Stop => return None,
-            Visit::Pass => {
-                commentary = commentary_after(commentary, l);
-                e += l.len();
-            }
+            Visit::Pass => commentary = commentary_after(commentary, l),
             Visit::Piece(s) => {
                 let piece = Span {
                     start: e + s.start,
@@ -120,6 +122,7 @@ fn next_piece(r: &[u8], at: usize) -> Option<Next>
                 });
             }
         }
+        e += l.len();
     }
     None
 }
@@ -128,33 +131,25 @@ fn next_piece(r: &[u8], at: usize) -> Option<Next>
 fn no_walk() -> Walk
     ensures { result ≡ no_walk }
 {
-    let cells = no_cells();
-    let rows = Rows {
-        cells,
-        fault: false,
-    };
     Walk {
         bidding: Bidding::default(),
         tricks: no_tricks(),
-        rows,
+        rows: Some(no_cells()),
     }
 }
 
 // A row of an OptimumResultTable.
-fn walk_row(c: Conventions, w: Rows, s: &[u8]) -> Rows
-    ensures { result ≡ row_stored (row_of c 0 s.now) w }
+fn walk_row(c: Conventions, rows: Option<[u8; 20]>, s: &[u8]) -> Option<[u8; 20]>
+    ensures { result ≡ row_stored (row_of c 0 s.now) rows }
 {
-    let cells = w.cells;
     match read_row(c, s, 0) {
-        Ok(given) => Rows {
-            cells: stored_row(cells, Ok(given)),
-            fault: w.fault,
-        },
-        Err(_) => Rows { cells, fault: true },
+        Ok(given) => Some(stored_row(rows?, Ok(given))),
+        Err(_) => None,
     }
 }
 
-// A piece of the section's data at the place `at` of its record.
+// A piece of the section's data at the place `at` of its record. The conventions, the section and the trump go together in three functions,
+// and only this one reads the first and the last: a struct of them would be made in one place and taken apart in one.
 fn walk_piece(
     c: Conventions,
     o: Open,
@@ -164,29 +159,25 @@ fn walk_piece(
     at: usize,
     entries: &mut Entries,
 ) -> Walk
-    requires { Seated w.tricks × (entries.old.start + at + length s.now ≤ 2 ^ 40) × (entries.old.count ≤ 2 ^ 58) × (walk_count w ≤ 2 ^ 59) × (o.kind ≡ 2 → o.seat ≤ 3) }
-    ensures { Walks (walk_count w + 3 * length s.now) entries.old entries.new result (walked c o trump w (piece at s.now)) }
+    requires { Seated w.tricks × (entries.old.start + at + length s.now ≤ 2 ^ 40) × (entries.old.count ≤ 2 ^ 58) × (walk_count w ≤ 2 ^ 59) }
+    ensures { Walks (walk_count w + 3 * length s.now) entries.old entries.new result (walked c (Some o) trump w (piece at s.now)) }
 {
-    if o.kind == AUCTION {
-        return Walk {
+    match o.kind {
+        Kind::Auction(_) => Walk {
             bidding: call_piece(c, w.bidding, s, at, entries),
             ..w
-        };
-    }
-    if o.kind == PLAY {
-        let by = Terms {
-            c,
-            lead: o.seat,
-            trump,
-        };
-        return Walk {
-            tricks: play_piece(by, w.tricks, s, at, entries),
+        },
+        Kind::Play(lead) => {
+            let by = Terms { c, lead, trump };
+            Walk {
+                tricks: play_piece(by, w.tricks, s, at, entries),
+                ..w
+            }
+        }
+        Kind::Optimum => Walk {
+            rows: walk_row(c, w.rows, s),
             ..w
-        };
-    }
-    Walk {
-        rows: walk_row(c, w.rows, s),
-        ..w
+        },
     }
 }
 
@@ -200,24 +191,17 @@ fn walk_span(
     s: Span,
     entries: &mut Entries,
 ) -> Walk
-    requires { Seated w.tricks × (entries.old.start + length r.now ≤ 2 ^ 40) × (entries.old.count ≤ 2 ^ 58) × (walk_count w ≤ 2 ^ 59) × (s.start + s.len ≤ length r.now) × (o.kind ≡ 2 → o.seat ≤ 3) }
-    ensures { Walks (walk_count w + 3 * s.len) entries.old entries.new result (out_all (walked c o trump) w (split_piece r.now s)) }
+    requires { Seated w.tricks × (entries.old.start + length r.now ≤ 2 ^ 40) × (entries.old.count ≤ 2 ^ 58) × (walk_count w ≤ 2 ^ 59) × (s.start + s.len ≤ length r.now) }
+    ensures { Walks (walk_count w + 3 * s.len) entries.old entries.new result (out_all (walked c (Some o) trump) w (split_piece r.now s)) }
 {
     if s.len == 0 {
         return w;
     }
-    walk_piece(
-        c,
-        o,
-        trump,
-        w,
-        upto(from(r, s.start), s.len),
-        s.start,
-        entries,
-    )
+    walk_piece(c, o, trump, w, s.of(r), s.start, entries)
 }
 
-// All the data of the open section `o` of the record `r`.
+// All the data of the open section `o` of the record `r`. An iterator of pieces would be used here alone: its state would be the place
+// that next_piece answers, and its `next` would be next_piece.
 pub(crate) fn walk_section(
     c: Conventions,
     r: &[u8],
@@ -225,8 +209,8 @@ pub(crate) fn walk_section(
     trump: usize,
     entries: &mut Entries,
 ) -> Walk
-    requires { (entries.old.start + length r.now ≤ 2 ^ 40) × (entries.old.count ≤ 2 ^ 57) × (o.at ≤ length r.now) × (o.split.start + o.split.len ≤ length r.now) × (o.kind ≡ 2 → o.seat ≤ 3) }
-    ensures { Walks (3 * (o.split.len + (length r.now - o.at))) entries.old entries.new result (walked_all c r.now o trump) }
+    requires { (entries.old.start + length r.now ≤ 2 ^ 40) × (entries.old.count ≤ 2 ^ 57) × (o.at ≤ length r.now) × (o.split.start + o.split.len ≤ length r.now) }
+    ensures { Walks (3 * (o.split.len + (length r.now - o.at))) entries.old entries.new result (walked_all c r.now (Some o) trump) }
 {
     let mut w = walk_span(c, r, o, trump, no_walk(), o.split, entries);
     let mut at = o.at;

@@ -2,24 +2,25 @@
 ghost use Rattle.std.specs.Prelude.{◌≡◌, ◌∷◌, [], ◌+◌, ◌≤◌, ◌<◌, ◌^◌, length};
 ghost use Rattle.std.proofs.lemmas.List.Edits.{sets};
 ghost use Rattle.reader.specs.Store.{low_word, zeros, moved};
+ghost use Rattle.reader.specs.Pieces.{entry};
 ghost use Rattle.reader.specs.PieceSteps.{Adds};
 
 // The kinds of entries: numbers, as the first of an entry's four words in C.
-pub(crate) const NAME: usize = 1;
+pub const NAME: usize = 1;
 
-pub(crate) const VALUE: usize = 2;
+pub const VALUE: usize = 2;
 
-pub(crate) const DIRECTIVE: usize = 3;
+pub const DIRECTIVE: usize = 3;
 
-pub(crate) const COMMENTARY: usize = 4;
+pub const COMMENTARY: usize = 4;
 
-pub(crate) const DATA: usize = 5;
+pub const DATA: usize = 5;
 
-pub(crate) const CALL: usize = 6;
+pub const CALL: usize = 6;
 
-pub(crate) const ANNOTATION: usize = 7;
+pub const ANNOTATION: usize = 7;
 
-pub(crate) const TRICK: usize = 8;
+pub const TRICK: usize = 8;
 
 // An entry of a record, its place counted from the record's start.
 #[derive(Clone, Copy)]
@@ -30,14 +31,14 @@ pub struct Entry {
     pub z: usize,
 }
 
-// The low 32 bits.
+// The low 32 bits: `as u32` alone is refused where it loses bits, and `try_from` answers a Result.
 pub(crate) fn low_word(x: usize) -> u32
     ensures { result ≡ low_word x }
 {
     (x % 4294967296) as u32
 }
 
-// Sets every word to 0.
+// `fill(0)`, whose answer is named here as the contracts of lent words name it.
 pub fn zero(words: &mut [u32])
     ensures { words.new ≡ zeros words.old }
 {
@@ -59,7 +60,10 @@ fn moved_place(a: usize, kind: usize, x: usize) -> usize
     if kind == TRICK { x } else { a + x }
 }
 
-// Where a record's entries go: the lent words, the place where the record starts, and how many entries stand before the next one.
+// Where a record's entries go: the lent words, the place where the record starts, and how many entries stand before the next one. That
+// there are few stands in each contract, and not in a ghost field: an entry that is put is one more, so that a bound that held before it
+// need not hold after it. What bounds the count, and the start with what is added to it, is the text that is read, and each contract says
+// so of its own part: a line at p, a piece at its place, a section's data.
 #[derive(Drop)]
 pub struct Entries<'a> {
     pub words: &'a mut [u32],
@@ -68,6 +72,19 @@ pub struct Entries<'a> {
 }
 
 impl Entries<'_> {
+    // Stores the part of `len` bytes at the place `at` of the record, with its mark, as the next entry.
+    pub(crate) fn put(&mut self, kind: usize, at: usize, len: usize, mark: usize)
+        requires { (self.old.start + at < 2 ^ 63) × (self.old.count ≤ 2 ^ 60) }
+        ensures { Adds self.old self.new (entry kind at len mark ∷ []) }
+    {
+        self.push(Entry {
+            kind,
+            x: at,
+            y: len,
+            z: mark,
+        });
+    }
+
     // Stores e as the next entry, where there is room for a whole one.
     pub(crate) fn push(&mut self, e: Entry)
         requires { (self.old.start + e.x < 2 ^ 63) × (self.old.count ≤ 2 ^ 60) }

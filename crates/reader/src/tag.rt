@@ -1,7 +1,7 @@
 // Tags: a line `[Name "value"]`, perhaps with a comment or with section data after it. Every place is one of the line as given.
-ghost use Rattle.std.specs.Prelude.{◌≡◌, [], ◌+◌, ◌-◌, ◌≤◌, ◌<◌, length, take, drop, IfSome};
+ghost use Rattle.std.specs.Prelude.{◌≡◌, [], ◌+◌, ◌-◌, ◌≤◌, ◌<◌, eqb, length, drop, IfSome};
 ghost use Rattle.tables.specs.Letters.{among};
-ghost use Rattle.reader.specs.Tag.{part, last_byte, trim_span, trim_part, bracket_of, ends_quoted, close_at, name_of, is_quoted, value_of, is_comment, comment_of, tag_line, find_at, data_bracket, data_after, split_of};
+ghost use Rattle.reader.specs.Tag.{cut, part, last_byte, trim_span, trim_part, bracket_of, ends_quoted, close_at, name_of, is_quoted, value_of, is_comment, comment_of, tag_line, find_at, data_bracket, data_after, split_of};
 ghost use Rattle.reader.specs.TagSteps.{SpanInside, TagPlaced, SplitPlaced};
 
 use tables::text::{byte_at, from, index_of, kept_len, lead_len, trim_end, upto, word_len};
@@ -11,6 +11,17 @@ use tables::text::{byte_at, from, index_of, kept_len, lead_len, trim_end, upto, 
 pub struct Span {
     pub start: usize,
     pub len: usize,
+}
+
+pub(crate) const NO_SPAN: Span = Span { start: 0, len: 0 };
+
+impl Span {
+    // The bytes of a text that stand there.
+    pub fn of<'a>(self, text: &'a [u8]) -> &'a [u8]
+        ensures { result.now ≡ cut self text.now }
+    {
+        upto(from(text, self.start), self.len)
+    }
 }
 
 // The places of a tag's name and of its value, without the quotes.
@@ -27,18 +38,12 @@ fn part(s: &[u8], a: usize, e: usize) -> &[u8]
     from(upto(s, e), a)
 }
 
-// The `n` bytes from place `a`.
-fn cut(s: &[u8], a: usize, n: usize) -> &[u8]
-    ensures { result.now ≡ take n (drop a s.now) }
+// Whether the last byte is a quote.
+#[tactic(auto, using(crate::proofs::TagLaws::last_get))]
+fn ends_in_quote(s: &[u8]) -> bool
+    ensures { result ≡ eqb (last_byte s.now) 34 }
 {
-    upto(from(s, a), n)
-}
-
-// The last byte, 0 where there is none.
-fn last_byte(s: &[u8]) -> u8
-    ensures { result ≡ last_byte s.now }
-{
-    s.last().copied().unwrap_or(0)
+    matches!(s, [.., b'"'])
 }
 
 #[tactic(auto, using(crate::proofs::TagLaws::among_before))]
@@ -60,14 +65,14 @@ pub(crate) fn trim_span(s: &[u8]) -> Span
 }
 
 // Where the part of a line from `a` up to `e` lies once it is trimmed.
+#[tactic(auto, unfolding(crate::specs::Tag::trim_span, crate::specs::Tag::trim_part))]
 fn trim_part(line: &[u8], a: usize, e: usize) -> Span
     ensures { (result ≡ trim_part a e line.now) × (result.len ≤ length line.now - result.start) }
 {
-    let t = part(line, a, e);
-    let n = lead_len(t);
+    let t = trim_span(part(line, a, e));
     Span {
-        start: a + n,
-        len: kept_len(from(t, n)),
+        start: a + t.start,
+        ..t
     }
 }
 
@@ -82,37 +87,44 @@ fn opening_bracket(line: &[u8]) -> Option<usize>
     None
 }
 
-// Whether the text from `a` up to `e`, the white space off its end, ends with a quote.
+// Whether a text ends with a quote, the white space off its end.
 #[tactic(auto, unfolding(crate::specs::Tag::ends_quoted))]
-fn quote_before(line: &[u8], a: usize, e: usize) -> bool
-    ensures { result ≡ ends_quoted (part a e line.now) }
+fn ends_quoted(s: &[u8]) -> bool
+    ensures { result ≡ ends_quoted s.now }
 {
-    last_byte(trim_end(part(line, a, e))) == b'"'
+    ends_in_quote(trim_end(s))
 }
 
-// The first `]` of the body, which starts at `a`, with a quote before it, white space apart.
+// The first `x` at `a` or after it.
+fn find_from(line: &[u8], x: u8, a: usize) -> Option<usize>
+    ensures { (result ≡ find_at x a (drop a line.now)) × IfSome result (λ k. k < length line.now) }
+{
+    let k = a + index_of(from(line, a), x);
+    (k < line.len()).then_some(k)
+}
+
+// The first `]` of the body, which starts at `a`, with a quote before it, white space apart. A `for` over places would look at each byte
+// alone, where `find_from` looks at four a turn.
 fn closing_bracket(line: &[u8], a: usize) -> Option<usize>
     ensures { (result ≡ close_at a [] (drop a line.now)) × IfSome result (λ k. k < length line.now) }
 {
-    // From one `]` to the next, which `index_of` finds four bytes a turn: a `for` over places would look at each byte alone.
-    let mut i = a + index_of(from(line, a), b']');
-    while i < line.len() {
-        if quote_before(line, a, i) {
+    let mut next = a;
+    while let Some(i) = find_from(line, b']', next) {
+        if ends_quoted(part(line, a, i)) {
             return Some(i);
         }
-        i = i + 1 + index_of(from(line, i + 1), b']');
+        next = i + 1;
     }
     None
 }
 
-// The length of the name that ends before the first white byte between `a` and `e`.
-#[tactic(auto, using(crate::proofs::TagLaws::length_part), unfolding(crate::specs::Tag::name_of))]
-fn tag_name(line: &[u8], a: usize, e: usize) -> Option<usize>
-    ensures { (result ≡ name_of (part a e line.now)) × IfSome result (λ n. n < length line.now - a) }
+// The length of the name that a body begins with: it ends before the first white byte.
+#[tactic(auto, unfolding(crate::specs::Tag::name_of))]
+fn name_len(body: &[u8]) -> Option<usize>
+    ensures { (result ≡ name_of body.now) × IfSome result (λ n. n < length body.now) }
 {
-    let t = part(line, a, e);
-    let n = word_len(t);
-    (n < t.len()).then_some(n)
+    let n = word_len(body);
+    (n < body.len()).then_some(n)
 }
 
 // An opening and a closing quote, which are two bytes.
@@ -120,7 +132,7 @@ fn tag_name(line: &[u8], a: usize, e: usize) -> Option<usize>
 fn is_quoted(s: &[u8]) -> bool
     ensures { result ≡ is_quoted s.now }
 {
-    s.len() >= 2 && byte_at(s, 0) == b'"' && last_byte(s) == b'"'
+    s.len() >= 2 && byte_at(s, 0) == b'"' && ends_in_quote(s)
 }
 
 // The value in quotes between `a` and `e`, white space apart.
@@ -128,12 +140,10 @@ fn quoted_value(line: &[u8], a: usize, e: usize) -> Option<Span>
     ensures { (result ≡ value_of a e line.now) × IfSome result (λ p. SpanInside p (length line.now)) }
 {
     let t = trim_part(line, a, e);
-    let start = t.start;
-    let n = t.len;
-    if is_quoted(cut(line, start, n)) {
+    if is_quoted(t.of(line)) {
         return Some(Span {
-            start: start + 1,
-            len: n - 2,
+            start: t.start + 1,
+            len: t.len - 2,
         });
     }
     None
@@ -151,18 +161,17 @@ fn is_comment(s: &[u8]) -> bool
     b == b';'
 }
 
-// The comment on the line from `a` on, if something stands there; nothing where that is no comment.
+// The comment on the line from `a` on, if something stands there; nothing where that is no comment. The outer Option is for `?` in
+// `parse_tag_line`, as of the other parts of a tag.
 #[tactic(auto, unfolding(crate::specs::Tag::comment_of))]
 fn trailing_comment(line: &[u8], a: usize) -> Option<Option<Span>>
     ensures { (result ≡ comment_of a line.now) × IfSome result (λ o. IfSome o (λ p. SpanInside p (length line.now))) }
 {
     let t = trim_part(line, a, line.len());
-    let start = t.start;
-    let n = t.len;
-    if n == 0 {
+    if t.len == 0 {
         return Some(None);
     }
-    is_comment(cut(line, start, n)).then_some(Some(t))
+    is_comment(t.of(line)).then_some(Some(t))
 }
 
 // A tag and the comment after it.
@@ -172,19 +181,11 @@ pub(crate) fn parse_tag_line(line: &[u8]) -> Option<(Tag, Option<Span>)>
 {
     let a = opening_bracket(line)?;
     let e = closing_bracket(line, a)?;
-    let n = tag_name(line, a, e)?;
+    let n = name_len(part(line, a, e))?;
     let value = quoted_value(line, a + n, e)?;
     let comment = trailing_comment(line, e + 1)?;
     let name = Span { start: a, len: n };
     Some((Tag { name, value }, comment))
-}
-
-// The first `x` at `a` or after it.
-fn find_from(line: &[u8], x: u8, a: usize) -> Option<usize>
-    ensures { (result ≡ find_at x a (drop a line.now)) × IfSome result (λ k. k < length line.now) }
-{
-    let k = a + index_of(from(line, a), x);
-    (k < line.len()).then_some(k)
 }
 
 // The first `]` after the line's second quote.

@@ -1,11 +1,22 @@
-// The meanings of words: calls, cards, contracts, vulnerability, ends of sections.
+// The meanings of words: calls, cards, contracts, vulnerability, ends of sections. Definitions have numbers for none: 47 of a call, 52 of
+// a card, 0 of a level, 4 of a trump or a vulnerability; specs of the writer, of lin and of the demands compare those numbers, so that
+// they stay, and a contract here says an Option by them.
 ghost use Rattle.std.specs.Prelude.{◌≡◌, ◌≤◌, ◌<◌, length, IfSome, unwrap_or};
 ghost use Rattle.reader.specs.Words.{same, same_word, level_of, bid_code, bid_of, is_pass, underscore_code, sign_code, call_of, is_mark, call_part, section_end, is_all_pass, is_doubling, contract_trump, is_no_side, is_both_sides, vulnerability_of, card_number, card_named};
 
 use tables::letters::{Conventions, rank_of, strain_of, suit_of, to_capital};
 use tables::text::{byte_at, first_character, from, is_inside, upto};
 
-// Equal texts.
+// The codes of calls that are no bids, as in an entry of a call; bids are 1 to 35, underscores 39 to 46.
+pub const PASS: u8 = 0;
+
+pub const X: u8 = 36;
+
+pub const XX: u8 = 37;
+
+pub const PLUS: u8 = 38;
+
+// Equal texts. `==` takes no `&[u8; 1]` beside a `&[u8]`: each place would have to say `b"+".as_slice() == token`.
 pub fn same(a: &[u8], b: &[u8]) -> bool
     ensures { result ≡ same a.now b.now }
 {
@@ -53,16 +64,10 @@ fn underscore_code(token: &[u8]) -> Option<u8>
     ensures { (unwrap_or result 47 ≡ underscore_code token.now) × IfSome result (λ k. k < 47) }
 {
     let n = token.len();
-    if n == 0 {
+    if n == 0 || n > 8 {
         return None;
     }
-    if n > 8 {
-        return None;
-    }
-    if same(upto(b"________", n), token) {
-        return Some(38 + (n as u8));
-    }
-    None
+    (upto(b"________", n) == token).then_some(PLUS + n as u8)
 }
 
 // A call that is no bid.
@@ -71,16 +76,16 @@ fn sign_code(token: &[u8]) -> Option<u8>
     ensures { (unwrap_or result 47 ≡ sign_code token.now) × IfSome result (λ k. k < 47) }
 {
     if is_pass(token) {
-        return Some(0);
+        return Some(PASS);
     }
     if same_word(b"X", token) {
-        return Some(36);
+        return Some(X);
     }
     if same_word(b"XX", token) {
-        return Some(37);
+        return Some(XX);
     }
     if same(b"+", token) {
-        return Some(38);
+        return Some(PLUS);
     }
     underscore_code(token)
 }
@@ -141,10 +146,10 @@ pub(crate) fn is_all_pass(token: &[u8]) -> bool
 fn is_doubling(t: &[u8]) -> bool
     ensures { result ≡ is_doubling t.now }
 {
-    (t.len() == 0) | same_word(b"X", t) | same_word(b"XX", t)
+    t.is_empty() | same_word(b"X", t) | same_word(b"XX", t)
 }
 
-// The trump suit of a contract, 4 for notrump or no contract: a number that no suit is equal to.
+// The trump suit of a contract, 4 for notrump or no contract: word 59 of a card in C, and a number that no suit is equal to.
 #[tactic(auto, using(crate::proofs::WordLaws::contract_is))]
 pub(crate) fn contract_trump(c: Conventions, value: &[u8]) -> u8
     ensures { (result ≡ contract_trump c value.now) × (result ≤ 4) }
@@ -172,7 +177,8 @@ fn is_both_sides(value: &[u8]) -> bool
     same_word(b"ALL", value) | same_word(b"BOTH", value)
 }
 
-// 0 none, 1 NS, 2 EW, 3 all, as the C interface's word of a card says it; 4 where it is no vulnerability.
+// 0 none, 1 NS, 2 EW, 3 all, as the C interface's word of a card says it; 4 where it is no vulnerability, as `Identity` keeps it: an
+// Option would become that number in the one place that calls.
 #[tactic(auto, unfolding(crate::specs::Words::vulnerability_of))]
 pub(crate) fn vulnerability_of(value: &[u8]) -> u8
     ensures { (result ≡ vulnerability_of value.now) × (result ≤ 4) }

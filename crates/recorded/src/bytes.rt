@@ -16,6 +16,17 @@ impl<'a> Bytes<'a> {
         Some(*first)
     }
 
+    // A group, one of five: numbered from 1 in the file, from 0 here.
+    pub fn group(&mut self) -> Option<usize>
+        ensures bytes { IfSome result (λ g. self.old.rest.now ≡ (g + 1) ∷ self.new.rest.now) }
+        ensures small { IfSome result (λ g. g < 5) }
+    {
+        match self.byte()? {
+            g @ 1..=5 => Some((g - 1) as usize),
+            _ => None,
+        }
+    }
+
     pub fn two_bytes(&mut self) -> Option<usize>
         ensures bytes { IfSome result (λ n. self.old.rest.now ≡ n % 256 ∷ n / 256 ∷ self.new.rest.now) }
         ensures small { IfSome result (λ n. n < 65536) }

@@ -1,5 +1,5 @@
 // Cases replayed one after the other, and counted.
-ghost use Rattle.std.specs.Prelude.{◌≡◌, ◌+◌, ◌<◌, ◌≤◌, min, length, slice_index, slice_set, IfErr, OnOk};
+ghost use Rattle.std.specs.Prelude.{◌≡◌, ◌+◌, ◌<◌, ◌≤◌, min, length, slice_index, slice_set, IfErr, OnOk, OnSome};
 
 use crate::bytes::Bytes;
 use std::fmt;
@@ -51,15 +51,33 @@ impl fmt::Display for Replayed {
     }
 }
 
-// Counts the cases of one file, each once it gave the recorded answer.
-pub trait Counting {
-    // Replays the next case, which has at least one byte, and counts it.
-    fn replay_next(&mut self, cases: &mut Bytes) -> Result<(), Fault>
-        ensures { OnOk result (length cases.new.rest.now < length cases.old.rest.now) };
+// A case of a file of one program.
+pub trait Recorded<'a>: Copy {
+    // The next case.
+    fn take(cases: &mut Bytes<'a>) -> Option<Self>
+        ensures { OnSome result (length cases.new.rest.now < length cases.old.rest.now) };
+
+    // Whether the product gives what was recorded.
+    fn is_same(self) -> bool;
+
+    // Counts the case, by the places of the program's counts.
+    fn count(self, counts: &mut [u64]);
+}
+
+// Replays the next case, and counts it.
+fn replay_next<'a, C: Recorded<'a>>(cases: &mut Bytes<'a>, counts: &mut [u64]) -> Result<(), Fault>
+    ensures { OnOk result (length cases.new.rest.now < length cases.old.rest.now) }
+{
+    let case = C::take(cases).ok_or(Fault::NotWhole)?;
+    if !case.is_same() {
+        return Err(Fault::Different);
+    }
+    case.count(counts);
+    Ok(())
 }
 
 // Replays every case up to the first that is different or not whole.
-pub fn replay_all<C: Counting>(counts: &mut C, file: &[u8]) -> Replayed
+pub fn replay_all<'a, C: Recorded<'a>>(file: &'a [u8], counts: &mut [u64]) -> Replayed
     ensures compared { result.compared ≤ length file.now }
     ensures at { IfErr result.end (λ s. s.at < length file.now) }
 {
@@ -67,7 +85,7 @@ pub fn replay_all<C: Counting>(counts: &mut C, file: &[u8]) -> Replayed
     let mut compared = 0;
     while !cases.rest.is_empty() {
         let at = file.len() - cases.rest.len();
-        if let Err(fault) = counts.replay_next(&mut cases) {
+        if let Err(fault) = replay_next::<C>(&mut cases, counts) {
             return Replayed {
                 compared,
                 end: Err(Stop { fault, at }),
@@ -81,12 +99,12 @@ pub fn replay_all<C: Counting>(counts: &mut C, file: &[u8]) -> Replayed
     }
 }
 
-// One more of the kind k, where there is one. A count stays at its limit, which no file reaches.
-pub fn one_more(counts: &mut [u64], k: usize)
-    ensures counted { k < length counts.old → counts.new ≡ slice_set counts.old k (min (slice_index counts.old k + 1) 18446744073709551615) }
+// n more at the place k, where there is one. A count stays at its limit, which no file reaches.
+pub fn add(counts: &mut [u64], k: usize, n: u64)
+    ensures counted { k < length counts.old → counts.new ≡ slice_set counts.old k (min (slice_index counts.old k + n) 18446744073709551615) }
     ensures other { length counts.old ≤ k → counts.new ≡ counts.old }
 {
     if k < counts.len() {
-        counts[k] = counts[k].saturating_add(1);
+        counts[k] = counts[k].saturating_add(n);
     }
 }

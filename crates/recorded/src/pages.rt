@@ -1,5 +1,8 @@
-// What a lent page holds.
-ghost use Rattle.std.specs.Prelude.{◌≡◌, ◌++◌, ◌-◌, ◌↔◌, IsTrue, length, replicate};
+// What is lent, and what a lent page holds.
+ghost use Rattle.std.specs.Prelude.{◌≡◌, ◌++◌, ◌-◌, ◌≤◌, ◌↔◌, IsTrue, length, replicate};
+
+// A lent word is not zero before, so that one which should have become 0 is seen.
+pub const FULL: u32 = 2863311530;
 
 // Whether all bytes are zero.
 fn is_zero(s: &[u8]) -> bool
@@ -16,4 +19,20 @@ pub fn holds(page: &[u8], bytes: &[u8]) -> bool
         Some(rest) => is_zero(rest),
         None => false,
     }
+}
+
+// Whether a call that is lent a page of so many bytes answers as recorded, and leaves these bytes on it with zeros behind them. The page
+// has no zeros before, so that a byte which should have become 0 is seen.
+pub fn is_written<T: PartialEq + Copy, F: Fn(&mut [u8]) -> T>(
+    page: usize,
+    write: F,
+    told: T,
+    bytes: &[u8],
+) -> bool
+    requires { (page ≤ 16384) × F.IsAlwaysCallable write }
+{
+    let mut lent = [170; 16384];
+    let page = &mut lent[..page];
+    let answered = write(page);
+    (answered == told) & holds(page, bytes)
 }

@@ -1,6 +1,7 @@
 // The file that is read, and what is printed.
 ghost use Rattle.std.specs.Prelude.{◌<◌, IfOk, IfSome, vec_len};
 
+use crate::cases::Replayed;
 use std::io::Read;
 use std::rt::Files;
 use std::{fs, io};
@@ -27,10 +28,31 @@ pub fn read_file<R: Files + Print + AllocGlobal>(
     Ok(Some(bytes))
 }
 
-// A line for each count, under its name.
-pub fn print_counts(rt: &impl Print, names: &[&str], counts: &[u64]) -> io::Result<()> {
+// Replays the cases of a file, from counts that are 0, and prints each count under its name; None where the file is not read.
+pub fn report<R: Files + Print + AllocGlobal, F: Fn(&[u8], &mut [u64]) -> Replayed>(
+    rt: &R,
+    name: &str,
+    limit: u64,
+    names: &[&str],
+    counts: &mut [u64],
+    replay: F,
+) -> io::Result<Option<Replayed>>
+    requires { F.IsAlwaysCallable replay }
+{
+    let Some(file) = read_file(rt, name, limit)? else {
+        return Ok(None);
+    };
+    let replayed = replay(&file, counts);
     for (name, n) in names.iter().zip(counts) {
         println!(rt; "{name}: {n}")?;
     }
-    Ok(())
+    Ok(Some(replayed))
+}
+
+// How a replay ended, and how many cases were compared where it came to the end.
+pub fn print_end(rt: &impl Print, replayed: Replayed) -> io::Result<()> {
+    match replayed.end {
+        Ok(()) => println!(rt; "{replayed}"),
+        Err(stop) => println!(rt; "{stop}"),
+    }
 }

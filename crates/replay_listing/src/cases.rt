@@ -1,31 +1,49 @@
-// A case of the file `cases`, taken apart. Numbers have their low byte first.
+// A case of the file `cases`: taken apart, replayed through the listing, and counted. Numbers have their low byte first.
 //   2 the limit · 2 the page's length
 //   2 the old edition's length, then its text
 //   2 the new edition's length, then its text
 //   1 the refusal · 4 the carried number
 //   2 the output's length, then the output
-ghost use Rattle.std.specs.Prelude.{◌≤◌, ◌<◌, length, OnSome};
+ghost use Rattle.std.specs.Prelude.{◌≤◌};
 
+use listing_text::listing::list;
+use planning::editions::LentBoxes;
 use recorded::bytes::Bytes;
+use recorded::cases::{Recorded, add};
+use recorded::pages::is_written;
+use recorded::told::{Told, answer};
+use tables::refusal::Refusal;
 
-// `limit` and `page` are lengths. `carried` is the number of bytes where the refusal is 0, for none.
+// `limit` and `page` are lengths. The answer is the number of bytes, which is carried where the refusal is 0.
 #[derive(Clone, Copy)]
 pub struct Case<'a> {
-    pub limit: usize,
-    pub page: usize,
-    pub old: &'a [u8],
-    pub new: &'a [u8],
-    pub refusal: u64,
-    pub carried: u64,
-    pub output: &'a [u8],
+    limit: usize,
+    page: usize,
+    old: &'a [u8],
+    new: &'a [u8],
+    told: Result<u64, Told>,
+    output: &'a [u8],
     ghost page_small: { page ≤ 512 },
 }
 
-impl<'a> Case<'a> {
-    // The next case.
-    pub fn take(cases: &mut Bytes<'a>) -> Option<Case<'a>>
-        ensures { OnSome result (length cases.new.rest.now < length cases.old.rest.now) }
-    {
+// Lends four cards and sixteen entries an edition and two slips, each with a tail too short for one more. No lent word is zero before.
+fn list_on(page: &mut [u8], old: &[u8], new: &[u8], limit: usize) -> Result<u64, Refusal> {
+    let mut old_cards = [170u32; 319];
+    let mut old_entries = [170u32; 67];
+    let mut new_cards = [170u32; 319];
+    let mut new_entries = [170u32; 67];
+    let mut slips = [170u64; 14];
+    let mut boxes = LentBoxes {
+        old_cards: &mut old_cards,
+        old_entries: &mut old_entries,
+        new_cards: &mut new_cards,
+        new_entries: &mut new_entries,
+    };
+    list(old, new, limit, &mut boxes, &mut slips, page)
+}
+
+impl<'a> Recorded<'a> for Case<'a> {
+    fn take(cases: &mut Bytes<'a>) -> Option<Case<'a>> {
         let limit = cases.two_bytes()?;
         let page = cases.two_bytes()?;
         let old = cases.part()?;
@@ -33,7 +51,8 @@ impl<'a> Case<'a> {
         let refusal = u64::from(cases.byte()?);
         let carried = cases.four_bytes()? as u64;
         let output = cases.part()?;
-        if page > 512 {
+        let bytes = output.len() as u64;
+        if (page > 512) | ((refusal == 0) & (carried != bytes)) {
             return None;
         }
         Some(Case {
@@ -41,9 +60,27 @@ impl<'a> Case<'a> {
             page,
             old,
             new,
-            refusal,
-            carried,
+            told: answer(bytes, refusal, carried),
             output,
         })
+    }
+
+    fn is_same(self) -> bool {
+        is_written(
+            self.page,
+            |page| list_on(page, self.old, self.new, self.limit).map_err(Told::of),
+            self.told,
+            self.output,
+        )
+    }
+
+    // Listed, refused in a line, which begins with r, or a page too short.
+    fn count(self, counts: &mut [u64]) {
+        let k = match self.told {
+            Ok(_) if self.output.first() == Some(&b'r') => 1,
+            Ok(_) => 0,
+            Err(_) => 2,
+        };
+        add(counts, k, 1);
     }
 }

@@ -3,29 +3,21 @@
 // and runs no part of the product.
 #![tactic(auto)]
 
-mod cases; // a case taken apart
-mod replay; // a case replayed and compared
+mod cases; // a case taken apart, replayed and counted
 
-use crate::replay::Counts;
+use crate::cases::Case;
 use recorded::cases::replay_all;
-use recorded::report::read_file;
+use recorded::report::{print_end, report};
 use std::io;
 
+// What is counted, by the places of cases.rt.
+const NAMES: [&str; 3] = ["listed", "refused", "page too short"];
+
 fn main(rt: HostRuntime) -> io::Result<()> {
-    let Some(cases) = read_file(&rt, "cases", 65536)? else {
-        return Ok(());
-    };
-    let mut counts = Counts {
-        listed: 0,
-        refused: 0,
-        full: 0,
-    };
-    let replayed = replay_all(&mut counts, &cases);
-    println!(rt; "listed: {}", counts.listed)?;
-    println!(rt; "refused: {}", counts.refused)?;
-    println!(rt; "page too short: {}", counts.full)?;
-    match replayed.end {
-        Ok(()) => println!(rt; "{replayed}"),
-        Err(stop) => println!(rt; "{stop}"),
+    let mut counts = [0; 3];
+    let replay = |file: &[u8], counts: &mut [u64]| replay_all::<Case>(file, counts);
+    match report(&rt, "cases", 65536, &NAMES, &mut counts, replay)? {
+        Some(replayed) => print_end(&rt, replayed),
+        None => Ok(()),
     }
 }

@@ -1,16 +1,12 @@
-// A case of the recorded answers, taken apart. main.rt has the form of a case.
-ghost use Rattle.std.specs.Prelude.{◌≤◌, ◌<◌, length, OnSome};
+// A case of the recorded answers: taken apart, replayed through read_pbn, and counted. main.rt has the form of a case.
+ghost use Rattle.std.specs.Prelude.{◌≤◌};
 
+use crate::codes::is_coded;
+use reader::edition::{Counts, read_pbn};
 use recorded::bytes::Bytes;
-
-// What a reading answers. After a refusal there are no boards and no entries, without one nothing is carried.
-#[derive(Clone, Copy, PartialEq, Eq)]
-pub struct Told {
-    pub refusal: u64,
-    pub carried: u64,
-    pub boards: u64,
-    pub entries: u64,
-}
+use recorded::cases::{Recorded, add};
+use recorded::pages::FULL;
+use recorded::told::{Told, answer};
 
 // The words that are lent.
 #[derive(Clone, Copy)]
@@ -24,28 +20,25 @@ pub struct Lent {
 // The codes give the lent words as they stand after the call.
 #[derive(Clone, Copy)]
 pub struct Case<'a> {
-    pub group: u8,
-    pub text: &'a [u8],
-    pub lent: Lent,
-    pub told: Told,
-    pub card_codes: &'a [u8],
-    pub entry_codes: &'a [u8],
+    group: usize,
+    text: &'a [u8],
+    lent: Lent,
+    told: Result<Counts, Told>,
+    card_codes: &'a [u8],
+    entry_codes: &'a [u8],
 }
 
-impl<'a> Case<'a> {
-    // The next case.
-    pub fn take(cases: &mut Bytes<'a>) -> Option<Case<'a>>
-        ensures { OnSome result (length cases.new.rest.now < length cases.old.rest.now) }
-    {
-        let group = cases.byte()?;
+impl<'a> Recorded<'a> for Case<'a> {
+    fn take(cases: &mut Bytes<'a>) -> Option<Case<'a>> {
+        let group = cases.group()?;
         let text = cases.part()?;
         let cards = cases.two_bytes()?;
         let entries = cases.two_bytes()?;
-        let told = Told {
-            refusal: u64::from(cases.byte()?),
-            carried: cases.two_bytes()? as u64,
-            boards: cases.two_bytes()? as u64,
-            entries: cases.two_bytes()? as u64,
+        let refusal = u64::from(cases.byte()?);
+        let carried = cases.two_bytes()? as u64;
+        let counts = Counts {
+            boards: cases.two_bytes()?,
+            entries: cases.two_bytes()?,
         };
         let card_codes = cases.part()?;
         let entry_codes = cases.part()?;
@@ -56,9 +49,34 @@ impl<'a> Case<'a> {
             group,
             text,
             lent: Lent { cards, entries },
-            told,
+            told: answer(counts, refusal, carried),
             card_codes,
             entry_codes,
         })
+    }
+
+    fn is_same(self) -> bool {
+        let mut cards = [FULL; 8192];
+        let mut entries = [FULL; 8192];
+        let cards = &mut cards[..self.lent.cards];
+        let entries = &mut entries[..self.lent.entries];
+        let told = read_pbn(self.text, cards, entries).map_err(Told::of);
+        (told == self.told) & is_coded(cards, self.card_codes) & is_coded(entries, self.entry_codes)
+    }
+
+    // The group; the answer, with the boards and entries of those that are taken; all words lent.
+    fn count(self, counts: &mut [u64]) {
+        add(counts, self.group, 1);
+        match self.told {
+            Ok(n) => {
+                add(counts, 5, 1);
+                add(counts, 8, n.boards as u64);
+                add(counts, 9, n.entries as u64);
+            }
+            Err(Told { refusal: 2, .. }) => add(counts, 6, 1),
+            Err(Told { refusal: 3, .. }) => add(counts, 7, 1),
+            Err(_) => (),
+        }
+        add(counts, 10, (self.lent.cards + self.lent.entries) as u64);
     }
 }

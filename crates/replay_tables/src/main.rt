@@ -2,15 +2,15 @@
 // says how the file was made.
 #![tactic(auto)]
 
-mod cases; // a case taken apart
-mod replay; // a case replayed and compared
+mod cases; // a case taken apart, replayed and counted
 
-use crate::replay::Counts;
+use crate::cases::Case;
 use recorded::cases::replay_all;
-use recorded::report::{print_counts, read_file};
+use recorded::report::{print_end, report};
 use std::io;
 
-const KINDS: [&str; 5] = [
+// What is counted, by the places of cases.rt.
+const NAMES: [&str; 5] = [
     "digits written",
     "header written",
     "rows written",
@@ -19,14 +19,10 @@ const KINDS: [&str; 5] = [
 ];
 
 fn main(rt: HostRuntime) -> io::Result<()> {
-    let Some(answers) = read_file(&rt, "answers", 131072)? else {
-        return Ok(());
-    };
-    let mut counts = Counts { kinds: [0; 5] };
-    let replayed = replay_all(&mut counts, &answers);
-    print_counts(&rt, &KINDS, &counts.kinds)?;
-    match replayed.end {
-        Ok(()) => println!(rt; "{replayed}"),
-        Err(stop) => println!(rt; "{stop}"),
+    let mut counts = [0; 5];
+    let replay = |file: &[u8], counts: &mut [u64]| replay_all::<Case>(file, counts);
+    match report(&rt, "answers", 131072, &NAMES, &mut counts, replay)? {
+        Some(replayed) => print_end(&rt, replayed),
+        None => Ok(()),
     }
 }

@@ -1,15 +1,12 @@
-// A case of the recorded answers, taken apart. main.rt has the form of a case.
-ghost use Rattle.std.specs.Prelude.{◌≤◌, ◌<◌, length, OnSome};
+// A case of the recorded answers: taken apart, replayed through write_pbn, and counted. main.rt has the form of a case.
+ghost use Rattle.std.specs.Prelude.{◌≤◌};
 
+use reader::edition::read_pbn;
 use recorded::bytes::Bytes;
-
-// What writing answers. After a refusal nothing is written, without one nothing is carried.
-#[derive(Clone, Copy, PartialEq, Eq)]
-pub struct Told {
-    pub refusal: u64,
-    pub carried: u64,
-    pub written: u64,
-}
+use recorded::cases::{Recorded, add};
+use recorded::pages::{FULL, holds};
+use recorded::told::{Told, answer};
+use writer::write::write_pbn;
 
 // The words and bytes that are lent.
 #[derive(Clone, Copy)]
@@ -24,19 +21,33 @@ pub struct Lent {
 
 #[derive(Clone, Copy)]
 pub struct Case<'a> {
-    pub group: u8,
-    pub text: &'a [u8],
-    pub lent: Lent,
-    pub told: Told,
-    pub written: &'a [u8],
+    group: usize,
+    text: &'a [u8],
+    lent: Lent,
+    told: Result<u64, Told>,
+    written: &'a [u8],
 }
 
 impl<'a> Case<'a> {
-    // The next case.
-    pub fn take(cases: &mut Bytes<'a>) -> Option<Case<'a>>
-        ensures { OnSome result (length cases.new.rest.now < length cases.old.rest.now) }
-    {
-        let group = cases.byte()?;
+    // Whether these words are those that reading leaves, all zero after a refusal.
+    fn is_read(self, lent: &[u32], also: &[u32]) -> bool {
+        let mut cards = [FULL; 8192];
+        let mut entries = [FULL; 8192];
+        let cards = &mut cards[..self.lent.cards];
+        let entries = &mut entries[..self.lent.entries];
+        if self.told.is_ok() {
+            let _ = read_pbn(self.text, cards, entries);
+        } else {
+            cards.fill(0);
+            entries.fill(0);
+        }
+        (lent == &*cards) & (also == &*entries)
+    }
+}
+
+impl<'a> Recorded<'a> for Case<'a> {
+    fn take(cases: &mut Bytes<'a>) -> Option<Case<'a>> {
+        let group = cases.group()?;
         let text = cases.part()?;
         let cards = cases.two_bytes()?;
         let entries = cases.two_bytes()?;
@@ -55,12 +66,35 @@ impl<'a> Case<'a> {
                 entries,
                 page,
             },
-            told: Told {
-                refusal,
-                carried,
-                written: written.len() as u64,
-            },
+            told: answer(written.len() as u64, refusal, carried),
             written,
         })
+    }
+
+    fn is_same(self) -> bool {
+        let mut cards = [FULL; 8192];
+        let mut entries = [FULL; 8192];
+        let mut page = [170; 16384];
+        let cards = &mut cards[..self.lent.cards];
+        let entries = &mut entries[..self.lent.entries];
+        let page = &mut page[..self.lent.page];
+        let told = write_pbn(self.text, cards, entries, page).map_err(Told::of);
+        (told == self.told) & holds(page, self.written) & self.is_read(cards, entries)
+    }
+
+    // The group; the answer, with the bytes written; all bytes lent as pages.
+    fn count(self, counts: &mut [u64]) {
+        add(counts, self.group, 1);
+        match self.told {
+            Ok(bytes) => {
+                add(counts, 5, 1);
+                add(counts, 9, bytes);
+            }
+            Err(Told { refusal: 2, .. }) => add(counts, 6, 1),
+            Err(Told { refusal: 3, .. }) => add(counts, 7, 1),
+            Err(Told { refusal: 7, .. }) => add(counts, 8, 1),
+            Err(_) => (),
+        }
+        add(counts, 10, self.lent.page as u64);
     }
 }

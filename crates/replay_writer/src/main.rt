@@ -10,43 +10,33 @@
 // All other bytes of the page are zero. After a refusal all lent words are zero, else they are those that reading leaves.
 #![tactic(auto)]
 
-mod cases; // a case taken apart
-mod replay; // a case replayed and compared
+mod cases; // a case taken apart, replayed and counted
 
-use crate::replay::Counts;
+use crate::cases::Case;
 use recorded::cases::replay_all;
-use recorded::report::{print_counts, read_file};
+use recorded::report::report;
 use std::io;
 
-const GROUPS: [&str; 5] = [
+// What is counted, by the places of cases.rt.
+const NAMES: [&str; 11] = [
     "chosen texts",
     "editions of several boards",
     "lent sizes",
     "sampled texts",
     "damaged texts",
+    "written",
+    "refused, box full",
+    "refused, list full",
+    "refused, page full",
+    "bytes written",
+    "bytes of pages compared",
 ];
 
-fn print_replayed(rt: &impl Print, counts: &Counts) -> io::Result<()> {
-    print_counts(rt, &GROUPS, &counts.groups[1..])?;
-    println!(rt; "written: {}", counts.answers[0])?;
-    println!(rt; "refused, box full: {}", counts.answers[2])?;
-    println!(rt; "refused, list full: {}", counts.answers[3])?;
-    println!(rt; "refused, page full: {}", counts.answers[7])?;
-    println!(rt; "bytes written: {}", counts.written)?;
-    println!(rt; "bytes of pages compared: {}", counts.lent)
-}
-
 fn main(rt: HostRuntime) -> io::Result<()> {
-    let Some(answers) = read_file(&rt, "answers", 400001)? else {
-        return Ok(());
-    };
-    let mut counts = Counts {
-        groups: [0; 6],
-        answers: [0; 8],
-        written: 0,
-        lent: 0,
-    };
-    let replayed = replay_all(&mut counts, &answers);
-    print_replayed(&rt, &counts)?;
-    println!(rt; "{replayed}")
+    let mut counts = [0; 11];
+    let replay = |file: &[u8], counts: &mut [u64]| replay_all::<Case>(file, counts);
+    match report(&rt, "answers", 400001, &NAMES, &mut counts, replay)? {
+        Some(replayed) => println!(rt; "{replayed}"),
+        None => Ok(()),
+    }
 }

@@ -1,7 +1,7 @@
 -- Laws of letters: what is written is read back, in either case, by every accepted set of letters.
 use Prim.Native.Nat.{ℕ, zero, suc, ◌+◌, ◌-◌, ◌≤◌, ◌<◌}
 use mathlib.Core.Path.{◌≡◌, refl, sym, ap}
-use mathlib.Core.Bool.{Bool, true, false, cond, not, ◌&&◌}
+use mathlib.Core.Bool.{Bool, true, false, cond, not}
 use mathlib.Core.List.{List, [], ◌∷◌}
 use native.Mathlib.Omega.{arith}
 use lib.Dec.{leb, ltb, eqb}
@@ -10,29 +10,9 @@ use lib.ListN.{length, take, drop, get_or, length-take, length-drop}
 use lib.Seq.{get_or-take, get_or-drop}
 use borrow.Author.Tests.{eqb-true, eqb-false, eq-eqb, ne_eqb, lt-ltb, le-ltb, ltb-true, ltb-false, leb-true, le-leb, lt-leb, not-true}
 use Rattle.tables.specs.declared.letters.Conventions.{Conventions}
-use Rattle.tables.specs.Letters.{Accepted, built_in, is_capital, capital, index_in, down_from, seat_of, suit_of, honour_of, rank_of, strain_of, suit_strain, seat_letter, suit_letter, strain_token, rank_letter, suit_letters, honour_letters, every, among, distinct, is_plain}
+use Rattle.tables.specs.Letters.{Accepted, built_in, is_capital, capital, index_in, down_from, seat_of, suit_of, honour_of, rank_of, strain_of, seat_letter, suit_letter, strain_token, rank_letter, suit_letters, every, among, distinct, is_plain}
 use Rattle.tables.proofs.Laws.{by_cases, both, neither}
 use Rattle.tables.proofs.TextLaws.{above_white}
-
--- ---- tokens of one and two bytes
-
-pub strain_one : (c : Conventions) (t : List ℕ) → length t ≡ 1 → strain_of c t ≡ cond (eqb (capital (get_or t 0 0)) 78) 4 (suit_strain (suit_of c (get_or t 0 0)))
-strain_one c [] e = absurd (omega arith)
-strain_one c (a ∷ []) e = refl
-strain_one c (a ∷ b ∷ []) e = absurd (omega arith)
-strain_one c (a ∷ b ∷ d ∷ ds) e = absurd (omega arith)
-
-pub strain_two : (c : Conventions) (t : List ℕ) → length t ≡ 2 → strain_of c t ≡ cond (eqb (capital (get_or t 0 0)) 78 && eqb (capital (get_or t 1 0)) 84) 4 5
-strain_two c [] e = absurd (omega arith)
-strain_two c (a ∷ []) e = absurd (omega arith)
-strain_two c (a ∷ b ∷ []) e = refl
-strain_two c (a ∷ b ∷ d ∷ ds) e = absurd (omega arith)
-
-pub strain_other : (c : Conventions) (t : List ℕ) → (length t ≡ 1 → ⊥) → (length t ≡ 2 → ⊥) → 5 ≡ strain_of c t
-strain_other c [] e f = refl
-strain_other c (a ∷ []) e f = absurd (e refl)
-strain_other c (a ∷ b ∷ []) e f = absurd (f refl)
-strain_other c (a ∷ b ∷ d ∷ ds) e f = refl
 
 -- ---- capitals
 
@@ -48,13 +28,6 @@ unfolding capital
 capital_same b e =
     let h = capital_range b e in
     rw (lt-ltb b 97 (omega arith))
-
-pub capital_small : (b : ℕ) → is_capital b ≡ true → capital (b + 32) ≡ b
-unfolding capital
-capital_small b e =
-    let h = capital_range b e in
-    let d : b + 32 - 32 ≡ b = omega arith in
-    rw (le-ltb (b + 32) 97 (omega arith), le-ltb 122 (b + 32) (omega arith), d)
 
 pub capital_plain : (b : ℕ) → is_capital b ≡ true → is_plain b ≡ true
 unfolding is_plain

@@ -1,5 +1,6 @@
 pub mod Laws
 pub mod TextLaws
+pub mod WalkLaws
 pub mod PageLaws
 pub mod PutsLaws
 pub mod NumberLaws

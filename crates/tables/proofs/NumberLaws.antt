@@ -9,24 +9,16 @@ use lib.Dec.{ltb, eqb}
 use lib.ListN.{length, drop, get_or}
 use borrow.Author.Tests.{ltb-true, ltb-false, le-ltb, ne_eqb}
 use Rattle.std.specs.Prelude.{Some, None}
-use Rattle.tables.specs.Numbers.{digits_from, some_digits, number_of, signed_of, raised, lowered, digits, decimal}
+use Rattle.tables.specs.Numbers.{digits_from, some_digits, number_of, digits, decimal}
 use Rattle.tables.proofs.Laws.{by_cases}
 
 pub digits_none : (limit : ℕ) (s : List ℕ) → length s ≡ 0 → None ≡ some_digits limit s
 digits_none limit [] e = refl
 digits_none limit (b ∷ bs) e = absurd (omega arith)
 
-pub digits_some : (limit : ℕ) (s : List ℕ) → (length s ≡ 0 → ⊥) → digits_from limit s 0 ≡ some_digits limit s
-digits_some limit [] e = absurd (e refl)
-digits_some limit (b ∷ bs) e = refl
-
 pub number_is : (limit : ℕ) (s : List ℕ) → number_of limit s ≡ cond (eqb (get_or s 0 0) 43) (some_digits limit (drop 1 s)) (some_digits limit s)
 number_is limit [] = refl
 number_is limit (b ∷ bs) = refl
-
-pub signed_is : (half : ℕ) (s : List ℕ) → signed_of half s ≡ cond (eqb (get_or s 0 0) 45) (lowered half (some_digits half (drop 1 s))) (raised half (number_of (half - 1) s))
-signed_is half [] = refl
-signed_is half (b ∷ bs) = refl
 
 -- A digit behind the number v, where the limit allows it.
 digit_read : (limit v d : ℕ) (bs : List ℕ) → d < 10 → v * 10 + d ≤ limit → digits_from limit ((48 + d) ∷ bs) v ≡ digits_from limit bs (v * 10 + d)

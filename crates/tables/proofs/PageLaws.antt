@@ -1,20 +1,20 @@
 -- Laws of texts put one after the other on a page.
-use Prim.Native.Nat.{ℕ, zero, suc, ◌+◌, ◌-◌, ◌/◌, ◌%◌, ◌≤◌, ◌<◌}
+use Prim.Native.Nat.{ℕ, zero, suc, ◌+◌, ◌-◌, ◌*◌, ◌/◌, ◌%◌, ◌^◌, ◌≤◌, ◌<◌}
 use mathlib.Core.Path.{◌≡◌, refl, sym, ap, ◌∙◌}
-use mathlib.Core.Bool.{cond}
-use mathlib.Core.List.{List, [], ◌∷◌, ◌++◌, append_assoc, append-nil}
-use native.Mathlib.Nat.{add-zero, le_of_eq}
-use native.Mathlib.Numerals.{add-one}
+use mathlib.Core.Bool.{cond, ◌&&◌}
+use mathlib.Core.List.{List, [], ◌∷◌, ◌++◌, append_assoc}
+use native.Mathlib.Nat.{add-zero}
 use native.Mathlib.Omega.{arith}
-use lib.Dec.{ltb, leb}
-use lib.ListN.{length, drop, take, set, replicate, length-append, length-replicate, length-set, length-drop, drop_of_length-le}
-use lib.Seq.{sets, sets-eq, length-sets, drop-cons, take-append_seam, get_or-set_same, drop-set-lt, take-suc-set, take_all}
-use borrow.Author.Tests.{leb-true, lt-ltb, le-ltb}
+use native.Mathlib.Nat.{pow-succ'}
+use lib.Dec.{ltb, leb, eqb}
+use lib.ListN.{length, take, set, replicate, length-append, length-replicate}
+use lib.Seq.{sets, sets-eq, length-sets, take-append_seam}
+use borrow.Author.Tests.{leb-true, lt-ltb, le-ltb, ltb-true, ltb-false, eqb-true, eqb-false}
 use Rattle.tables.specs.declared.refusal.Refusal.{Refusal}
 use Rattle.std.specs.Prelude.{Result}
 use Rattle.tables.specs.Numbers.{digits, decimal}
 use Rattle.tables.specs.Page.{Wrote, right, answer_of, page_of}
-use Rattle.tables.specs.PageSteps.{Put, PageEnded, Digits, cleared}
+use Rattle.tables.specs.PageSteps.{Put, PageEnded}
 use Rattle.tables.proofs.Laws.{by_cases}
 
 pub sets_append : (xs ys l : List ℕ) (i : ℕ) → sets l i (xs ++ ys) ≡ sets (sets l i xs) (i + length xs) ys
@@ -30,10 +30,6 @@ put_then {p} {at} {xs} {p'} {m} {ys} {p''} {r} a b =
       after = b.after ∙ rw (a.after, a.next) (sym (sets_append xs ys p at));
       next = rw (length-append xs ys) (omega (arith, a.next, b.next));
     }
-
--- the text of a Put is another that is equal
-pub put_as : {p : List ℕ} {at : ℕ} {xs : List ℕ} {p' : List ℕ} {r : ℕ} {ys : List ℕ} → xs ≡ ys → Put p at xs p' r → Put p at ys p' r
-put_as e a = rw (← e) a
 
 -- what is left to put: rest at k now leaves what bs at `at` leaves at the start
 pub record ToPut (page₀ : List ℕ) (at : ℕ) (bs page : List ℕ) (k : ℕ) (rest : List ℕ) : Type 0 where
@@ -58,40 +54,41 @@ put_all_lem {p₀} {at} {bs} {p} {k} t = record { after = t.after; next = omega 
 
 -- ---- digits
 
-pub drop_set : (l : List ℕ) (k d : ℕ) → k < length l → drop k (set l k d) ≡ d ∷ drop (k + 1) l
-drop_set l k d h =
-    let h' : k < length (set l k d) = rw length-set h in
-    let h'' : k < suc k = omega arith in
-    rw (drop-cons (set l k d) k 0 h', get_or-set_same l k d 0 h, add-one, drop-set-lt (suc k) l k d h'')
-
-pub digits_last : (k m : ℕ) (acc : List ℕ) → m < 10 → digits k m acc ≡ (48 + m % 10) ∷ acc
+digits_append : (k m : ℕ) (acc : List ℕ) → digits k m acc ≡ digits k m [] ++ acc
 unfolding digits
-digits_last zero m acc h = refl
-digits_last (suc k) m acc h = rw (lt-ltb _ _ h)
+digits_append zero m acc = refl
+digits_append (suc k) m acc =
+    let d = 48 + m % 10 in
+    by_cases (ltb m 10)
+    (λ t. rw t)
+    (λ t. rw t (digits_append k (m / 10) (d ∷ acc) ∙ rw (digits_append k (m / 10) (d ∷ []), append_assoc)))
 
-pub digits_more : (k m : ℕ) (acc : List ℕ) → 0 < k → 10 ≤ m → digits k m acc ≡ digits (k - 1) (m / 10) ((48 + m % 10) ∷ acc)
+-- More digits are allowed than the number has.
+digits_enough : (k m : ℕ) (acc : List ℕ) → m < 10 ^ suc k → digits (suc k) m acc ≡ digits k m acc
 unfolding digits
-digits_more zero m acc z h = absurd (omega arith)
-digits_more (suc k) m acc z h =
-    let e : suc k - 1 ≡ k = omega arith in
-    rw (le-ltb _ _ h, e)
+digits_enough zero m acc h =
+    let h' : m < 10 = h in
+    rw (lt-ltb m 10 h')
+digits_enough (suc k) m acc h =
+    let h' : m < 10 * 10 ^ suc k = rw pow-succ' at h in
+    by_cases (ltb m 10)
+    (λ t. rw t)
+    (λ t. rw t (digits_enough k (m / 10) ((48 + m % 10) ∷ acc) (omega arith)))
 
-pub digits_start : (n : ℕ) (buf : List ℕ) → length buf ≡ 10 → digits 9 n (drop 10 buf) ≡ decimal n
+pub decimal_one : (n : ℕ) → n < 10 → decimal n ≡ (48 + n % 10) ∷ []
+unfolding decimal digits
+decimal_one n h = rw (lt-ltb n 10 h)
+
+digits_long : (n : ℕ) → 10 ≤ n → digits 9 n [] ≡ digits 8 (n / 10) ((48 + n % 10) ∷ [])
+unfolding digits
+digits_long n h = rw (le-ltb n 10 h)
+
+-- The last digit stands behind the others.
+pub decimal_more : (n : ℕ) → n < 4294967296 → 10 ≤ n → decimal n ≡ decimal (n / 10) ++ (48 + n % 10) ∷ []
 unfolding decimal
-digits_start n buf e = rw (drop_of_length-le buf (le_of_eq e))
-
-pub digits_found : (n k m d : ℕ) (buf : List ℕ) → k ≤ 9 → length buf ≡ 10 → digits k m (drop (k + 1) buf) ≡ decimal n → m < 10 → d ≡ 48 + m % 10 → Digits n (set buf k d) k
-digits_found n k m d buf hk el inv h ed = record { stand = rw (drop_set buf k d (omega arith), ed, ← digits_last k m (drop (k + 1) buf) h) inv; inside = hk }
-
-pub digits_end : (n k m d : ℕ) (buf : List ℕ) → k ≡ 0 → length buf ≡ 10 → digits k m (drop (k + 1) buf) ≡ decimal n → d ≡ 48 + m % 10 → Digits n (set buf 0 d) 0
-unfolding digits
-digits_end n k m d buf ek el inv ed = record { stand = rw (drop_set buf 0 d (omega arith), ed) (rw ek at inv); inside = omega arith }
-
-pub digits_on : (n k m d : ℕ) (buf : List ℕ) → 0 < k → k ≤ 9 → length buf ≡ 10 → digits k m (drop (k + 1) buf) ≡ decimal n → 10 ≤ m → d ≡ 48 + m % 10
-    → digits (k - 1) (m / 10) (drop (k - 1 + 1) (set buf k d)) ≡ decimal n
-digits_on n k m d buf z hk el inv h ed =
-    let e : k - 1 + 1 ≡ k = omega arith in
-    rw (e, drop_set buf k d (omega arith), ed, ← digits_more k m (drop (k + 1) buf) z h) inv
+decimal_more n l h =
+    let last = (48 + n % 10) ∷ [] in
+    digits_long n h ∙ digits_append 8 (n / 10) last ∙ ap (λ (s : List ℕ). s ++ last) (sym (digits_enough 8 (n / 10) [] (omega arith)))
 
 digits_few : (k m : ℕ) (acc : List ℕ) → length (digits k m acc) ≤ suc k + length acc
 unfolding digits
@@ -109,30 +106,42 @@ pub right_few : (w n : ℕ) → length (right w (decimal n)) ≤ w + 10
 unfolding right
 right_few w n = rw (length-append, length-replicate) (omega (arith, decimal_few n))
 
--- spaces and the digits are the number to the right
-pub right_is : (w n k m : ℕ) (buf : List ℕ) → Digits n buf k → length buf ≡ 10 → m ≡ w - (10 - k) → replicate m 32 ++ drop k buf ≡ right w (decimal n)
-unfolding right
-right_is w n k m buf d el em =
-    let e : length (decimal n) ≡ 10 - k = rw (← d.stand, length-drop, el) in
-    rw (em, ← e, d.stand)
+digits_some : (k m : ℕ) (acc : List ℕ) → length acc < length (digits k m acc)
+unfolding digits
+digits_some zero m acc = omega arith
+digits_some (suc k) m acc =
+    by_cases (ltb m 10)
+    (λ t. rw t (omega arith))
+    (λ t. rw t (omega (arith, digits_some k (m / 10) ((48 + m % 10) ∷ acc))))
 
-pub spaces_more : (n : ℕ) → 0 < n → replicate {A = ℕ} n 32 ≡ 32 ∷ replicate (n - 1) 32
-spaces_more zero h = absurd (omega arith)
-spaces_more (suc n) h =
-    let e : suc n - 1 ≡ n = omega arith in
+decimal_some : (n : ℕ) → 0 < length (decimal n)
+unfolding decimal
+decimal_some n = digits_some 9 n []
+
+decimal_two : (n : ℕ) → n < 4294967296 → 10 ≤ n → 2 ≤ length (decimal n)
+decimal_two n l h = rw (decimal_more n l h, length-append) (omega (arith, decimal_some (n / 10)))
+
+right_whole : (w n : ℕ) → w ≤ length (decimal n) → right w (decimal n) ≡ decimal n
+unfolding right
+right_whole w n h =
+    let e : w - length (decimal n) ≡ 0 = omega arith in
     rw e
 
--- ---- zeros behind, and the end
+right_space : (n : ℕ) → n < 10 → right 2 (decimal n) ≡ 32 ∷ decimal n
+unfolding right
+right_space n h = rw (decimal_one n h)
 
-pub clear_more : (page : List ℕ) (i : ℕ) → i < length page → cleared (set page i 0) (i + 1) ≡ cleared page i
-clear_more page i h =
-    let e : length page - i ≡ suc (length page - (i + 1)) = omega arith in
-    rw (length-set, e, add-one, take-suc-set page i 0 h, append_assoc)
+-- In two places a number of one digit has a space before it.
+pub right_is : (w n : ℕ) → w ≤ 2 → n < 4294967296 → right w (decimal n) ≡ cond (ltb n 10 && eqb w 2) (32 ∷ decimal n) (decimal n)
+right_is w n h l =
+    by_cases (ltb n 10)
+    (λ t.
+    by_cases (eqb w 2)
+    (λ u. rw (t, u) (rw (eqb-true w 2 u) (right_space n (ltb-true n 10 t))))
+    (λ u. rw (t, u) (right_whole w n (omega (arith, decimal_some n, eqb-false w 2 u)))))
+    (λ t. rw t (right_whole w n (omega (arith, decimal_two n l (ltb-false n 10 t)))))
 
-pub clear_done : (page : List ℕ) (i : ℕ) → length page ≤ i → cleared page i ≡ page
-clear_done page i h =
-    let e : length page - i ≡ 0 = omega arith in
-    rw (take_all i page h, e, append-nil)
+-- ---- the end
 
 put_start : (bs page : List ℕ) → length bs ≤ length page → take (length bs) (sets page 0 bs) ≡ bs
 put_start bs page h = rw (sets-eq bs page 0 (omega arith)) (take-append_seam bs _)
@@ -154,10 +163,3 @@ finished {bs} {page} {page₁} {n} {page'} {r} p f =
       told = rw (← en, ← el) f.told;
       page_left = rw (el, en) at f.page_left ∙ ap (λ (l : List ℕ). cond (leb (length bs) (length page)) (take (length bs) l ++ replicate (length page - length bs) 0) (replicate (length page) 0)) p.after ∙ page_then bs page;
     }
-
-pub put_nothing : (p : List ℕ) (at : ℕ) → Put p at [] p at
-put_nothing p at = record { after = refl; next = omega arith }
-
--- the page stays as long
-pub put_kept : {p : List ℕ} {at : ℕ} {bs : List ℕ} {p' : List ℕ} {r : ℕ} → Put p at bs p' r → length p' ≡ length p
-put_kept {p} {at} {bs} a = rw (a.after, length-sets p at bs)

@@ -1,6 +1,6 @@
 -- Laws of texts put one after the other on a page, whose contract is Puts.
-use Prim.Native.Nat.{ℕ, ◌+◌, ◌≤◌, ◌<◌}
-use mathlib.Core.Path.{◌≡◌, refl, ◌∙◌}
+use Prim.Native.Nat.{ℕ, ◌+◌, ◌≤◌}
+use mathlib.Core.Path.{◌≡◌, refl, ◌∙◌, subst}
 use mathlib.Core.List.{List, [], ◌++◌}
 use native.Mathlib.Omega.{arith}
 use lib.ListN.{length, length-append}
@@ -32,10 +32,6 @@ puts_as e a = rw (← e) a
 pub puts_nothing : (p : Page) → Puts p [] p
 puts_nothing p = record { put = λ h. record { after = refl; next = omega arith }; kept = refl; same = refl }
 
--- A text that is too long: nothing is promised.
-pub puts_long : (p : Page) (bs : List ℕ) → 549755813888 < p.at + length bs → Puts p bs p
-puts_long p bs l = record { put = λ h. absurd (omega arith); kept = refl; same = refl }
-
 -- What is left to put: the page p₀ is to have bs, and p what is left of it, rest.
 pub record PutsLeft (p₀ : Page) (bs : List ℕ) (p : Page) (rest : List ℕ) : Type 0 where
   pub left : p₀.at + length bs ≤ 549755813888 → ToPut p₀.bytes.now p₀.at bs p.bytes.now p.at rest
@@ -64,6 +60,6 @@ puts_same e t = rw (← e) t
 pub puts_all : {p₀ : Page} {bs : List ℕ} {p : Page} → PutsLeft p₀ bs p [] → Puts p₀ bs p
 puts_all t = record { put = λ h. put_all_lem (t.left h); kept = t.kept; same = t.same }
 
--- A page on which bs was put from its start, and which was ended, is written.
-pub ended : {page : List ℕ} {p : Page} {bs : List ℕ} {q : Page} {page₁ page' : List ℕ} {r : Result ℕ Refusal} → PageEnded q.at page₁ page' r → Puts p bs q → p.at ≡ 0 → p.bytes.now ≡ page → q.bytes.now ≡ page₁ → length bs ≤ 549755813888 → Wrote bs page page' r
-ended {page} {p} {bs} {q} e a z b f h = finished (rw (← b, ← f) (rw z at (a.put (omega (arith, z))))) e
+-- A page on which bs was put from its start, and which was finished, is written.
+pub ended : {page : List ℕ} {p : Page} {bs : List ℕ} {q : Page} {page₁ page' : List ℕ} {r : Result ℕ Refusal} → PageEnded q.at q.bytes.now page₁ r → Puts p bs q → p.at ≡ 0 → p.bytes.now ≡ page → page₁ ≡ page' → length bs ≤ 549755813888 → Wrote bs page page' r
+ended {page} {p} {bs} {q} {page₁} {page'} {r} e a z b f h = finished (rw (← b) (rw z at (a.put (omega (arith, z))))) (subst (λ (l : List ℕ). PageEnded q.at q.bytes.now l r) f e)

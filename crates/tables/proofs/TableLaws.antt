@@ -6,9 +6,10 @@ use mathlib.Core.List.{List, [], ◌∷◌, ◌++◌, map, append_assoc, append-
 use native.Mathlib.Numerals.{add-one}
 use native.Mathlib.Omega.{arith}
 use lib.Dec.{eqb, ltb}
-use lib.ListN.{length, drop, take, get_or, set, replicate, length-append, length-set, length-drop}
+use lib.ListN.{length, drop, take, get_or, set, replicate, length-append, length-set}
 use lib.Seq.{take-suc-set, take_all, drop-drop}
-use borrow.Author.Tests.{eqb-true, eqb-false, lt-ltb, le-ltb}
+use borrow.Author.Tests.{eqb-true, eqb-false, lt-ltb, le-ltb, leb-true}
+use Rattle.std.specs.Borrow.{Bor}
 use Rattle.std.specs.List.{count_by, list_any}
 use Rattle.std.proofs.lemmas.List.Sums.{count_by-le-length}
 use Rattle.std.proofs.lemmas.List.Recursion.{is_count_by}
@@ -16,11 +17,14 @@ use Rattle.tables.specs.declared.letters.Conventions.{Conventions}
 use Rattle.tables.specs.declared.refusal.Refusal.{Refusal}
 use Rattle.tables.specs.declared.refusal.Refusal.TheVariants.{Digit, Fields}
 use Rattle.std.specs.Prelude.{Option, Some, None, Ok, Err}
-use Rattle.tables.specs.Text.{is_inside, single, characters, first_character, fields, word, past_word, trim_start, lines, before, differs}
+use Rattle.tables.specs.Text.{is_inside, single, characters, first_character, fields, word, past_word, trim_start, lines, before}
 use Rattle.tables.specs.declared.dd.Cell.{Cell}
 use Rattle.tables.specs.Tables.{Row, digit_of, first_bad, digits_reading, column_text, row_text, rows_from, fields_row, row_of, stored_row, unless, gather, gathered, missing, width_of}
-use Rattle.tables.proofs.Laws.{by_cases}
-use Rattle.tables.proofs.TextLaws.{first_is, characters_next, length_zero, fields_none, fields_some, lines_step, take_front}
+use Rattle.tables.specs.declared.lines.Lines.{Lines}
+use Rattle.tables.specs.LineWalk.{at_end, lines_of, IsNextLine}
+use Rattle.tables.proofs.Laws.{by_cases, stop}
+use Rattle.tables.proofs.TextLaws.{first_is, characters_next, length_zero, fields_none, fields_some}
+use Rattle.tables.proofs.WalkLaws.{line_fields, lines_walk}
 use Rattle.tables.proofs.PageLaws.{right_few}
 
 -- ---- rows
@@ -70,9 +74,6 @@ pub record Decoding (v cells : List ℕ) (i : ℕ) : Type 0 where
   pub bad : first_bad (characters v) 0 ≡ first_bad (characters (drop i v)) i
   pub tricks : map digit_of (characters v) ≡ take i cells ++ map digit_of (characters (drop i v))
   pub size : length cells ≡ 20
-
-pub decoding : (v : List ℕ) → length (characters v) ≡ 20 → (cells : List ℕ) → length cells ≡ 20 → Decoding v cells 0
-decoding v e cells el = record { count = omega arith; bad = refl; tricks = refl; size = el }
 
 pub decoding_next : {v cells : List ℕ} {i : ℕ} → Decoding v cells i → i < 20 → (d : ℕ) → d ≡ digit_of (first_character (drop i v)) → d ≤ 13 → Decoding v (set cells i d) (i + 1)
 decoding_next {v} {cells} {i} t h d e l =
@@ -142,33 +143,28 @@ module _ (c : Conventions) (n : ℕ) (row u v w : List ℕ) (eu : u ≡ trim_sta
 
 -- ---- rows, one at a time
 
--- What is left of the text, gathered into the cells so far, is what the whole text comes to.
-pub record Gathering (c : Conventions) (text rest cells : List ℕ) (n : ℕ) : Type 0 where
-  pub left : gather c (lines rest) n cells ≡ gather c (lines text) 0 (replicate 20 255)
-  pub few : n + length rest ≤ length text
+-- The lines that are left, gathered into the cells so far from number n on, are what the whole text comes to.
+pub record Gathering (c : Conventions) (text cells : List ℕ) (w : Lines) (n : ℕ) : Type 0 where
+  pub left : gather c (lines (drop w.next w.text.now)) n cells ≡ gather c (lines text) 0 (replicate 20 255)
 
-pub gathering : (c : Conventions) (text cells : List ℕ) → cells ≡ replicate 20 255 → Gathering c text text cells 0
-gathering c text cells e = record { left = rw e; few = omega arith }
+pub gathering : (c : Conventions) (text : Bor (List ℕ)) {cells : List ℕ} {w : Lines} {n : ℕ} → cells ≡ replicate 20 255 → w ≡ lines_of text → n ≡ 0 → Gathering c text.now cells w n
+gathering c text e f z = record { left = rw (e, f, z) }
 
-module _ (c : Conventions) (text rest cells : List ℕ) (n : ℕ) (t : Gathering c text rest cells n) (h : length rest ≡ 0 → ⊥) (len : ℕ) (row : Row)
-    (el : len ≡ length (before 10 rest)) (er : row ≡ row_of c n (take len rest)) where
-  row_now : gather c (lines rest) n cells ≡ unless row (gather c (lines (drop (len + 1) rest)) (n + 1) (stored_row cells row))
+row_line : (c : Conventions) (n : ℕ) (s : List ℕ) → row_of c n (take (length (before 10 s) + 1) s) ≡ row_of c n (before 10 s)
+unfolding row_of
+row_line c n s = rw (line_fields s)
+
+module _ {c : Conventions} {text cells : List ℕ} {w v : Lines} {n : ℕ} {l : List ℕ} {row : Row} (t : Gathering c text cells w n) (s : IsNextLine w l v) (er : row ≡ row_of c n l) where
+  row_now : gather c (lines (drop w.next w.text.now)) n cells ≡ unless row (gather c (lines (drop v.next v.text.now)) (n + 1) (stored_row cells row))
   row_now =
-      let z : 0 < length rest = omega arith in
-      let e : take len rest ≡ before 10 rest = rw el (take_front (differs 10) rest) in
-      let r : row ≡ row_of c n (before 10 rest) = rw e at er in
-      rw (lines_step rest z, ← r, ← el)
+      let e : row ≡ row_of c n (before 10 (drop w.next w.text.now)) = er ∙ ap (row_of c n) s.line_is ∙ row_line c n (drop w.next w.text.now) in
+      rw (lines_walk s, ← e)
 
   pub row_fault : (f : Refusal) → row ≡ Err f → Err f ≡ gather c (lines text) 0 (replicate 20 255)
   row_fault f e = sym (sym t.left ∙ row_now ∙ rw e)
 
-  pub row_on : (given : Option Cell) (cells' rest' : List ℕ) → row ≡ Ok given → cells' ≡ stored_row cells (Ok given) → rest' ≡ drop (len + 1) rest → Gathering c text rest' cells' (n + 1)
-  row_on given cells' rest' e ec er =
-      let now : gather c (lines rest) n cells ≡ gather c (lines (drop (len + 1) rest)) (n + 1) (stored_row cells (Ok given)) = row_now ∙ rw e in
-      record {
-        left = rw (ec, er) (sym now ∙ t.left);
-        few = rw (er, length-drop) (omega (arith, t.few));
-      }
+  pub row_on : (given : Option Cell) (cells' : List ℕ) → row ≡ Ok given → cells' ≡ stored_row cells (Ok given) → Gathering c text cells' v (n + 1)
+  row_on given cells' e ec = record { left = rw ec (sym (row_now ∙ rw e) ∙ t.left) }
 
-pub gathering_done : {c : Conventions} {text rest cells : List ℕ} {n : ℕ} → Gathering c text rest cells n → length rest ≡ 0 → gathered cells ≡ gather c (lines text) 0 (replicate 20 255)
-gathering_done {c} {text} {rest} t h = rw (length_zero rest h) at t.left
+pub gathering_done : {c : Conventions} {text cells : List ℕ} {w : Lines} {n : ℕ} → Gathering c text cells w n → at_end w ≡ true → gathered cells ≡ gather c (lines text) 0 (replicate 20 255)
+gathering_done {w = w} t h = rw (stop w.text.now w.next (leb-true (length w.text.now) w.next h)) at t.left

@@ -1,5 +1,6 @@
 pub mod Refusals
 pub mod Text
+pub mod LineWalk
 pub mod Numbers
 pub mod NumberSteps
 pub mod Page

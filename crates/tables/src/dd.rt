@@ -4,17 +4,18 @@ ghost use Rattle.std.specs.Prelude.{◌≡◌, ◌+◌, ◌≤◌, ◌<◌, leng
 ghost use Rattle.std.specs.List.{list_any};
 ghost use Rattle.tables.specs.Letters.{built_in};
 ghost use Rattle.tables.specs.Text.{characters};
-ghost use Rattle.tables.specs.Page.{Wrote};
+ghost use Rattle.tables.specs.Numbers.{decimal};
+ghost use Rattle.tables.specs.Page.{Wrote, right};
 ghost use Rattle.tables.specs.Puts.{Puts};
 ghost use Rattle.tables.specs.Tables.{digit_byte, digits_text, digit_of, digits_reading, table_of_digits, width_of, header_text, row_order, cell_of, column_text, row_text, rows_from, rows_text, fields_row, row_of, stored_row, missing, gathered, table_of_rows};
 
 use crate::letters::{Conventions, built_in, seat_letter, seat_of, strain_of, suit_letter};
+use crate::lines::lines_of;
 use crate::numbers::parse_number;
-use crate::page::{Page, finish};
+use crate::page::Page;
 use crate::refusal::Refusal;
 use crate::text::{
-    count_characters, first_character, first_word, from, index_of, next_words, trim, trim_start,
-    upto,
+    count_characters, first_character, first_word, from, next_words, trim, trim_start,
 };
 
 // One trick count as a base-14 digit.
@@ -42,6 +43,8 @@ fn decode_tricks(b: u8) -> Option<u8>
     }
 }
 
+// The digits of a table of bytes. The writer's put_digits has the words of a card, any of which may be above 255 and is cut first: one
+// over both would take an iterator for three lines.
 fn put_digits(page: &mut Page, table: &[u8])
     ensures { Puts page.old (digits_text table.now) page.new }
 {
@@ -56,8 +59,7 @@ pub fn dd_table_to_pbn(table: &[u8; 20], page: &mut [u8]) -> Result<u64, Refusal
 {
     let mut put = Page::new(page);
     put_digits(&mut put, table);
-    let n = put.at;
-    finish(page, n)
+    put.finish()
 }
 
 // The digits of a text of twenty characters.
@@ -66,11 +68,11 @@ fn digits_read(value: &[u8]) -> Result<[u8; 20], Refusal>
     ensures { result ≡ digits_reading (characters value.now) }
 {
     let mut table = [0; 20];
-    for i in 0..20 {
+    for (i, cell) in table.iter_mut().enumerate() {
         let Some(tricks) = decode_tricks(first_character(from(value, i))) else {
             return Err(Refusal::Digit(i as u64));
         };
-        table[i] = tricks;
+        *cell = tricks;
     }
     Ok(table)
 }
@@ -117,8 +119,7 @@ pub fn optimum_result_table_header(table: &[u8; 20], page: &mut [u8]) -> Result<
 {
     let mut put = Page::new(page);
     put_header(&mut put, table);
-    let n = put.at;
-    finish(page, n)
+    put.finish()
 }
 
 // Rows run N, S, E, W.
@@ -145,6 +146,17 @@ fn put_column(page: &mut Page, c: Conventions, k: u8)
     }
 }
 
+// Puts a number to the right in w places.
+fn put_right(page: &mut Page, w: usize, tricks: u8)
+    requires { w ≤ 2 }
+    ensures { Puts page.old (right w (decimal tricks)) page.new }
+{
+    if (tricks < 10) & (w == 2) {
+        page.put_byte(b' ');
+    }
+    page.put_decimal(u32::from(tricks));
+}
+
 fn put_row(page: &mut Page, c: Conventions, w: usize, cell: u8, tricks: u8)
     requires { w ≤ 2 }
     ensures { Puts page.old (row_text c w cell tricks) page.new }
@@ -153,7 +165,7 @@ fn put_row(page: &mut Page, c: Conventions, w: usize, cell: u8, tricks: u8)
     page.put_byte(b' ');
     put_column(page, c, cell % 5);
     page.put_byte(b' ');
-    page.put_right(w, u32::from(tricks));
+    put_right(page, w, tricks);
 }
 
 fn put_rows(page: &mut Page, c: Conventions, table: &[u8; 20])
@@ -172,8 +184,7 @@ pub fn optimum_result_table_rows(table: &[u8; 20], page: &mut [u8]) -> Result<u6
 {
     let mut put = Page::new(page);
     put_rows(&mut put, built_in(), table);
-    let n = put.at;
-    finish(page, n)
+    put.finish()
 }
 
 // A cell of the table that a row gives, by its place, and its tricks.
@@ -183,6 +194,7 @@ pub struct Cell {
     pub tricks: u8,
 }
 
+// Seats and strains are numbers, as in a card's words in C; an enum would be turned back for this sum.
 #[tactic(auto, unfolding(crate::specs::Tables::cell_of))]
 fn cell_of(seat: u8, strain: u8) -> usize
     requires { (seat < 4) × (strain < 5) }
@@ -272,24 +284,13 @@ pub fn gathered_table(cells: [u8; 20]) -> Result<[u8; 20], Refusal>
     Err(Refusal::Missing(n as u64))
 }
 
-fn table_from_rows(c: Conventions, rows: &[u8]) -> Result<[u8; 20], Refusal>
-    ensures { result ≡ table_of_rows c rows.now }
-{
-    let mut cells = no_cells();
-    let mut rest = rows;
-    let mut n = 0;
-    while !rest.is_empty() {
-        let len = index_of(rest, b'\n');
-        cells = stored_row(cells, Ok(read_row(c, &rest[..len], n)?));
-        rest = from(rest, len + 1);
-        n += 1;
-    }
-    gathered_table(cells)
-}
-
 // Reads the data rows of an OptimumResultTable section, a text cut at each LF.
 pub fn optimum_result_table_from_rows(rows: &[u8]) -> Result<[u8; 20], Refusal>
     ensures { result ≡ table_of_rows built_in rows.now }
 {
-    table_from_rows(built_in(), rows)
+    let mut cells = no_cells();
+    for (n, row) in lines_of(rows).enumerate() {
+        cells = stored_row(cells, Ok(read_row(built_in(), row, n as u64)?));
+    }
+    gathered_table(cells)
 }

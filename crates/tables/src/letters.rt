@@ -1,4 +1,7 @@
 // The letters of seats, suits, strains and ranks, by conventions that a caller passes by value.
+//
+// Each reading answers an Option, and its contract turns none into the number that specs/Letters.antt has for it (4 of a seat or a suit, 5
+// of a strain, 13 of a rank): the definitions of the layers above compare these numbers, and a card's words in C hold the 4.
 ghost use Rattle.std.specs.Prelude.{◌≡◌, ◌<◌, cond, eqb, unwrap_or, Some, IfSome};
 ghost use Rattle.tables.specs.Letters.{built_in, capital, seat_of, suit_of, honour_of, rank_of, suit_strain, strain_of, seat_letter, suit_letter, rank_letter};
 
@@ -100,7 +103,7 @@ pub fn strain_of(c: Conventions, token: &[u8]) -> Option<u8>
     }
 }
 
-// The letter of a seat 0 to 3. A caller never asks for another; the answer is then another letter, or 0.
+// The letter of a seat 0 to 3. A caller never asks for another; the answer is then another letter, or 0: it asks nothing of its callers.
 pub fn seat_letter(c: Conventions, seat: u8) -> u8
     ensures { result ≡ seat_letter c seat }
 {

@@ -1,4 +1,5 @@
-// Decimal numbers in a text.
+// Decimal numbers in a text. The library's `parse` takes a `&str`, which these bytes need not be, and knows the limits of its types alone,
+// where the limit here is the caller's, 255 of a result.
 ghost use Rattle.std.specs.Prelude.{◌≡◌, ◌<◌, ◌≤◌};
 ghost use Rattle.tables.specs.Numbers.{digits_from, some_digits, number_of, signed_of};
 ghost use Rattle.tables.specs.NumberSteps.{IsWithin};

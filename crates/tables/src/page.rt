@@ -1,121 +1,13 @@
 // Text written to a lent page and counted past its end.
-ghost use Rattle.std.specs.Prelude.{◌≡◌, ◌∷◌, [], ◌+◌, ◌-◌, ◌≤◌, ◌<◌, ◌%◌, length, replicate, drop};
+ghost use Rattle.std.specs.Prelude.{◌≡◌, ◌∷◌, []};
 ghost use Rattle.tables.specs.Numbers.{decimal};
-ghost use Rattle.tables.specs.Page.{right};
 ghost use Rattle.tables.specs.Puts.{Puts};
-ghost use Rattle.tables.specs.PageSteps.{Put, PageEnded, Digits, cleared};
+ghost use Rattle.tables.specs.PageSteps.{PageEnded};
 
 use crate::refusal::Refusal;
 
-// Places are counted so far; no text here comes near.
-const PLACES: usize = 549755813888;
-
-// Puts b at the place at, where the page reaches so far.
-pub fn put_byte(page: &mut [u8], at: usize, b: u8) -> usize
-    requires { at < 1099511627776 }
-    ensures { Put page.old at (b ∷ []) page.new result }
-{
-    if at < page.len() {
-        page[at] = b;
-        return at + 1;
-    }
-    at + 1
-}
-
-// The last digit of m.
-fn digit(m: u32) -> u8
-    ensures { result ≡ 48 + m % 10 }
-{
-    (48 + m % 10) as u8
-}
-
-// Writes the digits of n into the end of buf, and says where they start.
-fn digits_into(n: u32, buf: &mut [u8]) -> usize
-    requires { length buf.old ≡ 10 }
-    ensures { Digits n buf.new result }
-{
-    let mut m = n;
-    let mut k = 9;
-    while k > 0 {
-        buf[k] = digit(m);
-        if m < 10 {
-            return k;
-        }
-        m = m / 10;
-        k -= 1;
-    }
-    buf[0] = digit(m);
-    0
-}
-
-// Puts s from its place a on.
-fn put_tail(page: &mut [u8], at: usize, s: &[u8], a: usize) -> usize
-    requires { at + length s.now ≤ 1099511627776 }
-    ensures { Put page.old at (drop a s.now) page.new result }
-{
-    let mut k = at;
-    let mut i = a;
-    while i < s.len() {
-        k = put_byte(page, k, s[i]);
-        i += 1;
-    }
-    k
-}
-
-// Puts s at the place at.
-pub fn put_text(page: &mut [u8], at: usize, s: &[u8]) -> usize
-    requires { at + length s.now ≤ 1099511627776 }
-    ensures { Put page.old at s.now page.new result }
-{
-    put_tail(page, at, s, 0)
-}
-
-// Puts n in decimal.
-pub fn put_decimal(page: &mut [u8], at: usize, n: u32) -> usize
-    requires { at + 10 ≤ 1099511627776 }
-    ensures { Put page.old at (decimal n) page.new result }
-{
-    let mut buf = [0; 10];
-    let k = digits_into(n, &mut buf);
-    put_tail(page, at, &buf, k)
-}
-
-// Puts n spaces.
-fn put_spaces(page: &mut [u8], at: usize, n: usize) -> usize
-    requires { at + n ≤ 1099511627776 }
-    ensures { Put page.old at (replicate n 32) page.new result }
-{
-    let mut k = at;
-    let mut left = n;
-    while left > 0 {
-        k = put_byte(page, k, 32);
-        left -= 1;
-    }
-    k
-}
-
-// a - b, or 0.
-fn less(a: usize, b: usize) -> usize
-    ensures { result ≡ a - b }
-{
-    if a <= b {
-        return 0;
-    }
-    a - b
-}
-
-// A number to the right in w places.
-pub(crate) fn put_right(page: &mut [u8], at: usize, w: usize, n: u32) -> usize
-    requires { at + w + 10 ≤ 1099511627776 }
-    ensures { Put page.old at (right w (decimal n)) page.new result }
-{
-    let mut buf = [0; 10];
-    let k = digits_into(n, &mut buf);
-    let a = put_spaces(page, at, less(w, 10 - k));
-    put_tail(page, a, &buf, k)
-}
-
 // A lent page, and the place behind the text that was put on it. Text is counted past the page's end, and put as far as the page reaches.
+// Conventions go beside it and not into it: most of what is put has no letters of theirs, and `new` would ask the listing for some.
 #[derive(Drop)]
 pub struct Page<'a> {
     pub bytes: &'a mut [u8],
@@ -136,61 +28,41 @@ impl<'a> Page<'a> {
     pub fn put_byte(&mut self, b: u8)
         ensures { Puts self.old (b ∷ []) self.new }
     {
-        if self.at < PLACES {
-            self.at = put_byte(self.bytes, self.at, b);
+        if self.at < self.bytes.len() {
+            self.bytes[self.at] = b;
         }
+        self.at = self.at.saturating_add(1);
     }
 
     // Puts s.
     pub fn put_text(&mut self, s: &[u8])
         ensures { Puts self.old s.now self.new }
     {
-        if self.at <= PLACES {
-            if s.len() <= PLACES - self.at {
-                self.at = put_text(self.bytes, self.at, s);
-            }
+        for b in s {
+            self.put_byte(*b);
         }
     }
 
-    // Puts n in decimal.
+    // Puts n in decimal. `write!` would want an impl of `fmt::Write`, and its Result dropped at each call: more than these four lines.
     pub fn put_decimal(&mut self, n: u32)
         ensures { Puts self.old (decimal n) self.new }
     {
-        if self.at <= PLACES {
-            self.at = put_decimal(self.bytes, self.at, n);
+        if n >= 10 {
+            self.put_decimal(n / 10);
         }
+        self.put_byte(b'0' + (n % 10) as u8);
     }
 
-    // Puts n to the right in w places.
-    pub(crate) fn put_right(&mut self, w: usize, n: u32)
-        requires { w ≤ 256 }
-        ensures { Puts self.old (right w (decimal n)) self.new }
+    // Ends the page: how many bytes were put, with zeros behind them; a refusal where they did not fit, with nothing but zeros.
+    pub fn finish(&mut self) -> Result<u64, Refusal>
+        ensures ended { PageEnded self.old.at self.old.bytes.now self.new.bytes.now result }
+        ensures same { self.new.bytes.ghost_name ≡ self.old.bytes.ghost_name }
     {
-        if self.at <= PLACES {
-            self.at = put_right(self.bytes, self.at, w, n);
+        if self.at <= self.bytes.len() {
+            self.bytes[self.at..].fill(0);
+            return Ok(self.at as u64);
         }
+        self.bytes.fill(0);
+        Err(Refusal::PageFull(self.at as u64))
     }
-}
-
-// Sets every byte from n on to 0.
-fn zero_from(page: &mut [u8], n: usize)
-    ensures { page.new ≡ cleared page.old n }
-{
-    let mut i = n;
-    while i < page.len() {
-        page[i] = 0;
-        i += 1;
-    }
-}
-
-// After n bytes were put: how many they are, with zeros behind them; a refusal where they did not fit, with nothing but zeros.
-pub fn finish(page: &mut [u8], n: usize) -> Result<u64, Refusal>
-    ensures { PageEnded n page.old page.new result }
-{
-    if n <= page.len() {
-        zero_from(page, n);
-        return Ok(n as u64);
-    }
-    zero_from(page, 0);
-    Err(Refusal::PageFull(n as u64))
 }

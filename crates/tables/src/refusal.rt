@@ -1,6 +1,7 @@
 // This layer's refusals, each with its carried number; specs/Refusals.antt gives the numbers 7 to 15.
-ghost use Rattle.std.specs.Prelude.{◌≡◌};
 ghost use Rattle.tables.specs.Refusals.{refusal_number, refusal_carries};
+
+use crate::refused::{Edition, Refused};
 
 #[derive(Clone, Copy)]
 pub enum Refusal {
@@ -15,10 +16,14 @@ pub enum Refusal {
     Missing(u64),
 }
 
-impl Refusal {
-    pub fn number(self) -> u64
-        ensures { result ≡ refusal_number self }
-    {
+impl Refused for Refusal {
+    ghost number_of = { refusal_number };
+
+    ghost edition_of = { λ f. 0 };
+
+    ghost carries = { refusal_carries };
+
+    fn number(self) -> u64 {
         match self {
             Refusal::PageFull(_) => 7,
             Refusal::Length(_) => 8,
@@ -32,9 +37,11 @@ impl Refusal {
         }
     }
 
-    pub fn carried(self) -> u64
-        ensures { result ≡ refusal_carries self }
-    {
+    fn edition(self) -> Option<Edition> {
+        None
+    }
+
+    fn carried(self) -> u64 {
         match self {
             Refusal::PageFull(n)
             | Refusal::Length(n)

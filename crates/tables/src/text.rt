@@ -2,7 +2,7 @@
 ghost use Rattle.std.specs.Prelude.{◌≡◌, cond, ◌+◌, ◌≤◌, ◌<◌, ◌^◌, length, get_or, take, drop};
 ghost use Rattle.tables.specs.Text.{is_white, lead, trim_start, trim_end, trimmed, word, past_word, before, is_inside, characters, starts, first_character};
 
-// The byte at `i`, and 0 past the end.
+// The byte at `i`, and 0 past the end, as `get_or` of the specs: callers compare it with signs and letters, none of which is 0.
 pub fn byte_at(s: &[u8], i: usize) -> u8
     ensures { result ≡ get_or s.now i 0 }
 {
@@ -91,8 +91,9 @@ fn bytes_before(s: &[u8], x: u8) -> usize
     s.iter().take_while(|b| **b != x).count()
 }
 
-// The number of bytes before the first `x`, all of them where there is none. Four bytes a turn: one a turn, as `position` takes, is a
-// quarter slower.
+// The number of bytes before the first `x`, all of them where there is none: a line, a field or a value is just these bytes
+// (`upto(s, index_of(s, x))`), whether an `x` ends it or not, and an Option would have to be turned back there. Four bytes a turn: one a
+// turn, as `position` takes, is a quarter slower.
 pub fn index_of(s: &[u8], x: u8) -> usize
     ensures { (result ≡ length (before x s.now)) × (result ≤ length s.now) }
 {
@@ -138,7 +139,8 @@ pub(crate) fn count_characters(s: &[u8]) -> usize
     }
 }
 
-// The first character, 0 where it has more than one byte or there is none.
+// The first character, 0 where it has more than one byte or there is none: no letter and no digit, so that it is looked up as any other
+// that is none of those sought. `characters` of specs/Text.antt has the same 0 inside a list.
 pub fn first_character(s: &[u8]) -> u8
     ensures { result ≡ first_character s.now }
 {

@@ -11,6 +11,7 @@ use lib.Dec.{eqb, ltb, leb}
 use lib.ListN.{length, set, get_or, replicate, length-set, length-replicate, get_or-replicate}
 use lib.Seq.{get_or-set_same, get_or-set_other}
 use borrow.Author.Tests.{eq-eqb, ne_eqb, eqb-true, eqb-false, ltb-true, ltb-false, leb-true, leb-false, lt-ltb, le-ltb, le-leb, lt-leb}
+use Rattle.std.specs.List.{list_any}
 use Rattle.tables.specs.Text.{ascii}
 use Rattle.tables.specs.Numbers.{decimal}
 use Rattle.tables.proofs.Laws.{by_cases, neither, either, clash}
@@ -20,7 +21,8 @@ use Rattle.reader.proofs.WordLaws.{same_is}
 use Rattle.writer.specs.Sections.{note_in, later, note_at, note_value, notes_from, note_values}
 use Rattle.writer.specs.Held.{entry_word, place_bytes}
 use Rattle.writer.specs.PresentSteps.{is_there, is_any}
-use Rattle.writer.specs.Items.{Under, remarks_text, sought_text, has_value, note_takes, notes_text, tags_at, note_number, note_number_at, note_places, note_text, placed_note, note_of, takes_value, takes_tag, full_note, full_notes, all_notes}
+use Rattle.writer.specs.declared.items.Items.{Items}
+use Rattle.writer.specs.Items.{Under, IsNextEntry, remarks_text, sought_text, has_value, note_takes, notes_text, tags_at, note_number, note_number_at, note_places, note_text, placed_note, note_of, takes_value, takes_tag, full_note, full_notes, all_notes}
 use Rattle.writer.proofs.NoteLaws.{behind_colon, note_in_lem, note_256, number_back, holds_append}
 
 -- ---- numbers
@@ -77,10 +79,14 @@ cond_not false bs = refl
 
 -- ---- whether there is a note
 
--- One of the n entries from e on names a note with a number.
+-- The numbers of the notes that the n entries from e on name, 256 where one names none.
+abbrev pub numbers_at : List ℕ → List ℕ → ℕ → ℕ → List ℕ
+numbers_at text entries e zero = []
+numbers_at text entries e (suc n) = note_number_at text entries e ∷ numbers_at text entries (e + 1) n
+
+-- One of the entries names a note with a number.
 abbrev pub has_note : List ℕ → List ℕ → ℕ → ℕ → Bool
-has_note text entries e zero = false
-has_note text entries e (suc n) = ltb (note_number_at text entries e) 256 || has_note text entries (e + 1) n
+has_note text entries e n = list_any (λ m. ltb m 256) (numbers_at text entries e n)
 
 later_later : (x y z : Option (List ℕ)) → later (later x y) z ≡ later x (later y z)
 later_later none y z = refl
@@ -113,6 +119,27 @@ some_between (suc k) n m ts a b e =
     (λ q.
     let d : m ≡ n → ⊥ = eqb-false m n q in
     some_between k (n + 1) m ts (omega arith) (omega arith) e)))
+
+-- Entries that are gone over: the numbers that are left, and the places with those that are left put over them.
+abbrev pub numbers_left : Items → List ℕ
+numbers_left is = numbers_at is.text.now is.entries.now is.first is.count
+
+abbrev pub places_left : List ℕ → Items → List ℕ
+places_left places is = note_places is.text.now is.entries.now places is.first is.count
+
+abbrev pub number_of_first : Items → ℕ
+number_of_first is = note_number_at is.text.now is.entries.now is.first
+
+module _ {is next rest : Items} (s : IsNextEntry is next rest) where
+  pub numbers_next : numbers_left is ≡ number_of_first next ∷ numbers_left rest
+  numbers_next =
+      let q : is.count ≡ suc rest.count = omega (arith, s.more) in
+      rw (q, s.next_is, s.rest_is.same_text, s.rest_is.same_entries, s.rest_is.first_is)
+
+  pub places_next : (places : List ℕ) → places_left places is ≡ places_left (set places (number_of_first next) (next.first + 1)) rest
+  places_next places =
+      let q : is.count ≡ suc rest.count = omega (arith, s.more) in
+      rw (q, s.next_is, s.rest_is.same_text, s.rest_is.same_entries, s.rest_is.first_is)
 
 module _ (text entries : List ℕ) where
   abbrev tag_at : ℕ → TagPair
@@ -174,39 +201,12 @@ module _ (text entries : List ℕ) where
       q ∙ sym (some_between 256 0 r.number (tags_at text entries e n) (omega arith) (omega (arith, r.low)) r.there))
       (λ q. q ∙ sym (ap is_any (none_between 256 0 (tags_at text entries e n) (λ m u v. has_none e n m q (omega arith)))))
 
-  -- The search for one, entry by entry.
-  pub has_here : (e n : ℕ) → e < n → note_number_at text entries e < 256 → has_note text entries e (n - e) ≡ true
-  has_here e n h l =
-      let z : n - e ≡ suc (n - (e + 1)) = omega arith in
-      rw (z, lt-ltb (note_number_at text entries e) 256 l)
-
-  pub has_on : (e n : ℕ) → e < n → 256 ≤ note_number_at text entries e → has_note text entries e (n - e) ≡ has_note text entries (e + 1) (n - (e + 1))
-  has_on e n h l =
-      let z : n - e ≡ suc (n - (e + 1)) = omega arith in
-      rw (z, le-ltb (note_number_at text entries e) 256 l)
-
-  pub has_over : (e n : ℕ) → n ≤ e → has_note text entries e (n - e) ≡ false
-  has_over e n h =
-      let z : n - e ≡ 0 = omega arith in
-      rw z
-
   -- ---- places
 
   -- The values of the notes that have a place, from the number n on, k numbers long.
   abbrev placed_notes : List ℕ → ℕ → ℕ → List (List ℕ)
   placed_notes places zero n = []
   placed_notes places (suc k) n = placed_note text entries places n ++ placed_notes places k (n + 1)
-
-  pub places_on : (places : List ℕ) (e n : ℕ) → e < n
-      → note_places text entries places e (n - e) ≡ note_places text entries (set places (note_number_at text entries e) (e + 1)) (e + 1) (n - (e + 1))
-  places_on places e n h =
-      let z : n - e ≡ suc (n - (e + 1)) = omega arith in
-      rw z
-
-  pub places_over : (places : List ℕ) (e n : ℕ) → n ≤ e → note_places text entries places e (n - e) ≡ places
-  places_over places e n h =
-      let z : n - e ≡ 0 = omega arith in
-      rw z
 
   -- The text of the note m by its place.
   abbrev placed_text : List ℕ → ℕ → Option (List ℕ)

@@ -1,7 +1,7 @@
 -- Laws of a board's scan, of the header and of parts in a row.
 use Prim.Native.Nat.{ℕ, suc, ◌+◌, ◌-◌, ◌≤◌, ◌<◌}
 use mathlib.Core.Path.{◌≡◌, refl, ◌∙◌}
-use mathlib.Core.Bool.{true, false, ◌||◌}
+use mathlib.Core.Bool.{false}
 use mathlib.Core.List.{List, [], ◌∷◌, ◌++◌}
 use native.Mathlib.Omega.{arith}
 use lib.Dec.{eqb}
@@ -12,22 +12,17 @@ use Rattle.tables.proofs.Laws.{by_cases}
 use Rattle.tables.specs.declared.page.Page.{Page}
 use Rattle.tables.specs.Puts.{Puts}
 use Rattle.tables.proofs.PutsLaws.{puts_then}
-use Rattle.writer.specs.declared.items.Items.{Items}
-use Rattle.writer.specs.Held.{entry_word}
+use Rattle.std.specs.List.{list_any}
+use Rattle.reader.specs.Plain.{Item}
 use Rattle.writer.specs.Pages.{built_in_header}
-use Rattle.writer.specs.Items.{items_from, has_remarks}
+use Rattle.writer.specs.Items.{is_remark, has_remarks}
 use Rattle.writer.specs.BoardTexts.{header_held, next_held, parts_held}
-use Rattle.writer.proofs.RemarkLaws.{items_step, item_kind}
 
 -- ---- whether there are remarks
 
-module _ (is : Items) (e : ℕ) (h : e < is.first + is.count) where
-  pub scan_met : (eqb (entry_word is.entries.now e 0) 3 || eqb (entry_word is.entries.now e 0) 4) ≡ true → has_remarks (items_from is e) ≡ true
-  scan_met q = rw (items_step is e h, item_kind, q)
-
-  pub scan_pass : (eqb (entry_word is.entries.now e 0) 3 || eqb (entry_word is.entries.now e 0) 4) ≡ false
-      → has_remarks (items_from is e) ≡ has_remarks (items_from is (e + 1))
-  scan_pass q = rw (items_step is e h, item_kind, q)
+pub has_any : (is : List Item) → list_any (λ i. is_remark i.kind) is ≡ has_remarks is
+has_any [] = refl
+has_any (i ∷ is) = rw (has_any is)
 
 -- ---- the header
 

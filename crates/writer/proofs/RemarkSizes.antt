@@ -8,6 +8,7 @@ use native.Mathlib.Nat.{add-mul, mul-le-mul_right}
 use native.Mathlib.Numerals.{unary_clauses}
 use native.Mathlib.Omega.{arith}
 use lib.ListN.{length, length-append}
+use Rattle.reader.proofs.EntryLaws.{sum_of}
 use Rattle.tables.proofs.Laws.{by_cases, clash}
 use Rattle.reader.specs.Words.{same}
 use Rattle.reader.specs.Tag.{tag_text}
@@ -65,15 +66,13 @@ blocks_spread p ks = remarks_spread 3 (λ k. block_line k.number k.bytes) (λ k.
 
 -- The bytes of data lines, and of tags with their data lines, an LF for each.
 abbrev pub data_size : List (List ℕ) → ℕ
-data_size [] = 0
-data_size (d ∷ ds) = length d + 1 + data_size ds
+data_size ds = sum_of (λ d. length d + 1) ds
 
 abbrev pub tag_size : WrittenTag → ℕ
 tag_size w = length w.name + length w.value + 6 + data_size w.lines
 
 abbrev pub written_size : List WrittenTag → ℕ
-written_size [] = 0
-written_size (w ∷ ws) = tag_size w + written_size ws
+written_size ws = sum_of tag_size ws
 
 data_size_lem : (ds : List (List ℕ)) → length (lines_text (map data_line ds)) ≡ data_size ds
 unfolding line_text

@@ -1,9 +1,11 @@
 -- Each byte of a record is of one tag, directive or block at most: what they have together, four bytes more for each tag and one for each
 -- directive, is no more than the record and the LF that its last line may lack.
+use Rattle.reader.specs.Boards.{in_block, block_of}
+use Rattle.reader.specs.Sections.{kind_of}
 use Prim.Native.Nat.{ℕ, suc, ◌+◌, ◌-◌, ◌*◌, ◌≤◌, ◌<◌}
 use mathlib.Core.Path.{◌≡◌, refl, sym, ap, ◌∙◌}
-use mathlib.Core.Bool.{Bool, true, false, cond, ◌&&◌, ◌||◌, not}
-use mathlib.Core.List.{List, [], ◌∷◌, ◌++◌, map}
+use mathlib.Core.Bool.{Bool, true, false, cond, ◌||◌}
+use mathlib.Core.List.{List, [], ◌∷◌, ◌++◌}
 use mathlib.Core.Option.{Option, none as nothing, some}
 use native.Mathlib.Omega.{arith}
 use lib.Dec.{leb, eqb}
@@ -11,7 +13,6 @@ use lib.ListN.{length, take, drop, get_or, length-append, length-take, length-dr
 use borrow.Author.Tests.{eqb-true, eqb-false, ne_eqb, eq-eqb, lt-leb, le-leb}
 use Rattle.tables.specs.declared.letters.Conventions.{Conventions}
 use Rattle.tables.specs.Text.{is_white, is_word, lead, trim_start, keep_end, trim_end, trimmed, word, past_word, before}
-use Rattle.tables.specs.Letters.{among}
 use Rattle.tables.proofs.Laws.{by_cases, clash}
 use Rattle.reader.specs.declared.store.Entry.{Entry}
 use Rattle.reader.specs.declared.tag.Span.{Span}
@@ -29,15 +30,16 @@ use Rattle.reader.specs.Lines.{last_brace, is_blank, split_as, split_line, brack
 use Rattle.reader.specs.Pieces.{Out, entry, join_line, raw_lines}
 use Rattle.reader.specs.Records.{ends_line}
 use Rattle.reader.specs.Boards.{closed, no_span, at, tagged, directed, data_added, read_by, blocked, is_all_white, no_state, record_out}
-use Rattle.reader.specs.Plain.{Item, item_of, items_of, Remark, tags_in, remarks_in, starts_line, without_returns, block_value, plain_by, plain_of}
-use Rattle.reader.proofs.EntryLaws.{All, none, one}
+use Rattle.reader.specs.Plain.{Item, item_of, items_of, tags_in, remarks_in, plain_by, plain_of}
+use Rattle.reader.proofs.EntryLaws.{sum_of, sum_append, All, none, one}
 use Rattle.reader.proofs.SectionLaws.{LineAt, line_at_lem}
 use Rattle.reader.proofs.Tags.{with_comment, trim_whole, front_whole, close_at_lem, unquote_is, comment_as, place_value, place_name, place_tag, line_by_lem, tag_placed, no_tag_lem, never, some_inj, bind_some, past_at, TagStands, SplitStands}
 use Rattle.reader.proofs.Inside.{SplitInsideLine}
 use Rattle.reader.proofs.Counts.{chosen, cut_len}
 use Rattle.reader.proofs.PlainSteps.{Late, closed_late, closed_keeps, HoldsOfRecord}
 use Rattle.reader.proofs.PlainTags.{Paired, over, tag, other, TagsPaired}
-use Rattle.reader.proofs.PlainSizes.{tags_size, remarks_size, bytes_few}
+use Rattle.reader.proofs.PlainSizes.{blocked_commentary, tagged_commentary, tags_size, remarks_size, bytes_few, blocks_few}
+use Rattle.reader.proofs.LineLaws.{brace_inside}
 
 -- ---- a tag's line
 
@@ -254,12 +256,10 @@ abbrev share : Entry → ℕ
 share e = cond (eqb e.kind 1) (e.y + 4) (cond (eqb e.kind 3) (e.y + 1) (cond (leb e.kind 4) e.y 0))
 
 abbrev shares : List Entry → ℕ
-shares [] = 0
-shares (e ∷ es) = share e + shares es
+shares es = sum_of share es
 
 shares_append : (es fs : List Entry) → shares (es ++ fs) ≡ shares es + shares fs
-shares_append [] fs = omega arith
-shares_append (e ∷ es) fs = omega (arith, shares_append es fs)
+shares_append = sum_append share
 
 share_late : (e : Entry) → 5 ≤ e.kind → share e ≡ 0
 share_late e h = rw (ne_eqb e.kind 1 (λ u. omega (arith, u)), ne_eqb e.kind 3 (λ u. omega (arith, u)), lt-leb e.kind 4 (omega arith))
@@ -270,7 +270,7 @@ shares_late (one {x = e} l a) = omega (arith, share_late e (omega (arith, l.late
 
 -- What was read up to the place p: all, or all up to an open block.
 abbrev done : State → ℕ → ℕ
-done s p = cond s.commentary (s.block - 1) p
+done s p = cond (in_block s) (block_of s - 1) p
 
 -- A step from s at p to o at q: an open block starts at the next byte at the latest; the bytes read are enough.
 record Shared (r : List ℕ) (p : ℕ) (s : State) (q : ℕ) (o : Out State) : Type 0 where
@@ -280,57 +280,52 @@ record Shared (r : List ℕ) (p : ℕ) (s : State) (q : ℕ) (o : Out State) : T
 closed_shared : (c : Conventions) (r : List ℕ) (p : ℕ) (s : State) → Shared r p s p (closed c r s)
 closed_shared c r p s =
     let k = closed_keeps c r s in
-    let e : done (closed c r s).state p ≡ done s p = ap (λ (b : Bool). cond b ((closed c r s).state.block - 1) p) k.commentary_kept ∙ ap (λ (x : ℕ). cond s.commentary (x - 1) p) k.block_kept in
+    let e : done (closed c r s).state p ≡ done s p = ap (λ (b : Bool). cond b (block_of (closed c r s).state - 1) p) k.commentary_kept ∙ ap (λ (x : ℕ). cond (in_block s) (x - 1) p) k.block_kept in
     record { fits = λ h. omega (arith, e, shares_late (closed_late c r s)); next = λ h. omega (arith, e) }
 
 idle_shared : (r : List ℕ) (p : ℕ) (s : State) (l : List ℕ) → LineAt r p l → Shared r p s (p + length l) (record { state = s; entries = [] })
 idle_shared r p s l i =
     let z = line_starts r p l i in
-    by_cases s.commentary
-    (λ e. rw e (record { fits = λ h. omega arith; next = λ h. omega arith }))
-    (λ e. rw e (record { fits = λ h. omega arith; next = λ h. omega arith }))
+    let q = p + length l in
+    by_cases (in_block s)
+    (λ e.
+    let a : done s p ≡ block_of s - 1 = ap (λ (b : Bool). cond b (block_of s - 1) p) e in
+    let d : done s q ≡ block_of s - 1 = ap (λ (b : Bool). cond b (block_of s - 1) q) e in
+    record { fits = λ h. omega arith; next = λ h. omega arith })
+    (λ e.
+    let a : done s p ≡ p = ap (λ (b : Bool). cond b (block_of s - 1) p) e in
+    let d : done s q ≡ q = ap (λ (b : Bool). cond b (block_of s - 1) q) e in
+    record { fits = λ h. omega arith; next = λ h. omega arith })
 
 -- Entries of no more than the line, after which no block is open.
-flat_shared : (r : List ℕ) (p : ℕ) (s : State) (l : List ℕ) (o : Out State) → LineAt r p l → o.state.commentary ≡ false → shares o.entries ≤ length l + ended r (p + length l)
+flat_shared : (r : List ℕ) (p : ℕ) (s : State) (l : List ℕ) (o : Out State) → LineAt r p l → in_block o.state ≡ false → shares o.entries ≤ length l + ended r (p + length l)
     → Shared r p s (p + length l) o
 flat_shared r p s l o i e h =
-    let a : done o.state (p + length l) ≡ p + length l = ap (λ (b : Bool). cond b (o.state.block - 1) (p + length l)) e in
+    let a : done o.state (p + length l) ≡ p + length l = ap (λ (b : Bool). cond b (block_of o.state - 1) (p + length l)) e in
     record { fits = λ g. omega (arith, line_starts r p l i); next = λ g. omega arith }
 
 share_maybe : (b : Bool) (i n k : ℕ) → shares (cond b [] (entry 4 i n k ∷ [])) ≤ n
 share_maybe true i n k = omega arith
 share_maybe false i n k = omega arith
 
-blocked_commentary : (r : List ℕ) (s : State) (i j : ℕ) → (blocked r s i j).state.commentary ≡ false
-unfolding blocked
-blocked_commentary r s i j = refl
-
 blocked_share : (r : List ℕ) (s : State) (i j : ℕ) → shares (blocked r s i j).entries ≤ j - i
 unfolding blocked
 blocked_share r s i j = share_maybe (is_all_white r i j) i (j - i) s.tags
 
-brace_inside : (l : List ℕ) → last_brace l ≤ length l
-brace_inside [] = omega arith
-brace_inside (b ∷ bs) = by_cases (eqb b 125 && not (among 125 bs)) (λ e. rw e (omega arith)) (λ e. rw e (omega (arith, brace_inside bs)))
-
-commentary_shared : (r : List ℕ) (p : ℕ) (s : State) (l : List ℕ) → LineAt r p l → s.commentary ≡ true → Shared r p s (p + length l) (blocked r s s.block (p + last_brace l))
+commentary_shared : (r : List ℕ) (p : ℕ) (s : State) (l : List ℕ) → LineAt r p l → in_block s ≡ true → Shared r p s (p + length l) (blocked r s (block_of s) (p + last_brace l))
 commentary_shared r p s l i e =
     let j = p + last_brace l in
-    let o = blocked r s s.block j in
-    let a : done o.state (p + length l) ≡ p + length l = ap (λ (b : Bool). cond b (o.state.block - 1) (p + length l)) (blocked_commentary r s s.block j) in
-    let b : done s p ≡ s.block - 1 = ap (λ (b : Bool). cond b (s.block - 1) p) e in
-    record { fits = λ h. omega (arith, line_starts r p l i, blocked_share r s s.block j, brace_inside l); next = λ h. omega arith }
+    let o = blocked r s (block_of s) j in
+    let a : done o.state (p + length l) ≡ p + length l = ap (λ (b : Bool). cond b (block_of o.state - 1) (p + length l)) (blocked_commentary r s (block_of s) j) in
+    let b : done s p ≡ block_of s - 1 = ap (λ (b : Bool). cond b (block_of s - 1) p) e in
+    record { fits = λ h. omega (arith, line_starts r p l i, blocked_share r s (block_of s) j, brace_inside l); next = λ h. omega arith }
 
 data_share : (s : State) (p : ℕ) (d : Span) → shares (data_added s p d).entries ≡ 0
-data_share s p d = chosen (λ es. shares es ≡ 0) (eqb s.section.kind 0) [] (entry 5 (p + d.start) d.len s.section.kind ∷ []) (λ e. refl) (λ e. refl)
+data_share s p d = chosen (λ es. shares es ≡ 0) (eqb (kind_of s.section) 0) [] (entry 5 (p + d.start) d.len (kind_of s.section) ∷ []) (λ e. refl) (λ e. refl)
 
 tagged_share : (c : Conventions) (s : State) (p : ℕ) (l : List ℕ) (q : ℕ) (t : TagPlaces) (split : Span) → shares (tagged c s p l q t split).entries ≡ t.name.len + t.value.len + 4
 unfolding tagged
 tagged_share c s p l q t split = omega arith
-
-tagged_commentary : (c : Conventions) (s : State) (p : ℕ) (l : List ℕ) (q : ℕ) (t : TagPlaces) (split : Span) → (tagged c s p l q t split).state.commentary ≡ false
-unfolding tagged
-tagged_commentary c s p l q t split = refl
 
 reading_shared : (c : Conventions) (r : List ℕ) (p : ℕ) (s : State) (l : List ℕ) (t : TagReading) → LineAt r p l → ReadingFits t (length l) → Shared r p s (p + length l) (read_by c s p l (p + length l) t)
 reading_shared c r p s l (Plain t) i h =
@@ -443,14 +438,6 @@ items_share r (other {e = e} {es = es} x y p) =
     by_cases (eqb e.kind 4)
     (λ u. rw (t, u, le-leb e.kind 4 (omega (arith, eqb-true e.kind 4 u))) (omega arith))
     (λ u. rw (t, u) (omega arith))))
-
-returns_few : (b : List ℕ) → length (without_returns b) ≤ length b
-returns_few [] = omega arith
-returns_few (b ∷ bs) = by_cases (eqb b 13 && starts_line bs) (λ e. rw e (omega (arith, returns_few bs))) (λ e. rw e (omega (arith, returns_few bs)))
-
-blocks_few : (ks : List Remark) → remarks_size (map block_value ks) ≤ remarks_size ks
-blocks_few [] = omega arith
-blocks_few (k ∷ ks) = omega (arith, returns_few k.bytes, blocks_few ks)
 
 -- THEOREM. The tags of a plain board, with four bytes for each, its directives, each with its LF, and its blocks have at most one byte more
 -- than its record.

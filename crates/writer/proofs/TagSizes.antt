@@ -23,7 +23,7 @@ use Rattle.reader.specs.declared.board.TableCard.{TableCard}
 use Rattle.reader.specs.Words.{same, call_token, bid_token, card_token, vulnerability_token}
 use Rattle.reader.specs.Deals.{hands_of_words}
 use Rattle.reader.specs.Plain.{TagPair, PlainCall, PlainAuction, PlainTrick, PlainPlay, PlainValues, PlainBoard, plain_list}
-use Rattle.reader.proofs.EntryLaws.{All, none as over, one}
+use Rattle.reader.proofs.EntryLaws.{sum_append, All, none as over, one}
 use Rattle.reader.proofs.Counts.{chosen}
 use Rattle.reader.proofs.DealBack.{deal_few}
 use Rattle.reader.proofs.PlainSizes.{tags_size, remarks_size}
@@ -32,16 +32,14 @@ use Rattle.reader.proofs.PlainAnnotations.{calls_size}
 use Rattle.writer.specs.Sections.{spaced, end_lines, call_text, rounds, ends_continued, auction_lines, after_colon, is_number, note_in, later, note_at, note_value, notes_from, note_values, in_slot, trick_cards, cards_lines, tricks_lines, play_lines}
 use Rattle.writer.specs.Tags.{WrittenTag, tag_of, or_empty, if_there, seat_text, vulnerability, result_text, first_seat, deal_value, is_named, named, first_value, is_extra, extras_from, until_deal, since_deal, before_deal, from_deal, early_extras, late_extras, dealer_tags, head_tags, table_tags, deal_tags, note_tag, auction_tags, play_tags, written_tags}
 use Rattle.writer.specs.Pages.{own_play}
-use Rattle.writer.proofs.RemarkSizes.{data_size, written_size}
+use Rattle.writer.proofs.RemarkSizes.{data_size, tag_size, written_size}
 use Rattle.std.specs.Prelude.{Some, None}
 
 written_append : (ws vs : List WrittenTag) → written_size (ws ++ vs) ≡ written_size ws + written_size vs
-written_append [] vs = omega arith
-written_append (w ∷ ws) vs = omega (arith, written_append ws vs)
+written_append = sum_append tag_size
 
 data_append : (ds es : List (List ℕ)) → data_size (ds ++ es) ≡ data_size ds + data_size es
-data_append [] es = omega arith
-data_append (d ∷ ds) es = omega (arith, data_append ds es)
+data_append = sum_append (λ d. length d + 1)
 
 -- ---- sections
 

@@ -1,28 +1,29 @@
 -- Laws of words, deals, auctions and plays as they are put.
-use Prim.Native.Nat.{ℕ, zero, suc, ◌+◌, ◌-◌, ◌*◌, ◌≤◌, ◌<◌}
+use Prim.Native.Nat.{ℕ, min, suc, ◌+◌, ◌-◌, ◌*◌, ◌≤◌, ◌<◌}
 use mathlib.Core.Path.{◌≡◌, refl, sym, ap, ◌∙◌}
 use mathlib.Core.Bool.{Bool, true, false, cond, ◌&&◌}
 use mathlib.Core.List.{List, [], ◌∷◌, ◌++◌, append-nil}
 use native.Mathlib.Numerals.{add-one}
 use native.Mathlib.Omega.{arith}
-use lib.Dec.{eqb}
+use lib.Dec.{eqb, ltb}
 use lib.ListN.{length, drop, get_or, replicate}
 use lib.Seq.{drop-cons}
-use borrow.Author.Tests.{eqb-true, ne_eqb}
+use borrow.Author.Tests.{eqb-true, ne_eqb, le-ltb, ltb-true, ltb-false}
 use Rattle.tables.specs.declared.letters.Conventions.{Conventions}
 use Rattle.tables.specs.Letters.{rank_letter}
 use Rattle.tables.specs.Tables.{digit_byte, digits_text}
-use Rattle.tables.proofs.Laws.{both}
+use Rattle.tables.proofs.Laws.{both, by_cases}
 use Rattle.reader.specs.Words.{call_token}
+use Rattle.reader.specs.Plain.{Item}
 use Rattle.reader.specs.Deals.{has, card_text, ranks_text}
 use Rattle.reader.proofs.DealBack.{ranks_more}
 use Rattle.tables.specs.declared.page.Page.{Page}
 use Rattle.tables.specs.Puts.{Puts}
 use Rattle.tables.proofs.PutsLaws.{PutsLeft, puts_next, puts_same, puts_all}
 use Rattle.writer.specs.declared.items.Items.{Items}
-use Rattle.writer.specs.Held.{entry_word, place_bytes, item_at, card_word, card_part}
-use Rattle.writer.specs.Items.{items_from, before_call, calls_text, last_code, one_more_card, four_slots, slot_text, slots_text, tricks_text}
-use Rattle.writer.proofs.RemarkLaws.{items_step, item_kind, item_bytes}
+use Rattle.writer.specs.Held.{place_bytes, card_word, card_part}
+use Rattle.writer.specs.Items.{items_of, item_of, IsNextEntry, before_call, calls_text, last_code, one_more_card, four_slots, slot_text, slots_text, tricks_text}
+use Rattle.writer.proofs.RemarkLaws.{items_next, first_item}
 
 -- All that is left is put.
 pub puts_last : {p₀ : Page} {bs : List ℕ} {p : Page} (xs : List ℕ) {q : Page} → PutsLeft p₀ bs p xs → Puts p xs q → Puts p₀ bs q
@@ -42,10 +43,17 @@ repeat_none i n b h =
 
 -- ---- words of a card in a row
 
-pub part_at : (cards : List ℕ) (k i n j : ℕ) → j < n → get_or (card_part cards k i n) j 0 ≡ card_word cards k (i + j)
-part_at cards k i zero j h = absurd (omega arith)
-part_at cards k i (suc n) zero h = ap (card_word cards k) (omega arith)
-part_at cards k i (suc n) (suc j) h = part_at cards k (i + 1) n j (omega arith) ∙ ap (card_word cards k) (omega arith)
+pub least_digit : (w : ℕ) → digit_byte (min w 13) ≡ digit_byte w
+unfolding digit_byte
+least_digit w =
+    by_cases (ltb w 13)
+    (λ t.
+    let z : min w 13 ≡ w = omega (arith, ltb-true w 13 t) in
+    rw z)
+    (λ t.
+    let h = ltb-false w 13 t in
+    let z : min w 13 ≡ 13 = omega (arith, h) in
+    rw (z, le-ltb w 10 (omega (arith, h)), le-ltb w 13 h))
 
 pub digits_step : (cards : List ℕ) (k i n : ℕ) → i < n → digits_text (card_part cards k i (n - i)) ≡ (digit_byte (card_word cards k i) ∷ []) ++ digits_text (card_part cards k (i + 1) (n - (i + 1)))
 digits_step cards k i n h =
@@ -76,41 +84,44 @@ module _ (c : Conventions) (s r x : ℕ) (h : 0 < r) where
 
 -- ---- entries in a row
 
-pub item_mark : (text entries : List ℕ) (e : ℕ) → (item_at text entries e).mark ≡ entry_word entries e 3
-unfolding item_at
-item_mark text entries e = refl
+module _ {is next rest : Items} (s : IsNextEntry is next rest) (c : Conventions) where
+  module _ (n : ℕ) (called : Bool) where
+    -- A call.
+    pub calls_call : (item_of next).kind ≡ 6 → calls_text c n called (items_of is) ≡ before_call n ++ call_token c (item_of next).mark ++ calls_text c (n + 1) true (items_of rest)
+    calls_call q = rw (items_next s, q)
 
-module _ (c : Conventions) (n : ℕ) (called : Bool) (is : Items) (e : ℕ) (h : e < is.first + is.count) where
-  -- A call.
-  pub calls_call : entry_word is.entries.now e 0 ≡ 6
-      → calls_text c n called (items_from is e) ≡ before_call n ++ call_token c (entry_word is.entries.now e 3) ++ calls_text c (n + 1) true (items_from is (e + 1))
-  calls_call q = rw (items_step is e h, item_kind, q, item_mark)
+    -- An annotation of the last call.
+    pub calls_mark : (eqb (item_of next).kind 7 && called) ≡ true
+        → calls_text c n called (items_of is) ≡ place_bytes next.text.now next.entries.now next.first ++ calls_text c n called (items_of rest)
+    calls_mark q =
+        let b = both (eqb (item_of next).kind 7) called q in
+        let k = eqb-true _ _ b.0 in
+        rw (items_next s, k, b.1, first_item next 7 k (omega arith))
 
-  -- An annotation of the last call.
-  pub calls_mark : (eqb (entry_word is.entries.now e 0) 7 && called) ≡ true
-      → calls_text c n called (items_from is e) ≡ place_bytes is.text.now is.entries.now e ++ calls_text c n called (items_from is (e + 1))
-  calls_mark q =
-      let b = both (eqb (entry_word is.entries.now e 0) 7) called q in
-      let k = eqb-true _ _ b.0 in
-      rw (items_step is e h, item_kind, k, b.1, item_bytes is.text.now is.entries.now e 7 k (omega arith))
+    -- Any other entry.
+    pub calls_pass : ((item_of next).kind ≡ 6 → ⊥) → (eqb (item_of next).kind 7 && called) ≡ false → calls_text c n called (items_of is) ≡ calls_text c n false (items_of rest)
+    calls_pass m q = rw (items_next s, ne_eqb _ _ m, q)
 
-  -- Any other entry.
-  pub calls_pass : (entry_word is.entries.now e 0 ≡ 6 → ⊥) → (eqb (entry_word is.entries.now e 0) 7 && called) ≡ false
-      → calls_text c n called (items_from is e) ≡ calls_text c n false (items_from is (e + 1))
-  calls_pass m q = rw (items_step is e h, item_kind, ne_eqb _ _ m, q)
+  pub tricks_put : (item_of next).kind ≡ 8 → tricks_text c (items_of is) ≡ slots_text c 0 (four_slots (item_of next).mark) ++ tricks_text c (items_of rest)
+  tricks_put q = rw (items_next s, q)
 
-module _ (k : ℕ) (is : Items) (e : ℕ) (h : e < is.first + is.count) where
-  pub last_call : entry_word is.entries.now e 0 ≡ 6 → last_code k (items_from is e) ≡ last_code (entry_word is.entries.now e 3) (items_from is (e + 1))
-  last_call q = rw (items_step is e h, item_kind, q, item_mark)
+  pub tricks_pass : ((item_of next).kind ≡ 8 → ⊥) → tricks_text c (items_of is) ≡ tricks_text c (items_of rest)
+  tricks_pass m = rw (items_next s, ne_eqb _ _ m)
 
-  pub last_pass : (entry_word is.entries.now e 0 ≡ 6 → ⊥) → last_code k (items_from is e) ≡ last_code k (items_from is (e + 1))
-  last_pass m =
-      let q : cond (eqb (item_at is.text.now is.entries.now e).kind 6) (item_at is.text.now is.entries.now e).mark k ≡ k = rw (item_kind, ne_eqb (entry_word is.entries.now e 0) 6 m) in
-      ap (last_code k) (items_step is e h) ∙ ap (λ z. last_code z (items_from is (e + 1))) q
+-- Whether the last call among entries is `+` (code 38), plus saying it of those before them.
+pub record PlusSoFar (all : List Item) (plus : Bool) (is : Items) : Type 0 where
+  pub last : ℕ
+  pub plus_is : plus ≡ eqb last 38
+  pub rest_is : last_code 47 all ≡ last_code last (items_of is)
 
-module _ (c : Conventions) (is : Items) (e : ℕ) (h : e < is.first + is.count) where
-  pub tricks_put : entry_word is.entries.now e 0 ≡ 8 → tricks_text c (items_from is e) ≡ slots_text c 0 (four_slots (entry_word is.entries.now e 3)) ++ tricks_text c (items_from is (e + 1))
-  tricks_put q = rw (items_step is e h, item_kind, q, item_mark)
+module _ {all : List Item} {plus : Bool} {is next rest : Items} (o : PlusSoFar all plus is) (s : IsNextEntry is next rest) where
+  pub plus_call : (item_of next).kind ≡ 6 → PlusSoFar all (eqb (item_of next).mark 38) rest
+  plus_call q = record { last = (item_of next).mark; plus_is = refl; rest_is = o.rest_is ∙ rw (items_next s, q) }
 
-  pub tricks_pass : (entry_word is.entries.now e 0 ≡ 8 → ⊥) → tricks_text c (items_from is e) ≡ tricks_text c (items_from is (e + 1))
-  tricks_pass m = rw (items_step is e h, item_kind, ne_eqb _ _ m)
+  pub plus_pass : ((item_of next).kind ≡ 6 → ⊥) → PlusSoFar all plus rest
+  plus_pass m = record { last = o.last; plus_is = o.plus_is; rest_is = o.rest_is ∙ pass_last o.last }
+    where
+      pass_last : (k : ℕ) → last_code k (items_of is) ≡ last_code k (items_of rest)
+      pass_last k =
+          let q : cond (eqb (item_of next).kind 6) (item_of next).mark k ≡ k = rw (ne_eqb (item_of next).kind 6 m) in
+          ap (last_code k) (items_next s) ∙ ap (λ z. last_code z (items_of rest)) q

@@ -1,13 +1,11 @@
 -- Laws of writing a whole edition.
-use Prim.Native.Nat.{ℕ, ◌/◌, ◌≤◌, ◌<◌}
+use Prim.Native.Nat.{ℕ, ◌/◌}
 use mathlib.Core.Path.{◌≡◌, refl, sym, ap, ◌∙◌}
-use mathlib.Core.Bool.{true, cond}
+use mathlib.Core.Bool.{cond}
 use mathlib.Core.List.{List}
 use native.Mathlib.Omega.{arith}
 use lib.Dec.{ltb, leb}
-use lib.ListN.{length, replicate}
-use borrow.Author.Tests.{le-leb, lt-leb}
-use native.Mathlib.Nat.{sub-zero}
+use lib.ListN.{length}
 use Rattle.std.specs.Prelude.{Ok, Err, is_ok, Result}
 use Rattle.tables.specs.declared.letters.Conventions.{Conventions}
 use Rattle.tables.specs.declared.page.Page.{Page}
@@ -31,6 +29,7 @@ use Rattle.writer.proofs.HeldBoards.{taken_holds}
 use Rattle.writer.proofs.HeldPages.{PageHeld}
 use Rattle.writer.proofs.Sizes.{BytesFew}
 use Rattle.tables.specs.declared.refusal.Refusal.{Refusal}
+use Rattle.tables.specs.Refusals.{refusal_carries}
 
 abbrev boards_in : Result Counts ReadRefusal → ℕ
 boards_in (Ok n) = n.boards
@@ -63,14 +62,14 @@ out_is : (n m : ℕ) → is_ok (page_answer n m) ≡ leb n m
 out_is n m = by_cases (leb n m) (λ q. rw q) (λ q. rw q)
 
 -- The edition was taken, its text put and the page ended.
-pub written_taken : {c : Conventions} {text cards entries page cards₁ entries₁ page₁ cards₂ entries₂ page₂ : List ℕ} {k : Counts} {n : ℕ} {r : Result ℕ WriteRefusal}
+pub written_taken : {c : Conventions} {text cards entries page cards₁ entries₁ page₁ cards₂ entries₂ page₂ page' : List ℕ} {k : Counts} {n : ℕ} {r : Result ℕ WriteRefusal}
     → IsRead c text cards entries (Ok k) cards₁ entries₁
     → PagePut page (page_held c text cards₁ entries₁ k.boards) page₁ n
     → WritingEnded n cards₁ entries₁ page₁ r cards₂ entries₂ page₂
-    → length cards₁ ≡ length cards → length entries₁ ≡ length entries
-    → IsWritten c text cards entries page r cards₂ entries₂ page₂
+    → length cards₁ ≡ length cards → length entries₁ ≡ length entries → page₂ ≡ page'
+    → IsWritten c text cards entries page r cards₂ entries₂ page'
 unfolding writing_of
-written_taken {c} {text} {cards} {entries} {page} {cards₁} {entries₁} {page₁} {cards₂} {entries₂} {page₂} {k} {n} {r} i p d kc ke =
+written_taken {c} {text} {cards} {entries} {page} {cards₁} {entries₁} {page₁} {cards₂} {entries₂} {page₂} {page'} {k} {n} {r} i p d kc ke same =
     let t = taken_holds i in
     let nb = taken_boards c text (length cards) (length entries) k i.answer in
     let w = rw nb at p in
@@ -84,7 +83,7 @@ written_taken {c} {text} {cards} {entries} {page} {cards₁} {entries₁} {page�
     let lent : is_ok r ≡ leb n (length page₁) = ap is_ok d.answer ∙ out_is n (length page₁) in
     record {
       answer = out ∙ ap (written_by (written_text c text) (length page)) i.answer;
-      page_left = (finished put ended).page_left ∙ (page_out (written_text c text) (length page) ∙ rw out);
+      page_left = sym same ∙ (finished put ended).page_left ∙ (page_out (written_text c text) (length page) ∙ rw out);
       cards_after = rw (lent, ← i.cards_after, ← kc) d.cards_after;
       entries_after = rw (lent, ← i.entries_after, ← ke) d.entries_after;
     }
@@ -103,20 +102,21 @@ written_refused {c} {text} {cards} {entries} {page} i z =
       entries_after = i.entries_after;
     }
 
--- A page of which nothing is kept.
-pub cleared_none : (page page' : List ℕ) (r : Result ℕ Refusal) → PageEnded 0 page page' r → page' ≡ zeros page
-cleared_none page page' r f =
-    let z : leb 0 (length page) ≡ true = le-leb 0 (length page) (omega arith) in
-    rw z at f.page_left ∙ ap (λ (k : ℕ). replicate k 0) (sub-zero (length page))
+-- The answer for bytes that fit, and for more.
+-- The number that is told.
+abbrev pub told_by : Result ℕ Refusal → ℕ
+told_by (Ok n) = n
+told_by (Err f) = refusal_carries f
 
--- The answer for n bytes that fit, and for more.
-pub ended_in : {n : ℕ} {cards entries page page' : List ℕ} {w : Result ℕ Refusal} → n ≤ length page → PageEnded n page page' w → WritingEnded n cards entries page (Ok n) cards entries page'
-ended_in {n} {cards} {entries} {page} h f =
-    let q = le-leb n (length page) h in
-    record { answer = rw q; page_left = f.page_left; cards_after = rw q; entries_after = rw q }
+pub ended_in : {n k : ℕ} {cards entries page page' : List ℕ} → PageEnded n page page' (Ok k) → WritingEnded n cards entries page (Ok k) cards entries page'
+ended_in {n} {k} {page = page} e =
+    by_cases (leb n (length page))
+    (λ q. record { answer = rw q (ap (λ (x : ℕ). Ok x) (ap told_by (rw q at e.told))); page_left = e.page_left; cards_after = rw q; entries_after = rw q })
+    (λ q. clash (sym (ap is_ok (rw q at e.told))))
 
-pub ended_out : {n : ℕ} {cards entries page cards' entries' page' : List ℕ} → length page < n → page' ≡ zeros page → cards' ≡ zeros cards → entries' ≡ zeros entries
-    → WritingEnded n cards entries page (Err (PageFull n)) cards' entries' page'
-ended_out {n} {cards} {entries} {page} h x y z =
-    let q = lt-leb n (length page) h in
-    record { answer = rw q; page_left = rw q x; cards_after = rw q y; entries_after = rw q z }
+pub ended_out : {n k : ℕ} {f : Refusal} {cards entries page cards' entries' page' : List ℕ} → PageEnded n page page' (Err f) → k ≡ refusal_carries f → cards' ≡ zeros cards → entries' ≡ zeros entries
+    → WritingEnded n cards entries page (Err (PageFull k)) cards' entries' page'
+ended_out {n} {k} {page = page} e c y z =
+    by_cases (leb n (length page))
+    (λ q. clash (ap is_ok (rw q at e.told)))
+    (λ q. record { answer = rw q (ap (λ (x : ℕ). Err (PageFull x)) (c ∙ ap told_by (rw q at e.told))); page_left = e.page_left; cards_after = rw q y; entries_after = rw q z })

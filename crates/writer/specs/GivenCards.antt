@@ -1,8 +1,11 @@
 -- The cards of the new edition while it is being finished: given cells stand in the words of their board, which are zero where there is no
 -- table, and then the table's kind.
-use Rattle.std.specs.Prelude.{ℕ, ◌+◌, ◌-◌, ◌*◌, ◌≤◌, ◌≡◌, cond, ◌&&◌, not, List, ◌∷◌, ◌++◌, map, eqb, leb, length, get_or, take, drop, replicate, Result, is_ok}
+use Rattle.std.specs.Prelude.{ℕ, ◌+◌, ◌-◌, ◌*◌, ◌≤◌, ◌≡◌, true, cond, ◌&&◌, not, List, ◌∷◌, ◌++◌, map, eqb, length, get_or, take, drop, replicate, Result, is_ok}
 use Rattle.tables.specs.declared.letters.Conventions.{Conventions}
+use Rattle.tables.specs.declared.page.Page.{Page}
+use Rattle.tables.specs.Puts.{Puts}
 use Rattle.tables.specs.PageSteps.{cleared as ended}
+use Rattle.std.specs.Result.{result_and}
 use Rattle.reader.specs.Store.{flat, zeros}
 use Rattle.planning.specs.declared.state.BoardState.{BoardState}
 use Rattle.planning.specs.declared.state.BoardState.TheVariants.{Blank, Own, Old, Near, Twin, Solve}
@@ -16,8 +19,7 @@ use Rattle.writer.specs.Held.{card_part}
 use Rattle.writer.specs.BoardTexts.{page_held}
 use Rattle.writer.specs.Given.{answer_at, table_of}
 use Rattle.writer.specs.Writings.{page_after}
-use Rattle.writer.specs.WritingSteps.{PagePut}
-use Rattle.writer.specs.Finishings.{finished_on, answered_by}
+use Rattle.writer.specs.Finishings.{finished_on, checked_of, answered_by}
 
 -- A card with other cells, words 18 to 37; with another kind of table, word 38.
 unfoldable pub with_cells : List ℕ → List ℕ → List ℕ
@@ -72,16 +74,26 @@ changed_at f k box = take (64 * k) box ++ (f (card_here k box) ++ drop (64 * k +
 abbrev pub changed_all : (List ℕ → List ℕ) → ℕ → List ℕ → List ℕ
 changed_all f n box = flat (map f (cards_in n box)) ++ drop (64 * n) box
 
--- n bytes were put on the page: zeros behind them, or nothing but zeros, in the boxes too, where they did not fit.
-pub record FinishEnded (n : ℕ) (boxes : Boxes) (page : List ℕ) (r : Result ℕ FinishRefusal) (boxes' : Boxes) (page' : List ℕ) : Type 0 where
-  pub answer : r ≡ finished_on n (length page)
-  pub boxes_left : BoxesKept (leb n (length page)) boxes boxes'
-  pub page_left : page' ≡ cond (leb n (length page)) (ended page n) (zeros page)
+-- The new edition, of n boards, was given its tables, the old one having m. Where the answers are let through its page is put, the given
+-- tables marked, and then these are taken away.
+pub record BoardsPut (c : Conventions) (new : List ℕ) (m n : ℕ) (olds cards entries answers : List ℕ) (p : Page) (put : Result (Unit {0}) FinishRefusal)
+    (cards' : List ℕ) (q : Page) : Type 0 where
+  pub solve : ℕ
+  pub given : List ℕ
+  pub gave : Gave (cards_in m olds) (cards_in n cards) cards n answers solve given
+  pub room : 64 * n ≤ length given
+  pub answer : put ≡ checked_of solve answers
+  pub page_put : is_ok put ≡ true → Puts p (page_held c new (changed_all marked n given) entries n) q
+  pub cards_after : cards' ≡ cond (is_ok put) (changed_all given_cleared n (changed_all marked n given)) given
+  pub kept : length q.bytes.now ≡ length p.bytes.now
 
--- The page of n boards was put, their given tables marked; then these were taken away.
-pub record FinishPut (c : Conventions) (new : List ℕ) (n : ℕ) (cards entries page : List ℕ) (r : ℕ) (cards' page' : List ℕ) : Type 0 where
-  pub put : PagePut page (page_held c new (changed_all marked n cards) entries n) page' r
-  pub cards_after : cards' ≡ changed_all given_cleared n (changed_all marked n cards)
+-- The end of a page on which n bytes were put, or nothing for a refusal: zeros behind them; nothing but zeros, in the boxes too, where they did
+-- not fit or nothing was put.
+pub record FinishEnded (put : Result (Unit {0}) FinishRefusal) (n : ℕ) (boxes : Boxes) (page : List ℕ) (r : Result ℕ FinishRefusal)
+    (boxes' : Boxes) (page' : List ℕ) : Type 0 where
+  pub answer : r ≡ result_and put (finished_on n (length page))
+  pub boxes_left : BoxesKept (is_ok r) boxes boxes'
+  pub page_left : page' ≡ cond (is_ok r) (ended page n) (zeros page)
 
 -- The boards of the new edition, of n cards, the old one having m.
 abbrev pub plans_in : ℕ → ℕ → Boxes → List BoardPlan

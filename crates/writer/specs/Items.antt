@@ -1,5 +1,6 @@
 -- What the functions of writing put, said of the entries of a board as they stand in a row.
-use Rattle.std.specs.Prelude.{ℕ, zero, suc, ◌+◌, ◌-◌, ◌/◌, ◌%◌, ◌≡◌, Bool, true, false, cond, ◌&&◌, ◌||◌, not, List, [], ◌∷◌, ◌++◌, eqb, ltb, leb, length, drop, set, get_or, Some, None}
+use Rattle.std.specs.Prelude.{ℕ, zero, suc, ◌+◌, ◌-◌, ◌/◌, ◌%◌, ◌≡◌, Bool, true, false, cond, ◌&&◌, ◌||◌, not, List, [], ◌∷◌, ◌++◌, eqb, ltb, leb, length, drop, set, get_or, Option, Some, None, MatchOption}
+use Rattle.std.specs.Iterator.{Count, at_most}
 use Rattle.tables.specs.declared.letters.Conventions.{Conventions}
 use Rattle.reader.specs.declared.board.Identity.{Identity}
 use Rattle.reader.specs.Words.{same, call_token, card_token}
@@ -8,24 +9,28 @@ use Rattle.reader.specs.Plain.{Item, TagPair, first_bytes, without_returns}
 use Rattle.writer.specs.declared.present.Present.{Present}
 use Rattle.tables.specs.Text.{ascii, trimmed, before}
 use Rattle.tables.specs.Numbers.{Number, number_of, decimal}
-use Rattle.writer.specs.Tags.{WrittenTag}
+use Rattle.writer.specs.Tags.{WrittenTag, result_text}
 use Rattle.writer.specs.PresentSteps.{is_tag_written, is_any}
 use Rattle.writer.specs.declared.items.Items.{Items}
 use Rattle.writer.specs.declared.notes.Notes.{Notes}
-use Rattle.writer.specs.Held.{entry_word, place_bytes, items_at}
+use Rattle.writer.specs.Held.{entry_word, place_bytes, item_at, items_at}
 
 -- ---- entries in a row
 
--- The entries that are meant; those from the entry e on.
+-- The entries that are meant.
 abbrev pub items_of : Items → List Item
 items_of is = items_at is.text.now is.entries.now is.first is.count
 
-abbrev pub items_from : Items → ℕ → List Item
-items_from is e = items_at is.text.now is.entries.now e (is.first + is.count - e)
+-- The first of them; the tag that it is, the next entry having its value.
+abbrev pub item_of : Items → Item
+item_of is = item_at is.text.now is.entries.now is.first
 
--- The tag at the entry e, the next entry having its value.
-abbrev pub tag_at : Items → ℕ → TagPair
-tag_at is e = record { name = place_bytes is.text.now is.entries.now e; value = first_bytes (items_from is (e + 1)) }
+abbrev pub tag_of : Items → TagPair
+tag_of is =
+    record {
+      name = place_bytes is.text.now is.entries.now is.first;
+      value = first_bytes (items_at is.text.now is.entries.now (is.first + 1) (is.count - 1));
+    }
 
 -- Of the same text as js, n entries from first on.
 pub record ItemsFrom (js : Items) (first n : ℕ) (is : Items) : Type 0 where
@@ -33,6 +38,18 @@ pub record ItemsFrom (js : Items) (first n : ℕ) (is : Items) : Type 0 where
   pub same_entries : is.entries.now ≡ js.entries.now
   pub first_is : is.first ≡ first
   pub count_is : is.count ≡ n
+
+-- Entries that are gone over: each comes with those behind it, which are left then.
+pub record IsNextEntry (is next rest : Items) : Type 0 where
+  pub next_is : next ≡ is
+  pub more : is.count ≡ rest.count + 1
+  pub rest_is : ItemsFrom is (is.first + 1) rest.count rest
+
+abbrev pub NextEntry : Items → Option Items → Items → Type 0
+NextEntry is o rest = MatchOption o (is.count ≡ 0) (λ next. IsNextEntry is next rest)
+
+abbrev pub entries_left : Items → Count
+entries_left is = at_most is.count
 
 -- ---- names
 
@@ -110,6 +127,11 @@ extras_text text entries first is e (suc n) =
 -- What says a result: whether there is one, and the result plus 128.
 abbrev pub result_in : ℕ → ℕ → Identity
 result_in met result = record { number_met = 0; number = 0; dealer = 4; vulnerability = 0; declarer = 4; result_met = met; result = result }
+
+-- The result plus 128 as it is written; nothing for none.
+abbrev pub outcome_text : Option ℕ → List ℕ
+outcome_text None = []
+outcome_text (Some r) = result_text (result_in 1 r)
 
 -- ---- auctions
 

@@ -3,8 +3,9 @@ ghost use Rattle.std.specs.Prelude.{◌≡◌, false, cond, ◌∷◌, [], eqb};
 ghost use Rattle.tables.specs.Puts.{Puts};
 ghost use Rattle.writer.specs.Items.{items_of, before_call, calls_text, last_code, end_text, auction_text};
 
-use crate::items::{ANNOTATION, CALL, Items};
+use crate::items::Items;
 use crate::tokens::put_call;
+use reader::store::{ANNOTATION, CALL};
 use tables::letters::Conventions;
 use tables::page::Page;
 
@@ -37,17 +38,17 @@ fn put_calls(page: &mut Page, c: Conventions, items: &Items)
 {
     let mut n: usize = 0;
     let mut called = false;
-    for e in items.first..items.end() {
-        let met = items.kind_at(e);
+    for entry in *items {
+        let met = entry.kind();
         if met == CALL {
             put_before(page, n);
-            put_call(page, c, items.mark_at(e));
+            put_call(page, c, entry.mark());
             n += 1;
             called = true;
             continue;
         }
         if (met == ANNOTATION) & called {
-            page.put_text(items.bytes_at(e));
+            page.put_text(entry.bytes());
             continue;
         }
         called = false;
@@ -55,17 +56,17 @@ fn put_calls(page: &mut Page, c: Conventions, items: &Items)
     put_last(page, n);
 }
 
-// The code of the last call, 47 where there is none.
-fn last_code(items: &Items) -> usize
-    ensures { result ≡ last_code 47 (items_of items.now) }
+// Whether the last call is `+`, 38 (PLUS of reader::words, a byte).
+fn ends_with_plus(items: &Items) -> bool
+    ensures { result ≡ eqb (last_code 47 (items_of items.now)) 38 }
 {
-    let mut last: usize = 47;
-    for e in items.first..items.end() {
-        if items.kind_at(e) == CALL {
-            last = items.mark_at(e);
+    let mut plus = false;
+    for entry in *items {
+        if entry.kind() == CALL {
+            plus = entry.mark() == 38;
         }
     }
-    last
+    plus
 }
 
 // The end's line.
@@ -84,7 +85,7 @@ pub(crate) fn put_auction(page: &mut Page, c: Conventions, items: &Items, end: u
     ensures { Puts page.old (auction_text c end (items_of items.now)) page.new }
 {
     put_calls(page, c, items);
-    if last_code(items) != 38 {
+    if !ends_with_plus(items) {
         put_end(page, end);
     }
 }

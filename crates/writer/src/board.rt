@@ -4,7 +4,7 @@ ghost use Rattle.tables.specs.Text.{ascii};
 ghost use Rattle.tables.specs.Puts.{Puts};
 ghost use Rattle.reader.specs.Words.{vulnerability_token};
 ghost use Rattle.writer.specs.Tags.{or_empty, seat_text, result_text, first_seat};
-ghost use Rattle.writer.specs.Items.{items_of, tagged_text, result_in, scoring_at};
+ghost use Rattle.writer.specs.Items.{items_of, tagged_text, result_in, outcome_text, scoring_at};
 ghost use Rattle.writer.specs.BoardTexts.{word_of, value_of, of_board, optional_text, title_text, players_text, dealer_text, shown_vulnerable, head_text, deal_held, contract_text, table_text, analysis_text, bidding_text, cards_text};
 
 use crate::auction::put_auction;
@@ -14,7 +14,7 @@ use crate::names::find_name;
 use crate::notes::put_notes;
 use crate::play::put_play;
 use crate::remarks::put_after;
-use crate::tags::{put_close, put_open, put_tagged};
+use crate::tags::{put_close, put_open, put_tagged, put_tagged_by};
 use crate::tokens::{put_digits, put_result, put_seat, put_vulnerability};
 use tables::letters::Conventions;
 use tables::page::Page;
@@ -24,10 +24,7 @@ fn put_value(page: &mut Page, board: &Board, name: &[u8], i: usize)
     requires { i < 64 }
     ensures { Puts page.old (tagged_text name.now (or_empty (value_of board.now i)) (items_of board.now.remarks)) page.new }
 {
-    match board.value(i) {
-        Some(value) => put_tagged(page, &board.remarks, name, value),
-        None => put_tagged(page, &board.remarks, name, b""),
-    }
+    put_tagged(page, &board.remarks, name, board.value(i).unwrap_or(b""));
 }
 
 // The same where there is a value.
@@ -64,10 +61,7 @@ fn put_players(page: &mut Page, board: &Board)
 fn put_seated(page: &mut Page, board: &Board, c: Conventions, name: &[u8], seat: usize)
     ensures { Puts page.old (tagged_text name.now (seat_text c seat) (items_of board.now.remarks)) page.new }
 {
-    put_open(page, name);
-    put_seat(page, c, seat);
-    put_close(page);
-    put_after(page, &board.remarks, name);
+    put_tagged_by(page, &board.remarks, name, |page| put_seat(page, c, seat));
 }
 
 // The dealer, where there is one.
@@ -80,7 +74,7 @@ fn put_dealer(page: &mut Page, board: &Board, c: Conventions)
     }
 }
 
-// A vulnerability as it is written: None where none was read.
+// A vulnerability as it is written: None where none was read, which the definitions have as 4; no card that was read has it.
 fn shown(v: usize) -> usize
     ensures { result ≡ shown_vulnerable v }
 {
@@ -93,10 +87,13 @@ fn shown(v: usize) -> usize
 fn put_vulnerable(page: &mut Page, board: &Board)
     ensures { Puts page.old (tagged_text (ascii "Vulnerable") (vulnerability_token (shown_vulnerable (word_of board.now 5))) (items_of board.now.remarks)) page.new }
 {
-    put_open(page, b"Vulnerable");
-    put_vulnerability(page, shown(board.word(5)));
-    put_close(page);
-    put_after(page, &board.remarks, b"Vulnerable");
+    let v = shown(board.word(5));
+    put_tagged_by(
+        page,
+        &board.remarks,
+        b"Vulnerable",
+        |page| put_vulnerability(page, v),
+    );
 }
 
 // The tags before the deal, but for supplemental ones.
@@ -127,10 +124,11 @@ fn put_dealt(page: &mut Page, board: &Board, c: Conventions)
         put_tagged(page, &board.remarks, b"Deal", value);
         return;
     }
-    put_open(page, b"Deal");
-    put_deal(page, c, first_seat(board.word(4)), hands_at(board));
-    put_close(page);
-    put_after(page, &board.remarks, b"Deal");
+    let seat = first_seat(board.word(4));
+    let hands = hands_at(board);
+    put_tagged_by(page, &board.remarks, b"Deal", |page| {
+        put_deal(page, c, seat, hands)
+    });
 }
 
 // Scoring: the first value of that name.
@@ -139,20 +137,36 @@ fn put_scoring(page: &mut Page, board: &Board)
 {
     let items = board.items();
     match find_name(&items, b"Scoring") {
-        Some(e) => put_tagged(page, &board.remarks, b"Scoring", items.bytes_at(e + 1)),
+        Some(n) => put_tagged(
+            page,
+            &board.remarks,
+            b"Scoring",
+            items.bytes_at(items.first + n + 1),
+        ),
         None => put_tagged(page, &board.remarks, b"Scoring", b""),
     }
+}
+
+// The result plus 128, where there is one.
+fn outcome_of(board: &Board) -> Option<u32>
+    ensures { outcome_text result ≡ result_text (result_in (word_of board.now 7) (word_of board.now 8)) }
+{
+    if board.word(7) == 0 {
+        return None;
+    }
+    Some(board.word(8) as u32)
 }
 
 fn put_outcome(page: &mut Page, board: &Board)
     ensures { Puts page.old (tagged_text (ascii "Result") (result_text (result_in (word_of board.now 7) (word_of board.now 8))) (items_of board.now.remarks)) page.new }
 {
-    put_open(page, b"Result");
-    if board.word(7) != 0 {
-        put_result(page, board.word(8));
-    }
-    put_close(page);
-    put_after(page, &board.remarks, b"Result");
+    let outcome = outcome_of(board);
+    put_tagged_by(
+        page,
+        &board.remarks,
+        b"Result",
+        |page| put_result(page, outcome),
+    );
 }
 
 // Deal, Scoring, Declarer, Contract, Result.

@@ -6,7 +6,7 @@ ghost use Rattle.writer.specs.Held.{card_part};
 ghost use Rattle.writer.specs.BoardTexts.{word_of};
 
 use crate::held::Board;
-use reader::deal::{Hands, holds};
+use reader::deal::{Hands, from_words, holds};
 use tables::letters::{Conventions, rank_letter, seat_letter};
 use tables::page::Page;
 
@@ -15,12 +15,10 @@ fn hand_at(board: &Board, i: usize) -> u64
     requires { i < 63 }
     ensures { result ≡ from_words (word_of board.now i) (word_of board.now (i + 1)) }
 {
-    let low = board.word(i);
-    let high = board.word(i + 1);
-    (high as u64) * 4294967296 + (low as u64)
+    from_words(board.word(i) as u32, board.word(i + 1) as u32)
 }
 
-// The hands of a board: words 10 to 17.
+// The hands of a board: words 10 to 17, by their places, since a board has no card of its own (see Board).
 pub(crate) fn hands_at(board: &Board) -> Hands
     ensures { result ≡ hands_of_words (card_part board.now.cards.now board.now.index 10 8) }
 {
@@ -36,7 +34,7 @@ pub(crate) fn hands_at(board: &Board) -> Hands
     }
 }
 
-// Every hand goes one seat back.
+// Every hand goes one seat back: the other way than that in which reading turns hands.
 fn turned_back(h: Hands) -> Hands
     ensures { result ≡ back h }
 {
@@ -53,18 +51,11 @@ fn from_seat(h: Hands, seat: usize) -> Hands
     requires { seat < 4 }
     ensures { result ≡ clockwise seat h }
 {
-    if seat == 0 {
-        return h;
+    let mut turned = h;
+    for k in 0..seat {
+        turned = turned_back(turned);
     }
-    let once = turned_back(h);
-    if seat == 1 {
-        return once;
-    }
-    let twice = turned_back(once);
-    if seat == 2 {
-        return twice;
-    }
-    turned_back(twice)
+    turned
 }
 
 // The ranks of the suit s in x, from high to low.

@@ -1,21 +1,19 @@
 // The finished edition: the new one, every whole board with a table (finish).
-ghost use Rattle.std.specs.Prelude.{◌≡◌, false, ◌+◌, ◌*◌, ◌≤◌, length};
+ghost use Rattle.std.specs.Prelude.{◌≡◌, ◌+◌, ◌*◌, ◌≤◌, length};
 ghost use Rattle.tables.specs.Letters.{built_in};
-ghost use Rattle.reader.specs.Store.{zeros};
-ghost use Rattle.planning.specs.PlanSteps.{BoxesKept};
 ghost use Rattle.planning.specs.Plans.{words_of, SameLent};
-ghost use Rattle.writer.specs.GivenCards.{marked, given_cleared, changed_at, changed_all, FinishEnded, FinishPut, BoardsFinished};
-ghost use Rattle.writer.specs.Finishings.{finish_number, finish_carries, finish_edition, first_above, checked_of, IsFinished};
+ghost use Rattle.writer.specs.GivenCards.{marked, given_cleared, changed_at, changed_all, FinishEnded, BoardsPut};
+ghost use Rattle.writer.specs.Finishings.{finish_number, finish_carries, finish_edition, checked_of, IsFinished};
 
 use crate::give::give_tables;
-use crate::write::{clear, put_edition};
+use crate::held::ReadEdition;
+use crate::page::put_page;
 use planning::cards::{card_here, has_table, is_whole};
-use planning::editions::{
-    EditionsRefusal, LentBoxes, edition_refused, editions_carried, editions_number, read_both,
-};
-use reader::store::{copy_in, zero};
+use planning::editions::{EditionsRefusal, LentBoxes, read_both};
+use reader::store::copy_in;
 use tables::letters::{Conventions, built_in};
-use tables::refused::Refused;
+use tables::page::Page;
+use tables::refused::{Edition, Refused};
 
 // Refusals 1 to 3 of an edition; 5 answers of another number of bytes than 20 a slip, 6 a byte above 13, 7 the page is too short;
 // specs/Finishings.antt gives the numbers.
@@ -36,29 +34,36 @@ impl Refused for FinishRefusal {
 
     fn number(self) -> u64 {
         match self {
-            FinishRefusal::Edition(e) => editions_number(e),
+            FinishRefusal::Edition(f) => f.number(),
             FinishRefusal::Answers(_) => 5,
             FinishRefusal::Impossible(_) => 6,
             FinishRefusal::PageFull(_) => 7,
         }
     }
 
-    fn edition(self) -> u64 {
+    fn edition(self) -> Option<Edition> {
         match self {
-            FinishRefusal::Edition(e) => edition_refused(e),
+            FinishRefusal::Edition(f) => f.edition(),
             FinishRefusal::Answers(_) | FinishRefusal::Impossible(_) | FinishRefusal::PageFull(_) =>
-                0,
+                None,
         }
     }
 
     fn carried(self) -> u64 {
         match self {
-            FinishRefusal::Edition(e) => editions_carried(e),
+            FinishRefusal::Edition(f) => f.carried(),
             FinishRefusal::Answers(n) | FinishRefusal::Impossible(n) | FinishRefusal::PageFull(n) =>
                 n,
         }
     }
 }
+
+// Words of a card: the first of its table's cells, and the table's kind; the kind of a table that was given, which no card that is read has.
+const CELLS: usize = 18;
+
+const KIND: usize = 38;
+
+const GIVEN: u32 = 3;
 
 // Marks the table of the board at index k as given, where the board is whole and has none.
 fn mark_card(cards: &mut [u32], k: usize)
@@ -69,11 +74,12 @@ fn mark_card(cards: &mut [u32], k: usize)
     let whole = is_whole(card);
     let tabled = has_table(card);
     if whole & !tabled {
-        cards[64 * k + 38] = 3;
+        cards[64 * k + KIND] = GIVEN;
     }
 }
 
-// Marks the tables that were given: a whole board without a table.
+// Marks the tables that were given: a whole board without a table. This loop and that of clear_given are two, since one that is given what is
+// done to a card would have to ask of it where the card lies and that the number of words stays.
 fn mark_given(cards: &mut [u32], boards: usize)
     requires { 64 * boards ≤ length cards.old }
     ensures { cards.new ≡ changed_all marked boards cards.old }
@@ -88,9 +94,9 @@ fn clear_card(cards: &mut [u32], k: usize)
     requires { 64 * k + 64 ≤ length cards.old }
     ensures { cards.new ≡ changed_at given_cleared k cards.old }
 {
-    if cards[64 * k + 38] == 3 {
+    if cards[64 * k + KIND] == GIVEN {
         let none = [0u32; 21];
-        copy_in(cards, 64 * k + 18, &none);
+        copy_in(cards, 64 * k + CELLS, &none);
     }
 }
 
@@ -104,16 +110,6 @@ fn clear_given(cards: &mut [u32], boards: usize)
     }
 }
 
-// The index of the first byte above 13, the number of bytes where there is none.
-fn first_above(answers: &[u8]) -> usize
-    ensures { result ≡ first_above answers.now }
-{
-    match answers.iter().position(|b| *b > 13) {
-        Some(i) => i,
-        None => answers.len(),
-    }
-}
-
 // Lets answers through that are 20 bytes for each board to solve, none above 13.
 fn check_answers(answers: &[u8], solve: usize) -> Result<(), FinishRefusal>
     ensures { result ≡ checked_of solve answers.now }
@@ -124,109 +120,76 @@ fn check_answers(answers: &[u8], solve: usize) -> Result<(), FinishRefusal>
     if answers.len() / 20 != solve {
         return Err(FinishRefusal::Answers(solve as u64));
     }
-    let k = first_above(answers);
-    if k != answers.len() {
-        return Err(FinishRefusal::Impossible(k as u64));
+    match answers.iter().position(|b| *b > 13) {
+        Some(k) => Err(FinishRefusal::Impossible(k as u64)),
+        None => Ok(()),
     }
-    Ok(())
 }
 
-// Sets all that was lent to 0.
-fn zero_all(
-    old_cards: &mut [u32],
-    old_entries: &mut [u32],
-    new_cards: &mut [u32],
-    new_entries: &mut [u32],
-    page: &mut [u8],
-)
-    ensures { (BoxesKept false
-        (record { old_cards = old_cards.old; old_entries = old_entries.old; new_cards = new_cards.old; new_entries = new_entries.old })
-        (record { old_cards = old_cards.new; old_entries = old_entries.new; new_cards = new_cards.new; new_entries = new_entries.new }))
-        × (page.new ≡ zeros page.old) }
-{
-    zero(old_cards);
-    zero(old_entries);
-    zero(new_cards);
-    zero(new_entries);
-    clear(page);
-}
-
-// The n bytes put on a page; all that was lent is set to 0 where they do not fit.
-fn end_finishing(
-    n: usize,
-    old_cards: &mut [u32],
-    old_entries: &mut [u32],
-    new_cards: &mut [u32],
-    new_entries: &mut [u32],
-    page: &mut [u8],
-) -> Result<u64, FinishRefusal>
-    ensures { FinishEnded n
-        (record { old_cards = old_cards.old; old_entries = old_entries.old; new_cards = new_cards.old; new_entries = new_entries.old })
-        page.old result
-        (record { old_cards = old_cards.new; old_entries = old_entries.new; new_cards = new_cards.new; new_entries = new_entries.new })
-        page.new }
-{
-    if n <= page.len() {
-        let _ = tables::page::finish(page, n);
-        return Ok(n as u64);
-    }
-    zero_all(old_cards, old_entries, new_cards, new_entries, page);
-    Err(FinishRefusal::PageFull(n as u64))
-}
-
-// Puts the page of boards whose cells were given, and takes the given tables away again.
+// Gives the boards of the new edition their tables and puts its page, where the answers are let through. The boxes are passed one by one, each
+// to be written: the check follows no call that reads two of them out of LentBoxes, nor a function that reads the cards of one edition in it
+// while it changes those of the other.
 fn put_finished(
-    new: &[u8],
-    cards: &mut [u32],
-    entries: &[u32],
-    c: Conventions,
-    boards: usize,
-    page: &mut [u8],
-) -> usize
-    requires { 64 * boards ≤ length cards.old }
-    ensures { FinishPut c new.now boards cards.old entries.now page.old result cards.new page.new }
-{
-    mark_given(cards, boards);
-    let n = put_edition(new, cards, entries, c, boards, page);
-    clear_given(cards, boards);
-    n
-}
-
-// Finishes the new edition, once both were read. The boxes are passed one by one: the check follows no function that reads the cards of one
-// edition in LentBoxes while it changes those of the other.
-fn finish_boards(
+    page: &mut Page,
     c: Conventions,
     new: &[u8],
     old_cards: &mut [u32],
-    old_entries: &mut [u32],
-    new_cards: &mut [u32],
-    new_entries: &mut [u32],
     olds: usize,
+    cards: &mut [u32],
+    entries: &mut [u32],
     news: usize,
     answers: &[u8],
-    page: &mut [u8],
-) -> Result<u64, FinishRefusal>
-    requires { (64 * olds ≤ length old_cards.old) × (64 * news ≤ length new_cards.old) }
-    ensures { BoardsFinished c new.now olds news
-        (record { old_cards = old_cards.old; old_entries = old_entries.old; new_cards = new_cards.old; new_entries = new_entries.old })
-        answers.now page.old result
-        (record { old_cards = old_cards.new; old_entries = old_entries.new; new_cards = new_cards.new; new_entries = new_entries.new })
-        page.new }
+) -> Result<(), FinishRefusal>
+    requires { (64 * olds ≤ length old_cards.old) × (64 * news ≤ length cards.old) }
+    ensures put { BoardsPut c new.now olds news old_cards.old cards.old entries.old answers.now page.old result cards.new page.new }
+    ensures kept { (old_cards.new ≡ old_cards.old) × (entries.new ≡ entries.old) }
+    ensures same { page.new.bytes.ghost_name ≡ page.old.bytes.ghost_name }
 {
-    let solve = give_tables(old_cards, olds, new_cards, news, answers);
-    match check_answers(answers, solve) {
-        Ok(()) => {
-            let n = put_finished(new, new_cards, new_entries, c, news, page);
-            end_finishing(n, old_cards, old_entries, new_cards, new_entries, page)
-        }
+    let solve = give_tables(old_cards, olds, cards, news, answers);
+    let checked = check_answers(answers, solve);
+    if !checked.is_ok() {
+        return checked;
+    }
+    mark_given(cards, news);
+    put_page(
+        page,
+        &ReadEdition {
+            text: new,
+            cards,
+            entries,
+            boards: news,
+        },
+        c,
+    );
+    clear_given(cards, news);
+    checked
+}
+
+// The end of a page that was put; all that was lent is set to 0 where the text does not fit, and where nothing was put.
+fn end_finishing(
+    put: Result<(), FinishRefusal>,
+    boxes: &mut LentBoxes,
+    page: &mut Page,
+) -> Result<u64, FinishRefusal>
+    ensures ended { FinishEnded put page.old.at (words_of boxes.old) page.old.bytes.now result (words_of boxes.new) page.new.bytes.now }
+    ensures same { SameLent boxes.old boxes.new × (page.new.bytes.ghost_name ≡ page.old.bytes.ghost_name) }
+{
+    if let Err(f) = put {
+        boxes.zero();
+        page.bytes.fill(0);
+        return Err(f);
+    }
+    match page.finish() {
+        Ok(n) => Ok(n),
         Err(f) => {
-            zero_all(old_cards, old_entries, new_cards, new_entries, page);
-            Err(f)
+            boxes.zero();
+            Err(FinishRefusal::PageFull(f.carried()))
         }
     }
 }
 
-// Finishes by the given conventions. How many bytes; a refusal leaves all that was lent zero.
+// Finishes by the given conventions; finish stands beside it for the boundary, which passes none, since there are no default arguments. A refusal
+// is put into another by a match, as the page is set to 0 beside it. How many bytes; a refusal leaves all that was lent zero.
 pub fn finish_with(
     c: Conventions,
     old: &[u8],
@@ -240,21 +203,24 @@ pub fn finish_with(
 {
     match read_both(c, old, new, boxes) {
         Err(f) => {
-            clear(page);
+            page.fill(0);
             Err(FinishRefusal::Edition(f))
         }
-        Ok(both) => finish_boards(
-            c,
-            new,
-            boxes.old_cards,
-            boxes.old_entries,
-            boxes.new_cards,
-            boxes.new_entries,
-            both.old.boards,
-            both.new.boards,
-            answers,
-            page,
-        ),
+        Ok(both) => {
+            let mut page = Page::new(page);
+            let put = put_finished(
+                &mut page,
+                c,
+                new,
+                boxes.old_cards,
+                both.old.boards,
+                boxes.new_cards,
+                boxes.new_entries,
+                both.new.boards,
+                answers,
+            );
+            end_finishing(put, boxes, &mut page)
+        }
     }
 }
 

@@ -11,7 +11,8 @@ use planning::cards::cards_in;
 use planning::state::{BoardState, state_of};
 use reader::store::copy_in;
 
-// The cells of the card at index k; zeros where there is no such card.
+// The cells of the card at index k of lent words, which are changed while they are read, and so are no cards of their own (see Board); zeros
+// where there is no such card, since the definition speaks of every state.
 fn cells_at(cards: &[u32], k: usize) -> [u32; 20]
     ensures { result ≡ cells_at cards.now k }
 {
@@ -25,7 +26,7 @@ fn cells_at(cards: &[u32], k: usize) -> [u32; 20]
     cells
 }
 
-// The 20 answers for a slip; zeros where there are none.
+// The 20 answers for a slip, bytes where cells_at has words; zeros where there are none, as refusal 5 is told only once all boards have their cells.
 fn answer_cells(answers: &[u8], slip: usize) -> [u32; 20]
     ensures { result ≡ answer_at answers.now slip }
 {
@@ -94,7 +95,8 @@ fn state_here(
     state_of(cards_in(old_cards, olds), cards_in(new_cards, news), k)
 }
 
-// Gives every board of the new edition its cells, and answers how many are to be solved.
+// Gives every board of the new edition its cells, and answers how many are to be solved. The states are found one by one, since an iterator of
+// them would hold the cards that each turn changes.
 pub(crate) fn give_tables(
     old_cards: &[u32],
     olds: usize,

@@ -5,9 +5,22 @@ ghost use Rattle.writer.specs.Held.{card_word};
 ghost use Rattle.writer.specs.Items.{items_of, has_remarks, ItemsFrom};
 ghost use Rattle.writer.specs.BoardTexts.{word_of, value_of, BoardHeld};
 
-use crate::items::{BLOCK, DIRECTIVE, Items};
+use crate::items::Items;
+use reader::store::{COMMENTARY, DIRECTIVE};
 
-// The board whose card stands at an index; its remarks are among its entries, or among none of them where there is no remark.
+// An edition that was read: its text, the lent words of its cards and entries, and how many boards it has.
+#[derive(Clone, Copy)]
+pub struct ReadEdition<'a> {
+    pub text: &'a [u8],
+    pub cards: &'a [u32],
+    pub entries: &'a [u32],
+    pub boards: usize,
+}
+
+// The board whose card stands at an index; its remarks are among its entries, or among none of them where there is no remark. The card is named
+// by its index among lent words, since give and finish change these card by card: of words that as_chunks_mut cuts into cards nothing is known
+// once a card is changed. The letters of cards and calls are no part of a board, nor of a page: tables and listing_text put pages without any,
+// and of the functions here that take a page more than half take none.
 #[derive(Clone, Copy)]
 pub struct Board<'a> {
     pub cards: &'a [u32],
@@ -15,7 +28,7 @@ pub struct Board<'a> {
     pub remarks: Items<'a>,
 }
 
-// The word i of the card k.
+// The word i of the card k; 0 past the last card, since the definitions speak of all words and not of those alone that were read.
 fn card_word(cards: &[u32], k: usize, i: usize) -> usize
     requires { i < 64 }
     ensures { (result ≡ card_word cards.now k i) × (result < 4294967296) }
@@ -30,30 +43,21 @@ fn card_word(cards: &[u32], k: usize, i: usize) -> usize
 fn has_remarks(items: &Items) -> bool
     ensures { result ≡ has_remarks (items_of items.now) }
 {
-    for e in items.first..items.end() {
-        let kind = items.kind_at(e);
-        if (kind == DIRECTIVE) | (kind == BLOCK) {
-            return true;
-        }
-    }
-    false
+    let mut rest = *items;
+    rest.any(|entry| (entry.kind() == DIRECTIVE) | (entry.kind() == COMMENTARY))
 }
 
 impl<'a> Board<'a> {
     // The board of the card at an index.
-    pub(crate) fn new(
-        text: &'a [u8],
-        cards: &'a [u32],
-        entries: &'a [u32],
-        index: usize,
-    ) -> Board<'a>
-        ensures { BoardHeld text.now cards.now entries.now index result }
+    pub(crate) fn new(edition: &ReadEdition<'a>, index: usize) -> Board<'a>
+        ensures { BoardHeld edition.now.text.now edition.now.cards.now edition.now.entries.now index result }
     {
+        let cards = edition.cards;
         let first = card_word(cards, index, 0);
         let count = card_word(cards, index, 1);
         let items = Items {
-            text,
-            entries,
+            text: edition.text,
+            entries: edition.entries,
             first,
             count,
         };
@@ -71,7 +75,7 @@ impl<'a> Board<'a> {
         }
     }
 
-    // The word i of its card.
+    // The word i of its card. Every caller names i as a number below 64, so that i < 64 is no more than the bound of an array's index.
     pub(crate) fn word(&self, i: usize) -> usize
         requires { i < 64 }
         ensures { (result ≡ word_of self.now i) × (result < 4294967296) }

@@ -1,20 +1,8 @@
 // Entries in a row, and the bytes that they name.
 ghost use Rattle.std.specs.Prelude.{◌+◌, ◌≤◌};
 
-use tables::text::{from, upto};
-
-// The kinds of entries, numbers in the lent words: a tag's name, a directive, a block, a call, an annotation, a trick.
-pub(crate) const TAG: usize = 1;
-
-pub(crate) const DIRECTIVE: usize = 3;
-
-pub(crate) const BLOCK: usize = 4;
-
-pub(crate) const CALL: usize = 6;
-
-pub(crate) const ANNOTATION: usize = 7;
-
-pub(crate) const TRICK: usize = 8;
+use reader::store::TRICK;
+use reader::tag::Span;
 
 // The entries from first on, count of them, as they were just read from a text.
 #[derive(Clone, Copy)]
@@ -29,9 +17,9 @@ pub struct Items<'a> {
 impl<'a> Items<'a> {
     ghost use Rattle.std.specs.Prelude.{◌≡◌, ◌<◌};
     ghost use Rattle.writer.specs.Held.{entry_word, place_bytes};
-    ghost use Rattle.writer.specs.Items.{tag_at, ItemsFrom};
+    ghost use Rattle.writer.specs.Items.{item_of, tag_of, ItemsFrom};
 
-    // The word j of the entry e.
+    // The word j of the entry e; 0 past the last entry, since the definitions speak of all words.
     fn word_at(&self, e: usize, j: usize) -> usize
         requires { j < 4 }
         ensures { (result ≡ entry_word self.now.entries.now e j) × (result < 4294967296) }
@@ -42,18 +30,18 @@ impl<'a> Items<'a> {
         0
     }
 
-    // What the entry e is.
-    pub(crate) fn kind_at(&self, e: usize) -> usize
-        ensures { result ≡ entry_word self.now.entries.now e 0 }
+    // What the first of them is.
+    pub(crate) fn kind(&self) -> usize
+        ensures { result ≡ (item_of self.now).kind }
     {
-        self.word_at(e, 0)
+        self.word_at(self.first, 0)
     }
 
-    // The code of the call at the entry e, or the slots of the trick there.
-    pub(crate) fn mark_at(&self, e: usize) -> usize
-        ensures { (result ≡ entry_word self.now.entries.now e 3) × (result < 4294967296) }
+    // The code of the call that the first of them is, or the slots of the trick.
+    pub(crate) fn mark(&self) -> usize
+        ensures { (result ≡ (item_of self.now).mark) × (result < 4294967296) }
     {
-        self.word_at(e, 3)
+        self.word_at(self.first, 3)
     }
 
     // The bytes of the text at the place of the entry e.
@@ -62,31 +50,24 @@ impl<'a> Items<'a> {
     {
         let start = self.word_at(e, 1);
         let len = self.word_at(e, 2);
-        upto(from(self.text, start), len)
+        Span { start, len }.of(self.text)
     }
 
-    // The value of the tag at the entry e: the bytes of the next entry, none behind the last one or where a trick stands.
-    pub(crate) fn value_behind(&self, e: usize) -> &'a [u8]
-        ensures { result.now ≡ (tag_at self.now e).value }
+    // Those of the first of them.
+    pub(crate) fn bytes(&self) -> &'a [u8]
+        ensures { result.now ≡ place_bytes self.now.text.now self.now.entries.now self.now.first }
     {
-        if self.end() <= e {
-            return upto(self.text, 0);
-        }
-        let next = e + 1;
-        if self.end() <= next {
-            return upto(self.text, 0);
-        }
-        if self.kind_at(next) == TRICK {
-            return upto(self.text, 0);
-        }
-        self.bytes_at(next)
+        self.bytes_at(self.first)
     }
 
-    // The place behind the last of them.
-    pub(crate) fn end(&self) -> usize
-        ensures { (result ≡ self.now.first + self.now.count) × (result ≤ 8589934592) }
+    // The value of the tag that the first of them is: the bytes of the next entry, none behind the last one or where a trick stands.
+    pub(crate) fn value(&self) -> &'a [u8]
+        ensures { result.now ≡ (tag_of self.now).value }
     {
-        self.first + self.count
+        if self.count < 2 || self.word_at(self.first + 1, 0) == TRICK {
+            return b"";
+        }
+        self.bytes_at(self.first + 1)
     }
 
     // Other entries of the same text.
@@ -100,5 +81,23 @@ impl<'a> Items<'a> {
             first,
             count,
         }
+    }
+}
+
+// Each of them in turn, with those behind it.
+impl<'a> Iterator for Items<'a> {
+    ghost use Rattle.writer.specs.Items.{NextEntry, entries_left};
+
+    type Item = Items<'a>;
+
+    ghost next_gives = { NextEntry };
+
+    ghost remaining = { entries_left };
+
+    fn next(&mut self) -> Option<Items<'a>> {
+        let entry = *self;
+        let count = self.count.checked_sub(1)?;
+        *self = self.part(self.first + 1, count);
+        Some(entry)
     }
 }

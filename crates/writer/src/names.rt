@@ -2,22 +2,29 @@
 ghost use Rattle.std.specs.Prelude.{◌≡◌, ◌+◌, ◌<◌, MatchOption};
 ghost use Rattle.writer.specs.Items.{items_of, name_index};
 
-use crate::items::{Items, TAG};
-use reader::words::same;
+use crate::items::Items;
+use reader::store::NAME;
 
-// The place of the first tag of the name.
+// How many entries stand before the first tag of the name.
 pub(crate) fn find_name(items: &Items, name: &[u8]) -> Option<usize>
     ensures { MatchOption result
         (name_index name.now (items_of items.now) ≡ items.now.count)
-        (λ e. (e ≡ items.now.first + name_index name.now (items_of items.now)) × (name_index name.now (items_of items.now) < items.now.count)) }
+        (λ n. (n ≡ name_index name.now (items_of items.now)) × (n < items.now.count)) }
 {
-    for e in items.first..items.end() {
-        if items.kind_at(e) != TAG {
+    'search: for entry in *items {
+        if entry.kind() != NAME {
             continue;
         }
-        if same(name, items.bytes_at(e)) {
-            return Some(e);
+        let bytes = entry.bytes();
+        if name.len() != bytes.len() {
+            continue;
         }
+        for (a, b) in name.iter().zip(bytes) {
+            if a != b {
+                continue 'search;
+            }
+        }
+        return Some(entry.first - items.first);
     }
     None
 }

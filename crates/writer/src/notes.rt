@@ -6,12 +6,13 @@ ghost use Rattle.tables.specs.Puts.{Puts};
 ghost use Rattle.reader.specs.Words.{same};
 ghost use Rattle.writer.specs.Sections.{note_values};
 ghost use Rattle.writer.specs.PresentSteps.{is_any};
-ghost use Rattle.writer.specs.Items.{items_of, of_notes, tag_at, remarks_text, tag_line_text, notes_text, tags_at, note_number, note_number_at, note_places, note_text, has_value, placed_note, takes_value, takes_tag, full_note, all_notes};
+ghost use Rattle.writer.specs.Items.{items_of, of_notes, tag_of, remarks_text, tag_line_text, notes_text, tags_at, note_number, note_number_at, note_places, note_text, has_value, placed_note, takes_value, takes_tag, full_note, all_notes};
 
-use crate::items::{BLOCK, DIRECTIVE, Items, TAG};
+use crate::items::Items;
 use crate::remarks::{put_remarks, put_under};
 use crate::tags::{put_close, put_open};
 use reader::names::{TagName, tag_name};
+use reader::store::{COMMENTARY, DIRECTIVE, NAME};
 use reader::words::same;
 use tables::numbers::parse_number;
 use tables::page::Page;
@@ -25,7 +26,7 @@ pub struct Notes<'a> {
     pub places: [usize; 256],
 }
 
-// The number of a note's value.
+// The number of a note's value. The definitions have 256 for none, the first number past the places, so that none puts nothing in its place.
 fn note_number(value: &[u8]) -> Option<u8>
     ensures { MatchOption result (note_number value.now ≡ 256) (λ n. (note_number value.now ≡ n) × (n < 256)) }
 {
@@ -39,19 +40,18 @@ fn note_number(value: &[u8]) -> Option<u8>
     None
 }
 
-// The number of the note that the entry e names.
-#[tactic(auto, unfolding(crate::specs::Items::note_number_at))]
-fn note_at(items: &Items, e: usize) -> Option<u8>
-    requires { e ≤ 8589934592 }
+// The number of the note that an entry names.
+#[tactic(auto, unfolding(crate::specs::Items::note_number_at, crate::specs::Held::item_at))]
+fn note_of(entry: &Items) -> Option<u8>
     ensures { MatchOption result
-        (note_number_at items.now.text.now items.now.entries.now e ≡ 256)
-        (λ n. (note_number_at items.now.text.now items.now.entries.now e ≡ n) × (n < 256)) }
+        (note_number_at entry.now.text.now entry.now.entries.now entry.now.first ≡ 256)
+        (λ n. (note_number_at entry.now.text.now entry.now.entries.now entry.now.first ≡ n) × (n < 256)) }
 {
-    if items.kind_at(e) != TAG {
+    if entry.kind() != NAME {
         return None;
     }
-    match tag_name(items.bytes_at(e)) {
-        Some(TagName::Note) => note_number(items.bytes_at(e + 1)),
+    match tag_name(entry.bytes()) {
+        Some(TagName::Note) => note_number(entry.bytes_at(entry.first + 1)),
         _ => None,
     }
 }
@@ -60,21 +60,17 @@ fn note_at(items: &Items, e: usize) -> Option<u8>
 pub(crate) fn has_notes(items: &Items) -> bool
     ensures { result ≡ is_any (note_values (tags_at items.now.text.now items.now.entries.now items.now.first items.now.count)) }
 {
-    for e in items.first..items.end() {
-        if let Some(_) = note_at(items, e) {
-            return true;
-        }
-    }
-    false
+    let mut rest = *items;
+    rest.any(|entry| note_of(&entry).is_some())
 }
 
 // Puts the place of each note's value at its number, the last note of a number over the others.
 fn set_places(items: &Items, places: &mut [usize; 256])
     ensures { places.new ≡ note_places items.now.text.now items.now.entries.now places.old items.now.first items.now.count }
 {
-    for e in items.first..items.end() {
-        if let Some(n) = note_at(items, e) {
-            places[n as usize] = e + 1;
+    for entry in *items {
+        if let Some(n) = note_of(&entry) {
+            places[n as usize] = entry.first + 1;
         }
     }
 }
@@ -92,7 +88,7 @@ fn put_note(page: &mut Page, items: &Items, n: u8, place: usize)
     put_close(page);
 }
 
-// Whether s is n in decimal.
+// Whether s is n in decimal, which is put into ten bytes, as nothing is lent to put it on.
 fn is_decimal(s: &[u8], n: u8) -> bool
     ensures { result ≡ same s.now (decimal n) }
 {
@@ -127,7 +123,8 @@ fn is_written_as(notes: &Notes, n: u8, value: &[u8]) -> bool
     is_note(&notes.items, n, place, value)
 }
 
-// Whether the note n takes the directives of a Note of this value; fresh says that it is the first.
+// Whether the note n takes the directives of a Note of this value; fresh says that it is the first. Notes, n and fresh are passed as they stand:
+// a struct of them would be made by put_placed alone, for two calls, and taken apart in each function.
 fn takes_value(notes: &Notes, n: u8, fresh: bool, value: &[u8]) -> bool
     ensures { result ≡ of_notes takes_value notes.now n fresh value.now }
 {
@@ -140,23 +137,24 @@ fn takes_value(notes: &Notes, n: u8, fresh: bool, value: &[u8]) -> bool
     fresh && !is_written_as(notes, m, value)
 }
 
-// Whether the note n takes the directives of the tag at the entry e.
-fn takes_tag(notes: &Notes, n: u8, fresh: bool, items: &Items, e: usize) -> bool
-    ensures { result ≡ of_notes takes_tag notes.now n fresh (tag_at items.now e) }
+// Whether the note n takes the directives of the tag that an entry is.
+fn takes_tag(notes: &Notes, n: u8, fresh: bool, entry: &Items) -> bool
+    ensures { result ≡ of_notes takes_tag notes.now n fresh (tag_of entry.now) }
 {
-    if same(b"Note", items.bytes_at(e)) {
-        return takes_value(notes, n, fresh, items.value_behind(e));
-    }
-    false
+    same(b"Note", entry.bytes()) && takes_value(notes, n, fresh, entry.value())
 }
 
 // The directives that the note n takes.
 fn put_taken(page: &mut Page, notes: &Notes, n: u8, fresh: bool, remarks: &Items)
     ensures { Puts page.old (remarks_text (of_notes takes_tag notes.now n fresh) false 3 (items_of remarks.now)) page.new }
 {
-    put_remarks(page, remarks, false, DIRECTIVE, |e| {
-        takes_tag(notes, n, fresh, remarks, e)
-    });
+    put_remarks(
+        page,
+        remarks,
+        false,
+        DIRECTIVE,
+        |entry| takes_tag(notes, n, fresh, &entry),
+    );
 }
 
 // A note, the directives that it takes and, after the first, the blocks.
@@ -166,11 +164,11 @@ fn put_full_note(page: &mut Page, notes: &Notes, n: u8, fresh: bool, remarks: &I
     put_note(page, &notes.items, n, notes.places[n as usize]);
     put_taken(page, notes, n, fresh, remarks);
     if fresh {
-        put_under(page, remarks, BLOCK, b"Note");
+        put_under(page, remarks, COMMENTARY, b"Note");
     }
 }
 
-// The notes that have a place, by rising number, each with what follows it.
+// The notes that have a place, by rising number, each with what follows it; put_full_note looks the place up by the number.
 fn put_placed(page: &mut Page, notes: &Notes, remarks: &Items)
     ensures { Puts page.old (of_notes all_notes notes.now (items_of remarks.now)) page.new }
 {

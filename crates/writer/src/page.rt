@@ -6,13 +6,14 @@ ghost use Rattle.writer.specs.Items.{Leading, items_of, sought_text, deal_place}
 ghost use Rattle.writer.specs.BoardTexts.{of_board, present_in, front_text, unwritten_text, back_text, header_held, next_held, parts_held, page_held};
 
 use crate::board::{put_analysis, put_bidding, put_cards, put_contract, put_head};
-use crate::held::Board;
-use crate::items::{BLOCK, DIRECTIVE, Items};
+use crate::held::{Board, ReadEdition};
+use crate::items::Items;
 use crate::names::find_name;
 use crate::notes::has_notes;
 use crate::present::Present;
 use crate::remarks::{put_leading, put_lost};
 use crate::tags::put_extras;
+use reader::store::{COMMENTARY, DIRECTIVE};
 use tables::letters::Conventions;
 use tables::page::Page;
 
@@ -47,10 +48,7 @@ fn present_at(board: &Board) -> Present
 fn before_deal(items: &Items) -> usize
     ensures { (result ≡ deal_place items.now.text.now items.now.entries.now items.now.first items.now.count) × (result ≤ items.now.count) }
 {
-    match find_name(items, b"Deal") {
-        Some(e) => e - items.first,
-        None => 0,
-    }
+    find_name(items, b"Deal").unwrap_or(0)
 }
 
 // Blocks before every tag, and the tags up to the late supplemental ones.
@@ -59,9 +57,14 @@ fn put_front(page: &mut Page, board: &Board, c: Conventions)
 {
     let items = board.items();
     let early = before_deal(&items);
-    put_leading(page, &board.remarks, BLOCK);
+    put_leading(page, &board.remarks, COMMENTARY);
     put_head(page, board, c);
-    put_extras(page, &board.remarks, &items, items.first, early);
+    put_extras(
+        page,
+        &board.remarks,
+        items.first,
+        &items.part(items.first, early),
+    );
     put_contract(page, board, c);
     put_analysis(page, board);
 }
@@ -74,7 +77,7 @@ fn put_unwritten(page: &mut Page, board: &Board)
         return;
     }
     let present = present_at(board);
-    put_lost(page, &board.remarks, BLOCK, present);
+    put_lost(page, &board.remarks, COMMENTARY, present);
     put_lost(page, &board.remarks, DIRECTIVE, present);
 }
 
@@ -84,13 +87,8 @@ fn put_back(page: &mut Page, board: &Board, c: Conventions)
 {
     let items = board.items();
     let early = before_deal(&items);
-    put_extras(
-        page,
-        &board.remarks,
-        &items,
-        items.first + early,
-        items.count - early,
-    );
+    let late = items.part(items.first + early, items.count - early);
+    put_extras(page, &board.remarks, items.first, &late);
     put_bidding(page, board, c);
     put_cards(page, board, c);
     put_unwritten(page, board);
@@ -112,7 +110,7 @@ fn put_body(page: &mut Page, board: &Board, c: Conventions)
 }
 
 // The header of an edition without one of its own.
-fn put_header(page: &mut Page)
+pub fn put_header(page: &mut Page)
     ensures { Puts page.old built_in_header page.new }
 {
     page.put_text(b"% PBN 2.1\n% EXPORT\n\n");
@@ -132,49 +130,34 @@ fn put_top(page: &mut Page, board: &Board)
 }
 
 // An empty line and the lines of the board at an index.
-fn put_next(page: &mut Page, text: &[u8], cards: &[u32], entries: &[u32], b: usize, c: Conventions)
-    ensures { Puts page.old (next_held c text.now cards.now entries.now b) page.new }
+fn put_next(page: &mut Page, edition: &ReadEdition, b: usize, c: Conventions)
+    ensures { Puts page.old (next_held c edition.now.text.now edition.now.cards.now edition.now.entries.now b) page.new }
 {
-    let board = Board::new(text, cards, entries, b);
+    let board = Board::new(edition, b);
     page.put_byte(10);
     put_lead(page, &board);
     put_body(page, &board, c);
 }
 
-// The parts of the boards behind the first, boards being all of them.
-fn put_parts(
-    page: &mut Page,
-    text: &[u8],
-    cards: &[u32],
-    entries: &[u32],
-    c: Conventions,
-    boards: usize,
-)
-    requires { 0 < boards }
-    ensures { Puts page.old (parts_held c text.now cards.now entries.now 1 (boards - 1)) page.new }
+// The parts of the boards behind the first.
+fn put_parts(page: &mut Page, edition: &ReadEdition, c: Conventions)
+    ensures { Puts page.old (parts_held c edition.now.text.now edition.now.cards.now edition.now.entries.now 1 (edition.now.boards - 1)) page.new }
 {
-    for b in 1..boards {
-        put_next(page, text, cards, entries, b, c);
+    for b in 1..edition.boards {
+        put_next(page, edition, b, c);
     }
 }
 
-// The page of boards that were just read.
-pub(crate) fn put_page(
-    page: &mut Page,
-    text: &[u8],
-    cards: &[u32],
-    entries: &[u32],
-    c: Conventions,
-    boards: usize,
-)
-    ensures { Puts page.old (page_held c text.now cards.now entries.now boards) page.new }
+// The page of an edition.
+pub(crate) fn put_page(page: &mut Page, edition: &ReadEdition, c: Conventions)
+    ensures { Puts page.old (page_held c edition.now.text.now edition.now.cards.now edition.now.entries.now edition.now.boards) page.new }
 {
-    if boards == 0 {
+    if edition.boards == 0 {
         put_header(page);
         return;
     }
-    let board = Board::new(text, cards, entries, 0);
+    let board = Board::new(edition, 0);
     put_top(page, &board);
     put_body(page, &board, c);
-    put_parts(page, text, cards, entries, c, boards);
+    put_parts(page, edition, c);
 }

@@ -4,8 +4,9 @@ ghost use Rattle.tables.specs.Puts.{Puts};
 ghost use Rattle.writer.specs.Items.{items_of, slot_text, one_more_card, slots_text, four_slots, tricks_text, play_text};
 
 use crate::auction::{put_end, put_last};
-use crate::items::{Items, TRICK};
+use crate::items::Items;
 use crate::tokens::put_card;
+use reader::store::TRICK;
 use tables::letters::Conventions;
 use tables::page::Page;
 
@@ -51,9 +52,9 @@ fn put_trick(page: &mut Page, c: Conventions, z: usize)
 fn put_tricks(page: &mut Page, c: Conventions, items: &Items)
     ensures { Puts page.old (tricks_text c (items_of items.now)) page.new }
 {
-    for e in items.first..items.end() {
-        if items.kind_at(e) == TRICK {
-            put_trick(page, c, items.mark_at(e));
+    for entry in *items {
+        if entry.kind() == TRICK {
+            put_trick(page, c, entry.mark());
         }
     }
 }

@@ -2,11 +2,13 @@
 ghost use Rattle.std.specs.Prelude.{◌≡◌, ◌&&◌, ◌+◌, ◌≤◌, ◌<◌, ℕ, Bool, [], eqb, length, get_or};
 ghost use Rattle.reader.specs.Plain.{TagPair, without_returns};
 ghost use Rattle.tables.specs.Puts.{Puts};
-ghost use Rattle.writer.specs.Items.{Leading, Under, Unwritten, items_of, tag_at, remark_text, remarks_text, sought_text, after_text};
+ghost use Rattle.writer.specs.declared.items.Items.{Items};
+ghost use Rattle.writer.specs.Items.{Leading, Under, Unwritten, items_of, tag_of, remark_text, remarks_text, sought_text, after_text};
 
-use crate::items::{BLOCK, DIRECTIVE, Items, TAG};
+use crate::items::Items;
 use crate::present::{Present, is_written};
 use reader::names::tag_name;
+use reader::store::{COMMENTARY, DIRECTIVE, NAME};
 use reader::words::same;
 use tables::page::Page;
 use tables::text::byte_at;
@@ -19,7 +21,7 @@ fn is_dropped(s: &[u8], i: usize) -> bool
     (byte_at(s, i) == 13) & (byte_at(s, i + 1) == 10)
 }
 
-// A block's value: a CR before each LF is dropped.
+// A block's value: a CR before each LF is dropped. The loop goes by index, since the byte behind a CR decides.
 fn put_block(page: &mut Page, s: &[u8])
     ensures { Puts page.old (without_returns s.now) page.new }
 {
@@ -31,11 +33,12 @@ fn put_block(page: &mut Page, s: &[u8])
     }
 }
 
-// A directive on its line, a block in braces.
+// A directive on its line, a block in braces. The kind is DIRECTIVE or COMMENTARY: an enum of the two would be made a number again wherever the kind
+// of an entry is compared with it, as the definitions do.
 pub(crate) fn put_remark(page: &mut Page, kind: usize, s: &[u8])
     ensures { Puts page.old (remark_text kind s.now) page.new }
 {
-    if kind == BLOCK {
+    if kind == COMMENTARY {
         page.put_byte(123);
         put_block(page, s);
         page.put_text(b"}\n");
@@ -45,27 +48,28 @@ pub(crate) fn put_remark(page: &mut Page, kind: usize, s: &[u8])
     page.put_byte(10);
 }
 
-// The remarks of a kind behind the tags that are taken, and before the first tag where first says so.
-pub(crate) fn put_remarks<F: Fn(usize) -> bool>(
+// The remarks of a kind behind the tags that are taken, and before the first tag where first says so: of those no tag could be asked, and a
+// closure of an Option would make every caller but put_leading write a match.
+pub(crate) fn put_remarks<'a, F: Fn(Items<'a>) -> bool>(
     page: &mut Page,
-    items: &Items,
+    items: &Items<'a>,
     first: bool,
     kind: usize,
     takes: F,
 )
     requires small { kind ≤ 4 }
     requires callable { F.IsAlwaysCallable takes }
-    ensures { (p : TagPair → Bool) → ((e : ℕ) (r : Bool) → e < items.now.first + items.now.count → F.post takes e r → r ≡ p (tag_at items.now e)) → Puts page.old (remarks_text p first kind (items_of items.now)) page.new }
+    ensures { (p : TagPair → Bool) → ((entry : Items) (r : Bool) → F.post takes entry r → r ≡ p (tag_of entry)) → Puts page.old (remarks_text p first kind (items_of items.now)) page.new }
 {
     let mut under = first;
-    for e in items.first..items.end() {
-        let met = items.kind_at(e);
-        if met == TAG {
-            under = takes(e);
+    for entry in *items {
+        let met = entry.kind();
+        if met == NAME {
+            under = takes(entry);
             continue;
         }
         if (met == kind) & under {
-            put_remark(page, kind, items.bytes_at(e));
+            put_remark(page, kind, entry.bytes());
         }
     }
 }
@@ -83,7 +87,7 @@ pub(crate) fn put_under(page: &mut Page, items: &Items, kind: usize, name: &[u8]
     requires { kind ≤ 4 }
     ensures { Puts page.old (sought_text Under name.now kind (items_of items.now)) page.new }
 {
-    put_remarks(page, items, false, kind, |e| same(name, items.bytes_at(e)));
+    put_remarks(page, items, false, kind, |entry| same(name, entry.bytes()));
 }
 
 // Those whose tag is not written.
@@ -91,8 +95,8 @@ pub(crate) fn put_lost(page: &mut Page, items: &Items, kind: usize, present: Pre
     requires { kind ≤ 4 }
     ensures { Puts page.old (sought_text (Unwritten present) [] kind (items_of items.now)) page.new }
 {
-    put_remarks(page, items, false, kind, |e| {
-        !is_written(present, tag_name(items.bytes_at(e)))
+    put_remarks(page, items, false, kind, |entry| {
+        !is_written(present, tag_name(entry.bytes()))
     });
 }
 
@@ -101,5 +105,5 @@ pub(crate) fn put_after(page: &mut Page, remarks: &Items, name: &[u8])
     ensures { Puts page.old (after_text name.now (items_of remarks.now)) page.new }
 {
     put_under(page, remarks, DIRECTIVE, name);
-    put_under(page, remarks, BLOCK, name);
+    put_under(page, remarks, COMMENTARY, name);
 }

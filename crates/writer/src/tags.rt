@@ -1,12 +1,15 @@
 // Tags on their lines, each with what follows it.
-ghost use Rattle.std.specs.Prelude.{◌≡◌, ◌∷◌, [], ◌++◌, ◌+◌, ◌≤◌};
+ghost use Rattle.std.specs.Prelude.{◌≡◌, ℕ, List, ◌∷◌, [], ◌++◌, ◌+◌, ◌≤◌};
+ghost use Rattle.std.specs.Fn.{FnOnceReturnsAtMut};
+ghost use Rattle.tables.specs.declared.page.Page.{Page};
 ghost use Rattle.tables.specs.Puts.{Puts};
 ghost use Rattle.writer.specs.Items.{items_of, tag_line_text, tagged_text, is_extra_at, extras_text};
 
-use crate::items::{Items, TAG};
+use crate::items::Items;
 use crate::names::find_name;
 use crate::remarks::put_after;
 use reader::names::tag_name;
+use reader::store::NAME;
 use reader::words::same;
 use tables::page::Page;
 
@@ -43,34 +46,56 @@ pub(crate) fn put_tagged(page: &mut Page, remarks: &Items, name: &[u8], value: &
     put_after(page, remarks, name);
 }
 
-// Whether the entry e names a supplemental tag, other than Scoring, that no entry of the board names before.
-#[tactic(auto, unfolding(crate::specs::Items::is_extra_at))]
-fn is_extra(items: &Items, e: usize) -> bool
-    requires { (items.now.first ≤ e) × (e ≤ 8589934592) }
-    ensures { result ≡ is_extra_at items.now.text.now items.now.entries.now items.now.first e }
+// The same of a value that put puts. The table, the auction and the play are put by hand: of a closure that takes a board or its entries the
+// check doesn't find what it puts.
+pub(crate) fn put_tagged_by<F: FnOnce(&mut Page)>(
+    page: &mut Page,
+    remarks: &Items,
+    name: &[u8],
+    put: F,
+)
+    requires callable { F.IsAlwaysCallable put }
+    ensures { (v : List ℕ) → ((p q : Page) → FnOnceReturnsAtMut F.FnOnce put p tt q → Puts p v q) → Puts page.old (tagged_text name.now v (items_of remarks.now)) page.new }
 {
-    if items.kind_at(e) != TAG {
+    put_open(page, name);
+    put(page);
+    put_close(page);
+    put_after(page, remarks, name);
+}
+
+// Whether an entry names a supplemental tag, other than Scoring, that no entry from first on names before.
+#[tactic(auto, unfolding(crate::specs::Items::is_extra_at, crate::specs::Held::item_at))]
+fn is_extra(first: usize, entry: &Items) -> bool
+    requires { first ≤ entry.now.first }
+    ensures { result ≡ is_extra_at entry.now.text.now entry.now.entries.now first entry.now.first }
+{
+    if entry.kind() != NAME {
         return false;
     }
-    let name = items.bytes_at(e);
+    let name = entry.bytes();
     if tag_name(name).is_some() {
         return false;
     }
     if same(b"Scoring", name) {
         return false;
     }
-    let before = items.part(items.first, e - items.first);
+    let before = entry.part(first, entry.first - first);
     find_name(&before, name).is_none()
 }
 
-// The supplemental tags among the entries of a board from the entry from on, count of them.
-pub(crate) fn put_extras(page: &mut Page, remarks: &Items, items: &Items, from: usize, count: usize)
-    requires { (items.now.first ≤ from) × (from + count ≤ 8589934592) }
-    ensures { Puts page.old (extras_text items.now.text.now items.now.entries.now items.now.first (items_of remarks.now) from count) page.new }
+// The supplemental tags among entries, first being the first of their board.
+pub(crate) fn put_extras(page: &mut Page, remarks: &Items, first: usize, items: &Items)
+    requires { first ≤ items.now.first }
+    ensures { Puts page.old (extras_text items.now.text.now items.now.entries.now first (items_of remarks.now) items.now.first items.now.count) page.new }
 {
-    for e in from..from + count {
-        if is_extra(items, e) {
-            put_tagged(page, remarks, items.bytes_at(e), items.bytes_at(e + 1));
+    for entry in *items {
+        if is_extra(first, &entry) {
+            put_tagged(
+                page,
+                remarks,
+                entry.bytes(),
+                entry.bytes_at(entry.first + 1),
+            );
         }
     }
 }

@@ -4,8 +4,8 @@ ghost use Rattle.reader.specs.Words.{bid_token, call_token, card_token, vulnerab
 ghost use Rattle.tables.specs.Puts.{Puts};
 ghost use Rattle.tables.specs.Tables.{digit_byte, digits_text};
 ghost use Rattle.writer.specs.Held.{card_part};
-ghost use Rattle.writer.specs.Tags.{seat_text, result_text};
-ghost use Rattle.writer.specs.Items.{result_in};
+ghost use Rattle.writer.specs.Tags.{seat_text};
+ghost use Rattle.writer.specs.Items.{outcome_text};
 
 use crate::held::Board;
 use tables::dd::encode_tricks;
@@ -33,7 +33,8 @@ fn put_underscores(page: &mut Page, n: usize)
     }
 }
 
-// A call by its code.
+// A call by its code: 0, 36, 37 and 38 are PASS, X, XX and PLUS of reader::words, which are bytes, where a code that was read is a word and may
+// be any.
 pub fn put_call(page: &mut Page, c: Conventions, code: usize)
     ensures { Puts page.old (call_token c code) page.new }
 {
@@ -47,7 +48,7 @@ pub fn put_call(page: &mut Page, c: Conventions, code: usize)
     }
 }
 
-// A suit's letter and a rank's.
+// A suit's letter and a rank's. A number below 52 is no type of Rust's, and a struct round it would be made where it is tested, in put_slot.
 pub fn put_card(page: &mut Page, c: Conventions, k: usize)
     requires { k < 52 }
     ensures { Puts page.old (card_token c k) page.new }
@@ -76,30 +77,29 @@ pub fn put_vulnerability(page: &mut Page, v: usize)
     }
 }
 
-// A result, kept as the result plus 128, in decimal.
-pub(crate) fn put_result(page: &mut Page, outcome: usize)
-    requires { outcome < 4294967296 }
-    ensures { Puts page.old (result_text (result_in 1 outcome)) page.new }
+// A result, kept as the result plus 128, in decimal; nothing for none.
+pub(crate) fn put_result(page: &mut Page, outcome: Option<u32>)
+    ensures { Puts page.old (outcome_text outcome) page.new }
 {
-    if outcome < 128 {
+    let Some(n) = outcome else {
+        return;
+    };
+    if n < 128 {
         page.put_byte(45);
-        page.put_decimal((128 - outcome) as u32);
+        page.put_decimal(128 - n);
         return;
     }
-    page.put_decimal((outcome - 128) as u32);
+    page.put_decimal(n - 128);
 }
 
 // A cell's digit; a larger count is written as 13 is.
 fn digit_of(w: usize) -> u8
     ensures { result ≡ digit_byte w }
 {
-    if w < 14 {
-        return encode_tricks(w as u8);
-    }
-    100
+    encode_tricks(w.min(13) as u8)
 }
 
-// The digits of a board's table: words 18 to 37.
+// The digits of a board's table: words 18 to 37, any of which may be larger than a byte, which put_digits of tables takes.
 pub(crate) fn put_digits(page: &mut Page, board: &Board)
     ensures { Puts page.old (digits_text (card_part board.now.cards.now board.now.index 18 20)) page.new }
 {

@@ -1,17 +1,15 @@
 // An edition read and written (write_pbn).
 ghost use Rattle.std.specs.Prelude.{◌≡◌};
 ghost use Rattle.tables.specs.Letters.{built_in};
-ghost use Rattle.reader.specs.Store.{zeros};
-ghost use Rattle.writer.specs.BoardTexts.{page_held};
 ghost use Rattle.writer.specs.Writings.{write_number, write_carries, IsWritten};
-ghost use Rattle.writer.specs.WritingSteps.{PagePut, WritingEnded};
+ghost use Rattle.writer.specs.WritingSteps.{WritingEnded};
 
+use crate::held::ReadEdition;
 use crate::page::put_page;
 use reader::edition::{ReadRefusal, read_pbn_with};
-use reader::store::zero;
 use tables::letters::{Conventions, built_in};
-use tables::page::{Page, finish};
-use tables::refused::Refused;
+use tables::page::Page;
+use tables::refused::{Edition, Refused};
 
 // Refusals 1 to 3 of the edition, and 7 with the bytes needed; specs/Writings.antt gives the numbers.
 #[derive(Clone, Copy, Debug, PartialEq, Eq)]
@@ -34,8 +32,8 @@ impl Refused for WriteRefusal {
         }
     }
 
-    fn edition(self) -> u64 {
-        0
+    fn edition(self) -> Option<Edition> {
+        None
     }
 
     fn carried(self) -> u64 {
@@ -46,49 +44,24 @@ impl Refused for WriteRefusal {
     }
 }
 
-// Sets every byte of a page to 0.
-pub fn clear(page: &mut [u8])
-    ensures { page.new ≡ zeros page.old }
+// The end of a page; the lent words are set to 0 where the text does not fit.
+fn end_writing(page: &mut Page, cards: &mut [u32], entries: &mut [u32]) -> Result<u64, WriteRefusal>
+    ensures ended { WritingEnded page.old.at cards.old entries.old page.old.bytes.now result cards.new entries.new page.new.bytes.now }
+    ensures same { page.new.bytes.ghost_name ≡ page.old.bytes.ghost_name }
 {
-    let _ = finish(page, 0);
-}
-
-// Puts the page of boards that were just read on lent bytes, and says how many bytes it has.
-pub(crate) fn put_edition(
-    text: &[u8],
-    cards: &[u32],
-    entries: &[u32],
-    c: Conventions,
-    boards: usize,
-    bytes: &mut [u8],
-) -> usize
-    ensures { PagePut bytes.old (page_held c text.now cards.now entries.now boards) bytes.new result }
-{
-    let mut page = Page::new(bytes);
-    put_page(&mut page, text, cards, entries, c, boards);
-    page.at
-}
-
-// The n bytes put on a page; all that was lent is set to 0 where they do not fit.
-fn end_writing(
-    n: usize,
-    cards: &mut [u32],
-    entries: &mut [u32],
-    page: &mut [u8],
-) -> Result<u64, WriteRefusal>
-    ensures { WritingEnded n cards.old entries.old page.old result cards.new entries.new page.new }
-{
-    if n <= page.len() {
-        let _ = finish(page, n);
-        return Ok(n as u64);
+    match page.finish() {
+        Ok(n) => Ok(n),
+        Err(f) => {
+            cards.fill(0);
+            entries.fill(0);
+            Err(WriteRefusal::PageFull(f.carried()))
+        }
     }
-    clear(page);
-    zero(cards);
-    zero(entries);
-    Err(WriteRefusal::PageFull(n as u64))
 }
 
-// Reads a text into the lent words and writes it on the page, by the given conventions. How many bytes; a refusal leaves all that was lent
+// Reads a text into the lent words and writes it on the page, by the given conventions; write_pbn stands beside it for the boundary, which passes
+// none, since there are no default arguments. Cards, entries and page are passed as the boundary is lent them. A
+// refusal is put into another by a match, as the page is set to 0 beside it. How many bytes; a refusal leaves all that was lent
 // zero.
 pub fn write_pbn_with(
     c: Conventions,
@@ -101,11 +74,22 @@ pub fn write_pbn_with(
 {
     match read_pbn_with(c, text, cards, entries) {
         Ok(counts) => {
-            let n = put_edition(text, cards, entries, c, counts.boards, page);
-            end_writing(n, cards, entries, page)
+            let mut page = Page::new(page);
+            let boards = counts.boards;
+            put_page(
+                &mut page,
+                &ReadEdition {
+                    text,
+                    cards,
+                    entries,
+                    boards,
+                },
+                c,
+            );
+            end_writing(&mut page, cards, entries)
         }
         Err(f) => {
-            clear(page);
+            page.fill(0);
             Err(WriteRefusal::Edition(f))
         }
     }

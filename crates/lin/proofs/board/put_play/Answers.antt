@@ -13,7 +13,7 @@ returns-then-bid-eq0 c =
 pub returns-then-s : goal.returns-then-s
 unfolding lin_play_text
 returns-then-s c =
-    rw (ne_eqb _ _ c.if-bid-eq0.false, c.if-s.true, ← c.next_seat-lead.ensures.0, ← trump_is (c.args.s.contract.bid - 1), ← c.strain_of.ensures) (puts_then c.put_text.ensures (puts_then c.put_seat.ensures (puts_then c.put_text-then-s.ensures c.put_tricks.ensures)))
+    rw (ne_eqb _ _ c.if-bid-eq0.false, c.if-s.true, ← c.next_seat-lead.ensures.0, ← trump_is (c.args.s.contract.bid - 1), ← c.strain_of-trump.ensures) (puts_then c.put_text.ensures (puts_then (rw c.from.ensures at c.put_seat.ensures) (puts_then c.put_text-then-s.ensures c.put_tricks.ensures)))
 
 pub returns-else-s : goal.returns-else-s
 unfolding lin_play_text

@@ -1,5 +1,5 @@
-use Prim.Native.Nat.{◌+◌, ◌≤◌}
-use lib.ListN.{length}
+use Prim.Native.Nat.{◌≤◌}
+use mathlib.Core.Path.{◌≡◌}
 use Rattle.tables.specs.Text.{lines}
 use Rattle.lin.specs.Pieces.{line_pieces}
 use Rattle.lin.specs.PieceSteps.{lines_left}
@@ -7,4 +7,6 @@ use Rattle.lin.proofs.GoneLaws.{Going}
 use Rattle.lin.proofs.pieces.put_lines.Given as goal
 
 abbrev pub invariant-loop-l : goal.invariant-loop-l
-invariant-loop-l l = Going l.c (line_pieces (lines l.text)) (line_pieces (lines_left l.l-iterator)) l.fn.page l.page l.g × (l.g.boards + length l.l-iterator.rest.now ≤ length l.text)
+invariant-loop-l l =
+    let w = l.l-iterator in
+    Going l.c (line_pieces (lines l.text)) (line_pieces (lines_left w)) l.fn.page l.page l.g × (l.g.boards ≤ w.next) × (w.text.now ≡ l.text)

@@ -7,6 +7,6 @@ use Rattle.tables.proofs.PutsLaws.{PutsLeft}
 use Rattle.lin.proofs.playing.put_tricks.Given as goal
 
 abbrev pub invariant-loop-p : goal.invariant-loop-p
-invariant-loop-p l = PutsLeft l.fn.page (trick_texts l.c l.lead l.trump (empty_trick l.lead) (cards_played l.c (pairs_of l.text))) l.page (trick_texts l.c l.lead l.trump l.t (cards_played l.c (pairs_left l.p-iterator)))
+invariant-loop-p l = PutsLeft l.fn.page (trick_texts l.by.c l.by.lead l.by.trump (empty_trick l.by.lead) (cards_played l.by.c (pairs_of l.text))) l.page (trick_texts l.by.c l.by.lead l.by.trump l.t (cards_played l.by.c (pairs_left l.p-iterator)))
     × FineTrick l.t
     × (l.t.count ≤ 3)

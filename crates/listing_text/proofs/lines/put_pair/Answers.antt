@@ -1,6 +1,5 @@
-use Rattle.tables.proofs.PageLaws.{put_then, decimal_few}
-use native.Mathlib.Omega.{arith}
+use Rattle.tables.proofs.PutsLaws.{puts_then}
 use Rattle.listing_text.proofs.lines.put_pair.Goals as goal
 
 pub returns : goal.returns
-returns c = (put_then c.put_text-next.ensures c.put_decimal.ensures, omega (arith, c.put_text-next.ensures.next, c.put_decimal.ensures.next, decimal_few c.args.n))
+returns c = puts_then c.put_text.ensures c.put_decimal.ensures

@@ -1,12 +1,9 @@
-use borrow.Author.Tests.{le-leb, lt-leb}
+use Rattle.std.proofs.Common.{◌∙◌, sym}
+use Rattle.listing_text.proofs.ListingLaws.{listing_fits, listing_full}
 use Rattle.listing_text.proofs.listing.finish_listing.Goals as goal
 
-pub returns-then-n-page-clause-kept : goal.returns-then-n-page-clause-kept
-returns-then-n-page-clause-kept c =
-    let e = le-leb _ _ c.if-n-page.true in
-    record { end = c.finish.ensures; boxes_left = record { old_cards = simp e; old_entries = simp e; new_cards = simp e; new_entries = simp e }; slips_after = simp e }
+pub returns-then-is_err-clause-kept : goal.returns-then-is_err-clause-kept
+returns-then-is_err-clause-kept c = listing_full c.finish-written.ensures.ended (sym c.is_err.ensures.value ∙ c.if-is_err.true) c.zero.ensures.zeros c.zero_numbers.ensures
 
-pub returns-clause-kept : goal.returns-clause-kept
-returns-clause-kept c =
-    let e = lt-leb _ _ c.if-n-page.false in
-    record { end = c.finish-2.ensures; boxes_left = rw e c.zero.ensures.zeros; slips_after = rw e c.zero_numbers.ensures }
+pub returns-else-is_err-clause-kept : goal.returns-else-is_err-clause-kept
+returns-else-is_err-clause-kept c = listing_fits _ _ c.finish-written.ensures.ended (sym c.is_err.ensures.value ∙ c.if-is_err.false)

@@ -1,16 +1,22 @@
-use mathlib.Core.Path.{refl}
+use mathlib.Core.Path.{ap}
 use native.Mathlib.Omega.{arith}
-use Rattle.listing_text.proofs.ListingLaws.{lines_first, lines_next, lines_end}
+use Rattle.tables.proofs.PutsLaws.{puts_all, puts_first, puts_next, puts_same}
+use Rattle.planning.proofs.BoardLaws.{left_first, left_step, left_none}
+use Rattle.listing_text.specs.Listing.{listing_lines}
 use Rattle.listing_text.proofs.listing.put_lines.Goals as goal
 
 pub loop-k-init : goal.loop-k-init
-loop-k-init c = lines_first c.args.olds.now c.args.news.now c.args.page.now
+loop-k-init c = puts_same (ap listing_lines (left_first c.args.olds.now c.args.news.now)) (puts_first _ _)
 
-pub put_board-at-requires : goal.put_board-at-requires
-put_board-at-requires c = (omega (arith, c.loop-k.invariant.low, c.loop-k-test.true, c.requires.1), omega (arith, c.loop-k-test.true, c.requires.1), omega (arith, c.state_of-s.ensures.1, c.requires.0, c.requires.1))
+pub put_board-requires : goal.put_board-requires
+put_board-requires c = (omega (arith, c.loop-k-test.true, c.requires.1), omega (arith, c.state_of.ensures.1, c.requires.0, c.requires.1))
 
 pub loop-k-preserved : goal.loop-k-preserved
-loop-k-preserved c = lines_next c.loop-k.invariant c.loop-k-test.true refl c.state_of-s.ensures.0 c.put_board-at.ensures.0 c.put_board-at.ensures.1
+loop-k-preserved c =
+    let a = c.args in
+    puts_next _ _ (puts_same (ap listing_lines (left_step a.olds.now a.news.now c.loop-k.k c.loop-k-test.true)) c.loop-k.invariant) (rw c.state_of.ensures.0 at c.put_board.ensures)
 
 pub returns : goal.returns
-returns c = lines_end c.loop-k.invariant c.loop-k-test.false
+returns c =
+    let a = c.args in
+    puts_all (puts_same (ap listing_lines (left_none a.olds.now a.news.now c.loop-k.k c.loop-k-test.false)) c.loop-k.invariant)

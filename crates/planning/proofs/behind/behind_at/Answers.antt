@@ -1,16 +1,9 @@
-use Prim.Native.Nat.{◌+◌, ◌-◌}
-use mathlib.Core.Path.{◌≡◌}
-use native.Mathlib.Omega.{arith}
-use Rattle.planning.proofs.BoardLaws.{behind_here, behind_past}
+use borrow.Author.Rules.{rules}
+use Rattle.planning.proofs.BoardLaws.{behind_is, behind_outside}
 use Rattle.planning.proofs.behind.behind_at.Goals as goal
 
-pub returns-then-p-eq0 : goal.returns-then-p-eq0
-returns-then-p-eq0 c = rw c.if-p-eq0.true
-
-pub returns-then-k-news : goal.returns-then-k-news
-returns-then-k-news c = let e : c.args.p ≡ (c.args.p - 1) + 1 = omega (arith, c.if-p-eq0.false) in
-    behind_here c.args.olds.now c.args.news.now (c.args.p - 1) e c.if-k-news.true c.state_of-s.ensures.0 c.behind_state.ensures
+pub returns-in_err-k : goal.returns-in_err-k
+returns-in_err-k c = let h = behind_outside c.args.olds.now c.args.news.now (rw c.in_err-k.was at c.index_of.ensures) in search rules
 
 pub returns : goal.returns
-returns c = let e : c.args.p ≡ (c.args.p - 1) + 1 = omega (arith, c.if-p-eq0.false) in
-    behind_past c.args.olds.now c.args.news.now (c.args.p - 1) e c.if-k-news.false
+returns c = behind_is c.args.olds.now c.args.news.now (rw c.in_ok-k.was at c.index_of.ensures) c.state_of-s.ensures.0 c.behind_state.ensures

@@ -1,5 +1,4 @@
 use native.Mathlib.Omega.{arith}
-use Rattle.planning.specs.PlanSteps.{counted}
 use Rattle.planning.proofs.plan.counted.Goals as goal
 
 pub overflow_add-t : goal.overflow_add-t
@@ -22,27 +21,3 @@ overflow_add-t-in-Twin c = omega (arith, c.requires.twin)
 
 pub overflow_add-t-in-Solve : goal.overflow_add-t-in-Solve
 overflow_add-t-in-Solve c = omega (arith, c.requires.solve)
-
-pub returns-in-Blank : goal.returns-in-Blank
-unfolding counted
-returns-in-Blank c = rw c.in-Blank.is
-
-pub returns-in-Own : goal.returns-in-Own
-unfolding counted
-returns-in-Own c = rw c.in-Own.is
-
-pub returns-in-Old : goal.returns-in-Old
-unfolding counted
-returns-in-Old c = rw c.in-Old.is
-
-pub returns-in-Near : goal.returns-in-Near
-unfolding counted
-returns-in-Near c = rw c.in-Near.is
-
-pub returns-in-Twin : goal.returns-in-Twin
-unfolding counted
-returns-in-Twin c = rw c.in-Twin.is
-
-pub returns-in-Solve : goal.returns-in-Solve
-unfolding counted
-returns-in-Solve c = rw c.in-Solve.is

@@ -6,15 +6,15 @@ use Rattle.planning.proofs.PlanLaws.{turn_first, turn_next, turn_end, turn_withi
 use Rattle.planning.proofs.plan.put_slips.Goals as goal
 
 pub loop-k-init : goal.loop-k-init
-loop-k-init c =
+loop-k-init g c =
     let e : c.default-t.result ≡ no_totals = search rules in
-    rw e (turn_first c.args.olds.now c.args.news.now c.args.slips.now)
+    rw e (turn_first c.args.olds.now c.args.news.now (g.S.Slot.numbers c.args.slips.now))
 
 pub counted-t-requires : goal.counted-t-requires
-counted-t-requires c = turn_within c.loop-k.invariant (omega arith)
+counted-t-requires g c = turn_within c.loop-k.invariant (omega arith)
 
 pub loop-k-preserved : goal.loop-k-preserved
-loop-k-preserved c = turn_next c.loop-k.invariant c.loop-k-test.true c.state_of-s.ensures.0 c.put_slip.ensures c.counted-t.ensures c.put_slip.auto.slips
+loop-k-preserved g c = turn_next c.loop-k.invariant c.loop-k-test.true c.state_of-s.ensures.0 c.put_slip.ensures c.counted-t.ensures
 
 pub returns : goal.returns
-returns c = turn_end c.loop-k.invariant c.loop-k-test.false
+returns g c = turn_end c.loop-k.invariant c.loop-k-test.false

@@ -1,9 +1,9 @@
 use Rattle.planning.proofs.BoxLaws.{cards_count}
-use Rattle.planning.proofs.AnswerLaws.{there, boards_low, searches_told}
+use Rattle.planning.proofs.AnswerLaws.{rooms, boards_low, searches_told}
 use Rattle.planning.proofs.searches.plan_searches_with.Goals as goal
 
 pub cards-requires : goal.cards-requires
-cards-requires c = let t = there c.read_both.ensures.read c.in_ok-both.was in (t.0.room, t.1.room)
+cards-requires c = rooms c.read_both.ensures.read c.in_ok-both.was
 
 pub put_searches-words-requires : goal.put_searches-words-requires
 put_searches-words-requires c =

@@ -1,4 +1,4 @@
-use Rattle.planning.proofs.StateLaws.{deal_whole, state_blank, state_own, state_old, state_near, state_twin, state_solve}
+use Rattle.planning.proofs.StateLaws.{state_blank, state_own, state_old, state_near, state_twin, state_solve}
 use lib.ListN.{take}
 use lib.Seq.{length-take-le}
 use Rattle.planning.specs.Slips.{card_from}
@@ -18,35 +18,17 @@ returns-then-has_table c =
     let card = card_from a.news.now a.k in
     (state_own a.olds.now a.news.now (take a.k a.news.now) card (sym c.is_whole.ensures ∙ c.if-not-is_whole.false) (sym c.has_table.ensures ∙ c.if-has_table.true), omega arith)
 
-pub first_with-in_old-requires : goal.first_with-in_old-requires
-first_with-in_old-requires c =
-    let a = c.args in
-    let card = card_from a.news.now a.k in
-    deal_whole _ card (sym c.is_whole.ensures ∙ c.if-not-is_whole.false) c.deal_at-d.ensures
-
 pub returns-then-in_old-ne0 : goal.returns-then-in_old-ne0
 returns-then-in_old-ne0 c =
     let a = c.args in
     let card = card_from a.news.now a.k in
     (state_old a.olds.now a.news.now (take a.k a.news.now) card (sym c.is_whole.ensures ∙ c.if-not-is_whole.false) (sym c.has_table.ensures ∙ c.if-has_table.false) c.deal_at-d.ensures c.first_with-in_old.result c.first_with-in_old.ensures.0 c.if-in_old-ne0.true, omega arith)
 
-pub first_with-in_new-requires : goal.first_with-in_new-requires
-first_with-in_new-requires c =
-    let a = c.args in
-    let card = card_from a.news.now a.k in
-    deal_whole _ card (sym c.is_whole.ensures ∙ c.if-not-is_whole.false) c.deal_at-d.ensures
-
 pub returns-then-in_new-ne0 : goal.returns-then-in_new-ne0
 returns-then-in_new-ne0 c =
     let a = c.args in
     let card = card_from a.news.now a.k in
     (state_near a.olds.now a.news.now (take a.k a.news.now) card (sym c.is_whole.ensures ∙ c.if-not-is_whole.false) (sym c.has_table.ensures ∙ c.if-has_table.false) c.deal_at-d.ensures c.first_with-in_old.result c.first_with-in_new.result c.first_with-in_old.ensures.0 c.if-in_old-ne0.false c.first_with-in_new.ensures.0 c.if-in_new-ne0.true, omega arith)
-
-pub first_with-earlier-requires : goal.first_with-earlier-requires
-first_with-earlier-requires c =
-    let a = c.args in
-    let card = card_from a.news.now a.k in
-    deal_whole _ card (sym c.is_whole.ensures ∙ c.if-not-is_whole.false) c.deal_at-d.ensures
 
 pub returns-then-earlier-ne0 : goal.returns-then-earlier-ne0
 returns-then-earlier-ne0 c =

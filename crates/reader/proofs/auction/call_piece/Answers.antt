@@ -1,60 +1,53 @@
-use Prim.Native.Nat.{◌+◌, ◌<◌}
-use mathlib.Core.Path.{ap}
+use Prim.Native.Nat.{◌+◌}
+use mathlib.Core.Path.{◌≡◌, ap, ◌∙◌}
+use native.Mathlib.Nat.{add-zero}
 use native.Mathlib.Omega.{arith}
-use lib.ListN.{length-take, length-drop, length}
+use lib.ListN.{length, length-take}
+use Rattle.reader.specs.declared.tokens.Tokens.{Tokens}
 use Rattle.reader.specs.PieceSteps.{piece}
 use Rattle.reader.specs.Auction.{called, called_piece}
-use Rattle.reader.proofs.TokenLaws.{reading_start, reading_some, reading_next, reading_done}
+use Rattle.reader.proofs.PieceLaws.{to_emit}
+use Rattle.reader.proofs.TokenLaws.{token_inside, reading_next, reading_done}
 use Rattle.reader.proofs.AuctionLaws.{called_counted}
 use Rattle.reader.proofs.auction.call_piece.Goals as goal
 
-pub loop-i-init : goal.loop-i-init
+pub loop-t-init : goal.loop-t-init
 unfolding called_piece
-loop-i-init c =
-    let x = c.args in (
-      c.lead_len-i.ensures.1,
-      reading_start (called x.c) x.entries.now x.at x.s.now x.b c.lead_len-i.result c.lead_len-i.ensures.0,
-      omega arith,
-      omega arith,
+loop-t-init c =
+    let x = c.args in
+    let z : c.into_iter-t-iterator.result.next ≡ 0 = cc in
+    (rw (z, add-zero) (to_emit (called x.c) x.entries.now x.b _), cc, omega (arith, z), omega (arith, z), omega (arith, z))
+
+pub call_step-w-requires : goal.call_step-w-requires
+call_step-w-requires c =
+    let v = c.loop-t.invariant in
+    let d = token_inside _ c.in-Some.ensures.steps v.1 in (
+      omega (arith, c.requires.0, v.0.start, d.0, simp length-take at (ap length c.of.ensures)),
+      omega (arith, c.requires.0, c.requires.1, v.4, v.2),
+      omega (arith, c.requires.0, c.requires.2, v.3, v.2),
     )
 
 pub overflow_add-at : goal.overflow_add-at
-overflow_add-at c = omega (arith, c.requires.0, c.loop-i.invariant.0)
+overflow_add-at c =
+    let d = token_inside _ c.in-Some.ensures.steps c.loop-t.invariant.1 in
+    omega (arith, c.requires.0, d.0)
 
-pub call_step-w-requires : goal.call_step-w-requires
-call_step-w-requires c = (
-  omega (arith, c.requires.0, c.loop-i.invariant.1.left.start, simp length-take at (ap length c.upto.ensures), simp length-drop at (ap length c.from-rest.ensures), c.word_len-n.ensures.1, c.loop-i-test.true),
-  omega (arith, c.requires.0, c.requires.1, c.loop-i.invariant.3, c.loop-i.invariant.0),
-  omega (arith, c.requires.0, c.requires.2, c.loop-i.invariant.2, c.loop-i.invariant.0),
-)
-
-pub overflow_add-i : goal.overflow_add-i
-overflow_add-i c = omega (arith, c.requires.0, simp length-drop at (ap length c.from-rest.ensures), c.word_len-n.ensures.1, c.loop-i-test.true)
-
-pub overflow_add-i-in-loop-i : goal.overflow_add-i-in-loop-i
-overflow_add-i-in-loop-i c = omega (arith, c.requires.0, simp length-drop at (ap length c.from-rest.ensures), c.word_len-n.ensures.1, c.loop-i-test.true, simp length-drop at (ap length c.from.ensures), c.lead_len.ensures.1)
-
-pub loop-i-smaller : goal.loop-i-smaller
-loop-i-smaller c =
-    let k = c.word_len-n.result in
-    let p : 0 < k = reading_some k _ c.loop-i.invariant.1 c.loop-i-test.true c.from-rest.ensures c.word_len-n.ensures.0 in
-    omega (arith, c.loop-i-test.true)
-
-pub loop-i-preserved : goal.loop-i-preserved
-loop-i-preserved c =
+pub loop-t-preserved : goal.loop-t-preserved
+loop-t-preserved c =
     let x = c.args in
-    let v = c.loop-i in
-    let k = c.word_len-n.result in
-    let h = c.loop-i-test.true in
-    let p : 0 < k = reading_some k _ v.invariant.1 h c.from-rest.ensures c.word_len-n.ensures.0 in
+    let l = c.loop-t in
+    let v = l.invariant in
+    let n = c.in-Some.ensures.steps in
+    let d = token_inside _ n v.1 in
     let r = c.call_step-w in (
-      omega (arith, h, simp length-drop at (ap length c.from-rest.ensures), c.word_len-n.ensures.1, simp length-drop at (ap length c.from.ensures), c.lead_len.ensures.1),
-      reading_next k c.lead_len.result _ _ _ v.invariant.1 h c.from-rest.ensures c.word_len-n.ensures.0 c.upto.ensures c.from.ensures c.lead_len.ensures.0 r.ensures.0,
-      omega (arith, v.invariant.2, r.ensures.1),
-      omega (arith, v.invariant.3, p, r.ensures.0.adds.count, (called_counted x.c v.w (piece (x.at + v.i) c.upto.result.now)).few),
+      reading_next x.at _ v.0 n v.1 c.of.ensures r.ensures.0,
+      ap (λ (y : Tokens). y.text.now) n.walk_is ∙ v.1,
+      omega (arith, d.0, d.1),
+      omega (arith, v.3, r.ensures.1, d.1, d.2, n.some_byte),
+      omega (arith, v.4, d.1, d.2, n.some_byte, r.ensures.0.adds.count, (called_counted x.c l.w (piece (x.at + c.in-Some.t.start) c.of.result.now)).few),
     )
 
 pub returns : goal.returns
 returns c =
-    let v = c.loop-i in
-    (reading_done v.invariant.1 c.loop-i-test.false, omega (arith, v.invariant.0, v.invariant.2))
+    let v = c.loop-t.invariant in
+    (reading_done c.args.at c.loop-t.t-iterator v.0 v.1 c.in-None.ensures.steps.0, omega (arith, v.2, v.3))

@@ -11,12 +11,12 @@ returns-then-b c =
 pub returns-then-b-2 : goal.returns-then-b-2
 returns-then-b-2 c =
     let x = c.args in
-    step_annotation x.c x.b (piece x.at x.t.now) c.if-b.false (sym c.call_token.ensures.0 ∙ c.in-Annotation.is) c.if-b-2.true c.put_annotation.ensures c.bid-then-b-2.ensures
+    step_annotation x.c x.b (piece x.at x.t.now) c.if-b.false (sym c.call_token.ensures.0 ∙ c.in-Annotation.is) c.if-b-2.true c.put-then-b-2.ensures c.bid-then-b-2.ensures
 
 pub returns-in-Plus : goal.returns-in-Plus
 returns-in-Plus c =
     let x = c.args in
-    step_plus x.c x.b (piece x.at x.t.now) c.if-b.false (sym c.call_token.ensures.0 ∙ c.in-Plus.is) c.put_call_entry.ensures c.bid.ensures
+    step_plus x.c x.b (piece x.at x.t.now) c.if-b.false (sym c.call_token.ensures.0 ∙ c.in-Plus.is) c.put.ensures c.bid.ensures
 
 pub returns-in-Star : goal.returns-in-Star
 returns-in-Star c =

@@ -10,10 +10,10 @@ returns-then-t-eq4 c =
 pub returns-then-t : goal.returns-then-t
 returns-then-t c =
     let x = c.args in
-    let s = c.requires.1 in
+    let s = c.requires.0 in
     (open_same x.lead x.t c.if-t.true c.if-t-eq4.false, record { seated = s; seat_left = omega (arith, s.seat_low, c.if-t-eq4.false) })
 
 pub returns : goal.returns
 returns c =
     let x = c.args in
-    (open_first x.lead x.t c.if-t.false c.new_trick-2.ensures.0, c.new_trick-2.ensures.1)
+    (open_first x.lead x.t c.if-t.false (rw c.from.ensures at c.new_trick-2.ensures.0), c.new_trick-2.ensures.1)

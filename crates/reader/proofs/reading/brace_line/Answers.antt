@@ -3,8 +3,9 @@ use Rattle.reader.specs.Boards.{braced}
 use native.Mathlib.Omega.{arith}
 use Rattle.reader.proofs.reading.brace_line.Goals as goal
 
-pub returns-then-has_brace : goal.returns-then-has_brace
+pub returns-in-Some : goal.returns-in-Some
 unfolding braced
-returns-then-has_brace c =
+returns-in-Some c =
+    let b = c.in-Some.ensures in
     let e = c.block_step.ensures in
-    (rw (← c.has_brace.ensures, c.if-has_brace.true, ← c.lead_len.ensures.0, ← c.last_brace.ensures.0) e, omega (arith, block_zero _ _ _ _ _ e))
+    (rw (b.there, ← c.lead_len.ensures.0, ← b.place) e, omega (arith, block_zero _ _ _ _ _ e))

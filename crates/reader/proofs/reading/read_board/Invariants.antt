@@ -1,10 +1,6 @@
+use mathlib.Core.Path.{◌≡◌}
 use Rattle.reader.proofs.LinesLaws.{LinesLeft}
-use Prim.Native.Nat.{◌-◌}
-use lib.ListN.{length}
 use Rattle.reader.proofs.reading.read_board.Given as goal
 
-abbrev pub invariant-loop-p : goal.invariant-loop-p
-invariant-loop-p l = LinesLeft l.c l.r l.initial.entries l.entries l.s l.p
-
-abbrev pub decreases-loop-p : goal.decreases-loop-p
-decreases-loop-p l = length l.r - l.p
+abbrev pub invariant-loop-l : goal.invariant-loop-l
+invariant-loop-l l = LinesLeft l.c l.r l.initial.entries l.entries l.s l.p × (l.l-iterator.text.now ≡ l.r) × (l.l-iterator.next ≡ l.p)

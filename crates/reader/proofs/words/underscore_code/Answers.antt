@@ -1,15 +1,11 @@
-use borrow.Author.Rules.{rules}
+use native.Mathlib.Omega.{arith}
 use borrow.Author.Tests.{le-ltb, ne_eqb}
-use Rattle.reader.proofs.WordLaws.{underscores_are}
+use Rattle.reader.proofs.WordLaws.{underscores_are, code_is}
 use Rattle.reader.specs.Words.{underscore_code}
 use Rattle.reader.proofs.words.underscore_code.Goals as goal
-
-pub returns-then-same : goal.returns-then-same
-unfolding underscore_code
-returns-then-same c =
-    (rw (ne_eqb _ _ c.if-n-eq0.false, le-ltb _ _ c.if-n-gt8.false, ← underscores_are c.args.token.now 8 c.if-n-gt8.false, ← c.upto.ensures, ← c.same.ensures, c.if-same.true), search rules)
 
 pub returns : goal.returns
 unfolding underscore_code
 returns c =
-    (rw (ne_eqb _ _ c.if-n-eq0.false, le-ltb _ _ c.if-n-gt8.false, ← underscores_are c.args.token.now 8 c.if-n-gt8.false, ← c.upto.ensures, ← c.same.ensures, c.if-same.false), search rules)
+    let n = c.if-n-gt8.false in
+    rw (ne_eqb _ _ c.if-n-eq0.false, le-ltb _ _ n, ← underscores_are c.args.token.now 8 n, ← c.upto.ensures, ← c.eq.ensures, c.then_some.ensures) (code_is c.eq.result _ 47 (omega (arith, n)))

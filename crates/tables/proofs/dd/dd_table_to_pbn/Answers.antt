@@ -6,4 +6,4 @@ use Rattle.tables.proofs.dd.dd_table_to_pbn.Goals as goal
 pub returns : goal.returns
 returns c =
     let h : length c.args.table.now ≡ 20 = search rules in
-    ended c.finish.ensures c.put_digits.ensures c.new-put.ensures.start c.new-put.ensures.bytes (search rules) (rw (length-map, h) (omega arith))
+    ended c.finish.ensures.ended c.put_digits.ensures c.new-put.ensures.start c.new-put.ensures.bytes (search rules) (rw (length-map, h) (omega arith))

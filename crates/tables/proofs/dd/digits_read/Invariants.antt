@@ -3,4 +3,4 @@ use Rattle.tables.proofs.TableLaws.{Decoding}
 use Rattle.tables.proofs.dd.digits_read.Given as goal
 
 abbrev pub invariant-loop-i : goal.invariant-loop-i
-invariant-loop-i l = Decoding l.value l.table l.i
+invariant-loop-i l = Decoding l.value l.cell-items l.i

@@ -10,4 +10,4 @@ unfolding rows_text
 returns c =
     let t = c.args.table.now in
     let h : length t ≡ 20 = search rules in
-    ended c.finish.ensures (rw c.built_in.ensures at c.put_rows.ensures) c.new-put.ensures.start c.new-put.ensures.bytes (search rules) (omega (arith, h, rows_few built_in (width_of t) 0 t (width_two t)))
+    ended c.finish.ensures.ended (rw c.built_in.ensures at c.put_rows.ensures) c.new-put.ensures.start c.new-put.ensures.bytes (search rules) (omega (arith, h, rows_few built_in (width_of t) 0 t (width_two t)))

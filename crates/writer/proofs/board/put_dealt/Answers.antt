@@ -1,5 +1,5 @@
-use Rattle.tables.proofs.PutsLaws.{puts_then}
-use Rattle.writer.specs.Items.{tag_line_text, tagged_text}
+use borrow.Author.Rules.{rules}
+use Rattle.reader.specs.Deals.{deal_text}
 use Rattle.writer.proofs.board.put_dealt.Goals as goal
 
 pub returns-in-Some : goal.returns-in-Some
@@ -7,6 +7,5 @@ returns-in-Some c =
     rw c.in-Some.ensures c.put_tagged.ensures
 
 pub returns : goal.returns
-unfolding tagged_text tag_line_text
 returns c =
-    rw c.in_default.ensures (puts_then (puts_then (puts_then c.put_open.ensures (rw (c.first_seat.ensures.0, c.word.ensures.0, c.hands_at.ensures) at c.put_deal.ensures)) c.put_close.ensures) c.put_after.ensures)
+    rw (c.in_default.ensures, ← c.word.ensures.0, ← c.first_seat-seat.ensures.0, ← c.hands_at-hands.ensures) (c.put_tagged_by.ensures (deal_text c.args.c c.first_seat-seat.result c.hands_at-hands.result) (λ p q h. search rules))

@@ -1,8 +1,7 @@
-use Rattle.tables.proofs.PutsLaws.{puts_then}
-use Rattle.writer.specs.Items.{tag_line_text, tagged_text}
+use borrow.Author.Rules.{rules}
+use Rattle.writer.specs.Tags.{seat_text}
 use Rattle.writer.proofs.board.put_seated.Goals as goal
 
 pub returns : goal.returns
-unfolding tagged_text tag_line_text
 returns c =
-    puts_then (puts_then (puts_then c.put_open.ensures c.put_seat.ensures) c.put_close.ensures) c.put_after.ensures
+    c.put_tagged_by.ensures (seat_text c.args.c c.args.seat) (λ p q h. search rules)

@@ -1,9 +1,8 @@
+use Rattle.writer.proofs.BoardLaws.{value_put}
+use Rattle.writer.specs.BoardTexts.{value_of}
+use mathlib.Core.Path.{refl}
 use Rattle.writer.proofs.board.put_value.Goals as goal
 
-pub returns-in-Some : goal.returns-in-Some
-returns-in-Some c =
-    rw c.in-Some.ensures c.put_tagged.ensures
-
-pub returns-in-None : goal.returns-in-None
-returns-in-None c =
-    rw c.in-None.ensures c.put_tagged-in-None.ensures
+pub returns : goal.returns
+returns c =
+    rw (value_put (value_of c.args.board.now c.args.i) _ _ _ c.unwrap_or.ensures c.value.ensures refl) at c.put_tagged.ensures

@@ -1,8 +1,7 @@
-use Rattle.tables.proofs.PutsLaws.{puts_then}
-use Rattle.writer.specs.Items.{tag_line_text, tagged_text}
+use borrow.Author.Rules.{rules}
+use Rattle.reader.specs.Words.{vulnerability_token}
 use Rattle.writer.proofs.board.put_vulnerable.Goals as goal
 
 pub returns : goal.returns
-unfolding tagged_text tag_line_text
 returns c =
-    puts_then (puts_then (puts_then c.put_open.ensures (rw (c.shown.ensures, c.word.ensures.0) at c.put_vulnerability.ensures)) c.put_close.ensures) c.put_after.ensures
+    rw (← c.word.ensures.0, ← c.shown-v.ensures) (c.put_tagged_by.ensures (vulnerability_token c.shown-v.result) (λ p q h. search rules))

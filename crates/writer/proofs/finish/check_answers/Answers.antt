@@ -1,4 +1,10 @@
-use Rattle.writer.proofs.FinishSteps.{check_odd, check_count, check_above, check_right}
+use Rattle.std.proofs.lemmas.Iterator.{YieldsList-from_slice}
+use Rattle.std.proofs.lemmas.Iterator.Search.{position_from_yields_List}
+use Rattle.writer.proofs.FinishSteps.{above_found, check_above, check_count, check_odd, check_right}
+use Rattle.std.proofs.Common.{rules, tests}
+use lib.Dec.{ltb}
+use mathlib.Core.Path.{refl}
+use native.Mathlib.Omega.{arith}
 use Rattle.writer.proofs.finish.check_answers.Goals as goal
 
 pub returns-then-answers-ne0 : goal.returns-then-answers-ne0
@@ -7,8 +13,14 @@ returns-then-answers-ne0 c = check_odd c.args.solve c.args.answers.now c.if-answ
 pub returns-then-answers-solve : goal.returns-then-answers-solve
 returns-then-answers-solve c = check_count c.args.solve c.args.answers.now c.if-answers-solve.true
 
-pub returns-then-k-answers : goal.returns-then-k-answers
-returns-then-k-answers c = check_above c.args.solve c.args.answers.now c.if-answers-ne0.false c.if-answers-solve.false c.first_above-k.ensures c.if-k-answers.true
+pub returns-in-Some : goal.returns-in-Some
+returns-in-Some c =
+    let bs = c.args.answers.now in
+    let a = rw c.in-Some.is at (above_found bs _ (position_from_yields_List (ltb 13) _ _ _ c.position.ensures.ran (YieldsList-from_slice bs cc) (λ x b q k. search (rules, tests)))) in
+    check_above c.args.solve bs c.if-answers-ne0.false c.if-answers-solve.false a.0 (λ z. omega (arith, z, a.1))
 
-pub returns : goal.returns
-returns c = check_right c.args.solve c.args.answers.now c.if-answers-ne0.false c.if-answers-solve.false c.first_above-k.ensures c.if-k-answers.false
+pub returns-in-None : goal.returns-in-None
+returns-in-None c =
+    let bs = c.args.answers.now in
+    let a = rw c.in-None.is at (above_found bs _ (position_from_yields_List (ltb 13) _ _ _ c.position.ensures.ran (YieldsList-from_slice bs cc) (λ x b q k. search (rules, tests)))) in
+    check_right c.args.solve bs c.if-answers-ne0.false c.if-answers-solve.false a refl

@@ -1,42 +1,36 @@
-use Prim.Native.Nat.{◌+◌, ◌<◌, ◌≤◌}
-use Rattle.writer.proofs.RemarkLaws.{items_all, items_none}
+use Rattle.std.proofs.lemmas.Iterator.{empty_from_Zip}
 use Rattle.writer.proofs.TagLaws.{name_here, name_other, name_pass}
-use Rattle.writer.specs.Items.{name_index}
-use mathlib.Core.Path.{ap, sym, ◌∙◌}
+use borrow.Author.Tests.{ne_eqb}
+use mathlib.Core.Path.{sym, ◌∙◌}
 use native.Mathlib.Omega.{arith}
 use Rattle.writer.proofs.names.find_name.Goals as goal
 
-pub loop-e-init : goal.loop-e-init
-loop-e-init c =
-    ap (λ js. c.args.items.now.first + name_index c.args.name.now js) (sym (items_all c.args.items.now))
+pub search-preserved-then-kind-ne-NAME : goal.search-preserved-then-kind-ne-NAME
+search-preserved-then-kind-ne-NAME c =
+    let s = c.in-Some.ensures.steps in
+    let i = c.search.invariant in
+    let q = name_pass s c.args.name.now (λ k l. c.if-kind-ne-NAME.true (c.kind.ensures ∙ k)) in
+    (omega (arith, i.0, s.rest_is.first_is), omega (arith, i.1, s.rest_is.first_is, s.more), omega (arith, i.2, q, s.rest_is.first_is))
 
-pub returns-then-same : goal.returns-then-same
-returns-then-same c =
-    let is = c.args.items.now in
-    let l = c.loop-e in
-    let h : l.e < is.first + is.count = omega (arith, c.end-e-end.ensures.0, c.loop-e-test.true) in
-    let q = name_here c.args.name.now is l.e h (sym c.kind_at.ensures ∙ c.if-kind_at-ne-TAG.false) (rw c.bytes_at.ensures at (sym c.same.ensures ∙ c.if-same.true)) in
-    let r = l.invariant ∙ q in
-    (sym r, omega (arith, r, h))
+pub search-preserved-then-name-bytes : goal.search-preserved-then-name-bytes
+search-preserved-then-name-bytes c =
+    let s = c.in-Some.ensures.steps in
+    let i = c.search.invariant in
+    let q = name_pass s c.args.name.now (λ k l. c.if-name-bytes.true (rw c.bytes-bytes.ensures l)) in
+    (omega (arith, i.0, s.rest_is.first_is), omega (arith, i.1, s.rest_is.first_is, s.more), omega (arith, i.2, q, s.rest_is.first_is))
 
-pub loop-e-preserved-then-kind_at-ne-TAG : goal.loop-e-preserved-then-kind_at-ne-TAG
-loop-e-preserved-then-kind_at-ne-TAG c =
-    let is = c.args.items.now in
-    let l = c.loop-e in
-    let h : l.e < is.first + is.count = omega (arith, c.end-e-end.ensures.0, c.loop-e-test.true) in
-    l.invariant ∙ name_pass c.args.name.now is l.e h (λ z. c.if-kind_at-ne-TAG.true (c.kind_at.ensures ∙ z))
+pub search-preserved : goal.search-preserved
+search-preserved c =
+    let s = c.in-Some.ensures.steps in
+    let i = c.search.invariant in
+    let z = c.in-Some-2.ensures.steps in
+    let q = name_other s c.args.name.now (sym c.kind.ensures ∙ c.if-kind-ne-NAME.false) (c.loop-a.invariant.0 ∙ rw (z.0, z.1, ne_eqb _ _ c.if-a-b.true)) in
+    (omega (arith, i.0, s.rest_is.first_is), omega (arith, i.1, s.rest_is.first_is, s.more), omega (arith, i.2, q, s.rest_is.first_is))
 
-pub loop-e-preserved : goal.loop-e-preserved
-loop-e-preserved c =
-    let is = c.args.items.now in
-    let l = c.loop-e in
-    let h : l.e < is.first + is.count = omega (arith, c.end-e-end.ensures.0, c.loop-e-test.true) in
-    l.invariant ∙ name_other c.args.name.now is l.e h (sym c.kind_at.ensures ∙ c.if-kind_at-ne-TAG.false) (rw c.bytes_at.ensures at (sym c.same.ensures ∙ c.if-same.false))
-
-pub returns : goal.returns
-returns c =
-    let is = c.args.items.now in
-    let l = c.loop-e in
-    let h : is.first + is.count ≤ l.e = omega (arith, c.end-e-end.ensures.0, c.loop-e-test.false) in
-    let r = l.invariant ∙ ap (λ js. l.e + name_index c.args.name.now js) (items_none is l.e h) in
-    omega (arith, r, h, c.loop-e.auto.e, c.end-e-end.ensures.0)
+pub returns-in-search : goal.returns-in-search
+returns-in-search c =
+    let s = c.in-Some.ensures.steps in
+    let i = c.search.invariant in
+    let z = empty_from_Zip c.loop-a.a-iterator c.next-in-loop-a.new.self c.next-in-loop-a.result c.in-None-2.is c.next-in-loop-a.ensures.steps c.loop-a.invariant.1 in
+    let q = name_here s c.args.name.now (sym c.kind.ensures ∙ c.if-kind-ne-NAME.false) (c.loop-a.invariant.0 ∙ rw (z.0, z.1)) in
+    rw s.next_is (omega (arith, i.0, i.2, q), omega (arith, i.0, i.1, s.more))

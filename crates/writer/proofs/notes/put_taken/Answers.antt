@@ -4,4 +4,4 @@ use Rattle.writer.proofs.notes.put_taken.Goals as goal
 
 pub returns : goal.returns
 returns c =
-    c.put_remarks.ensures (takes_tag c.args.notes.now.items.text.now c.args.notes.now.items.entries.now c.args.notes.now.places c.args.n c.args.fresh) (λ e r h post. search rules)
+    c.put_remarks.ensures (takes_tag c.args.notes.now.items.text.now c.args.notes.now.items.entries.now c.args.notes.now.places c.args.n c.args.fresh) (λ e r post. search rules)

@@ -8,8 +8,10 @@ loop-b-init c =
 
 pub loop-b-preserved : goal.loop-b-preserved
 loop-b-preserved c =
-    puts_next _ _ (puts_same (parts_step c.args.c c.args.text.now c.args.cards.now c.args.entries.now c.loop-b.b c.args.boards c.loop-b-test.true) c.loop-b.invariant) c.put_next.ensures
+    let e = c.args.edition.now in
+    puts_next _ _ (puts_same (parts_step c.args.c e.text.now e.cards.now e.entries.now c.loop-b.b e.boards c.loop-b-test.true) c.loop-b.invariant) c.put_next.ensures
 
 pub returns : goal.returns
 returns c =
-    puts_all (puts_same (parts_none c.args.c c.args.text.now c.args.cards.now c.args.entries.now c.loop-b.b c.args.boards c.loop-b-test.false) c.loop-b.invariant)
+    let e = c.args.edition.now in
+    puts_all (puts_same (parts_none c.args.c e.text.now e.cards.now e.entries.now c.loop-b.b e.boards c.loop-b-test.false) c.loop-b.invariant)

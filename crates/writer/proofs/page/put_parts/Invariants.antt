@@ -5,4 +5,4 @@ use Rattle.writer.proofs.page.put_parts.Given as goal
 
 abbrev pub invariant-loop-b : goal.invariant-loop-b
 invariant-loop-b l =
-    PutsLeft l.fn.page (parts_held l.c l.text l.cards l.entries 1 (l.boards - 1)) l.page (parts_held l.c l.text l.cards l.entries l.b (l.boards - l.b))
+    PutsLeft l.fn.page (parts_held l.c l.edition.text.now l.edition.cards.now l.edition.entries.now 1 (l.edition.boards - 1)) l.page (parts_held l.c l.edition.text.now l.edition.cards.now l.edition.entries.now l.b (l.edition.boards - l.b))

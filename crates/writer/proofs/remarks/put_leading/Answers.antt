@@ -4,4 +4,4 @@ use Rattle.writer.proofs.remarks.put_leading.Goals as goal
 
 pub returns : goal.returns
 returns c =
-    c.put_remarks.ensures (λ t. false) (λ e r h post. search rules)
+    c.put_remarks.ensures (λ t. false) (λ e r post. search rules)

@@ -6,4 +6,4 @@ use Rattle.writer.proofs.remarks.put_lost.Goals as goal
 
 pub returns : goal.returns
 returns c =
-    c.put_remarks.ensures (λ t. not (is_tag_written c.args.present (tag_number t.name))) (λ e r h post. search rules)
+    c.put_remarks.ensures (λ t. not (is_tag_written c.args.present (tag_number t.name))) (λ e r post. search rules)

@@ -4,4 +4,4 @@ use Rattle.writer.proofs.remarks.put_under.Goals as goal
 
 pub returns : goal.returns
 returns c =
-    c.put_remarks.ensures (λ t. same c.args.name.now t.name) (λ e r h post. search rules)
+    c.put_remarks.ensures (λ t. same c.args.name.now t.name) (λ e r post. search rules)

@@ -1,28 +1,26 @@
-use Prim.Native.Nat.{◌+◌, ◌-◌}
 use Rattle.tables.proofs.PutsLaws.{puts_all, puts_first, puts_next, puts_same}
-use Rattle.writer.proofs.TagLaws.{extras_none, extras_pass, extras_put}
+use Rattle.writer.proofs.TagLaws.{extras_pass, extras_put}
 use Rattle.writer.specs.Items.{items_of}
-use mathlib.Core.Path.{sym, ◌∙◌, ◌≡◌}
+use mathlib.Core.Path.{sym, ◌∙◌}
 use native.Mathlib.Omega.{arith}
-use Rattle.writer.proofs.tags.put_extras.Goals.{else-is_extra, then-is_extra}
 use Rattle.writer.proofs.tags.put_extras.Goals as goal
 
-pub loop-e-init : goal.loop-e-init
-loop-e-init c =
-    let z : c.args.from + c.args.count - c.args.from ≡ c.args.count = omega arith in
-    rw z (puts_first _ _)
+pub loop-entry-init : goal.loop-entry-init
+loop-entry-init c =
+    rw c.into_iter-entry-iterator.ensures.into_iter_gives (puts_first _ _, omega arith)
 
-pub loop-e-preserved : goal.loop-e-preserved
-loop-e-preserved c =
-    let is = c.args.items.now in
-    let l = c.loop-e in
-    elim c.if-is_extra.branch [
-      | then-is_extra w ↦ rw w.page-is (puts_next _ _ (puts_same (extras_put is.text.now is.entries.now is.first (items_of c.args.remarks.now) l.e (c.args.from + c.args.count) c.loop-e-test.true (sym c.is_extra.ensures ∙ w.if-is_extra.true)) l.invariant) (rw (w.bytes_at.ensures, w.bytes_at-then-is_extra.ensures) at w.put_tagged.ensures))
-      | else-is_extra w ↦ rw w.page-is (puts_same (extras_pass is.text.now is.entries.now is.first (items_of c.args.remarks.now) l.e (c.args.from + c.args.count) c.loop-e-test.true (sym c.is_extra.ensures ∙ w.if-is_extra.false)) l.invariant)
-    ]
+pub loop-entry-preserved-then-is_extra : goal.loop-entry-preserved-then-is_extra
+loop-entry-preserved-then-is_extra c =
+    let s = c.in-Some.ensures.steps in
+    let i = c.loop-entry.invariant in
+    (puts_next _ _ (puts_same (extras_put s (items_of c.args.remarks.now) c.args.first (sym c.is_extra.ensures ∙ c.if-is_extra.true)) i.0) (rw (c.bytes.ensures, c.bytes_at.ensures) at c.put_tagged.ensures), omega (arith, i.1, s.rest_is.first_is))
+
+pub loop-entry-preserved : goal.loop-entry-preserved
+loop-entry-preserved c =
+    let s = c.in-Some.ensures.steps in
+    let i = c.loop-entry.invariant in
+    (puts_same (extras_pass s (items_of c.args.remarks.now) c.args.first (sym c.is_extra.ensures ∙ c.if-is_extra.false)) i.0, omega (arith, i.1, s.rest_is.first_is))
 
 pub returns : goal.returns
 returns c =
-    let is = c.args.items.now in
-    let l = c.loop-e in
-    puts_all (puts_same (extras_none is.text.now is.entries.now is.first (items_of c.args.remarks.now) l.e (c.args.from + c.args.count) c.loop-e-test.false) l.invariant)
+    puts_all (puts_same (rw c.in-None.ensures.steps) c.loop-entry.invariant.0)

@@ -1,9 +1,7 @@
-use Rattle.tables.specs.Tables.{digit_byte}
-use borrow.Author.Tests.{le-ltb}
-use native.Mathlib.Omega.{arith}
+use Rattle.writer.proofs.TokenLaws.{least_digit}
+use mathlib.Core.Path.{◌∙◌}
 use Rattle.writer.proofs.tokens.digit_of.Goals as goal
 
 pub returns : goal.returns
-unfolding digit_byte
 returns c =
-    let h = c.if-w-lt14.false in rw (le-ltb c.args.w 10 (omega (arith, h)), le-ltb c.args.w 13 (omega (arith, h)))
+    c.encode_tricks.ensures ∙ rw c.min.ensures (least_digit c.args.w)

@@ -1,14 +1,18 @@
-use Rattle.tables.proofs.PutsLaws.{puts_then}
+use Rattle.tables.proofs.PutsLaws.{puts_nothing, puts_then}
 use Rattle.writer.specs.Tags.{result_text}
 use borrow.Author.Tests.{le-ltb, lt-ltb}
 use Rattle.writer.proofs.tokens.put_result.Goals as goal
 
-pub returns-then-outcome-lt128 : goal.returns-then-outcome-lt128
+pub returns-in_default : goal.returns-in_default
+returns-in_default c =
+    rw c.in_default.is (puts_nothing _)
+
+pub returns-then-n-lt128 : goal.returns-then-n-lt128
 unfolding result_text
-returns-then-outcome-lt128 c =
-    rw (lt-ltb _ _ c.if-outcome-lt128.true) (puts_then c.put_byte.ensures c.put_decimal.ensures)
+returns-then-n-lt128 c =
+    rw (c.in-Some.is, lt-ltb _ _ c.if-n-lt128.true) (puts_then c.put_byte.ensures c.put_decimal.ensures)
 
 pub returns : goal.returns
 unfolding result_text
 returns c =
-    rw (le-ltb _ _ c.if-outcome-lt128.false) c.put_decimal-2.ensures
+    rw (c.in-Some.is, le-ltb _ _ c.if-n-lt128.false) c.put_decimal-2.ensures

@@ -1,10 +1,10 @@
 use Rattle.writer.proofs.WriteLaws.{ended_in, ended_out}
 use Rattle.writer.proofs.write.end_writing.Goals as goal
 
-pub returns-then-n-page : goal.returns-then-n-page
-returns-then-n-page c =
-    ended_in c.if-n-page.true c.finish.ensures
+pub returns-in-Ok-clause-ended : goal.returns-in-Ok-clause-ended
+returns-in-Ok-clause-ended c =
+    ended_in (rw c.in-Ok.is at c.finish.ensures.ended)
 
-pub returns : goal.returns
-returns c =
-    ended_out c.if-n-page.false c.clear.ensures c.zero.ensures c.zero-2.ensures
+pub returns-in-Err-clause-ended : goal.returns-in-Err-clause-ended
+returns-in-Err-clause-ended c =
+    ended_out (rw c.in-Err.is at c.finish.ensures.ended) c.carried.ensures (c.fill.ensures.after (λ y e. e)) (c.fill-in-Err.ensures.after (λ y e. e))

@@ -1,0 +1,32 @@
+// What was recorded of a refusal.
+ghost use Rattle.std.specs.Prelude.{◌≡◌, Ok, Err, cond, eqb};
+
+use tables::refused::Refused;
+
+// A refusal's number, and the number that it carries.
+#[derive(Clone, Copy, PartialEq, Eq)]
+pub struct Told {
+    pub refusal: u64,
+    pub carried: u64,
+}
+
+impl Told {
+    pub fn of<F: Refused>(f: F) -> Told
+        ensures { (result.refusal ≡ F.number_of f) × (result.carried ≡ F.carries f) }
+    {
+        Told {
+            refusal: f.number(),
+            carried: f.carried(),
+        }
+    }
+}
+
+// What was recorded: the value, or a refusal where its number is not 0.
+pub fn answer<T: Copy>(value: T, refusal: u64, carried: u64) -> Result<T, Told>
+    ensures { result ≡ cond (eqb refusal 0) (Ok value) (Err (record { refusal = refusal; carried = carried })) }
+{
+    if refusal == 0 {
+        return Ok(value);
+    }
+    Err(Told { refusal, carried })
+}
