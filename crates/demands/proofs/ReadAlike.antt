@@ -20,7 +20,6 @@ use Rattle.reader.specs.Boards.{record_out}
 use Rattle.reader.specs.Records.{records_of, spans_from, spans_of, Filled, one, AlikeBut}
 use Rattle.reader.specs.declared.store.Entry.{Entry}
 use Rattle.reader.specs.Editions.{reading_of, card_of, cards_of, entries_of, counts_of}
-use Rattle.reader.specs.Editions as editions
 use Rattle.reader.specs.Fellows.{Stands, span_at, BoardAt, Fellow, moved_by, CardMoved, moved_entry, Relocated}
 use Rattle.reader.proofs.StoreLaws.{Blocks, blocks_append, blocks_map, length_flat}
 use Rattle.reader.proofs.StoreLaws as blocks

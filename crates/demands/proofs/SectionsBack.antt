@@ -292,7 +292,7 @@ module _ (c : Conventions) (r : List ℕ) {a : Option Calls} {p : Option PlainPl
 section_texts : (r : List ℕ) (o : Maybe Open) (ds : List (List ℕ)) (rest : List ℕ) → split_off o ≡ no_span → drop (lines_at o) r ≡ lines_text (map data_line ds) ++ rest → all good_data ds ≡ true → Stops rest → texts (section_data r o) ≡ ds
 unfolding section_data
 section_texts r o ds rest n e g s =
-    ap (λ (x : Span). texts (split_piece r x ++ lines_data r o)) n
+    ap (λ (x : Maybe Span). texts (split_piece r x ++ lines_data r o)) n
     ∙ ap (λ (x : List ℕ). texts (data_in false (lines_at o) (raw_lines x))) e
     ∙ DataBack ds rest g s (lines_at o)
 

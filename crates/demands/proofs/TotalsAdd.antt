@@ -6,11 +6,10 @@ use mathlib.Core.List.{List, [], ◌∷◌}
 use native.Mathlib.Omega.{arith}
 use lib.Dec.{eqb}
 use lib.ListN.{length}
-use Rattle.planning.proofs.BoardLaws.{plans_count}
 use Rattle.planning.proofs.SlipLaws.{slips_count}
 use Rattle.planning.specs.declared.state.BoardState.{BoardState}
 use Rattle.planning.specs.declared.state.BoardState.TheVariants.{Blank, Own, Old, Near, Twin, Solve}
-use Rattle.planning.specs.States.{BoardPlan, board_plans, state_number}
+use Rattle.planning.specs.States.{BoardPlan, state_number}
 use Rattle.planning.specs.Slips.{count_of, totals_of}
 use Rattle.planning.specs.Demands.{TotalsAddUp}
 

@@ -1,7 +1,8 @@
 // The boundary: thin functions on byte and number slices over the layers. golavimes_c exports them to C.
-// Each lent box is a parameter of its own, since C lends it as a pointer and a length. Each function stands here and in golavimes_c: a crate is a
-// library or a static library, C needs the second, and demands, which proves its theorems of these functions, can depend on a library alone.
-// LentBoxes is written out in six functions: made by a function of its own (tried), the check does not find what the four boxes hold after the call.
+// Each lent box is a parameter of its own, since C lends it as a pointer and a length. Each function stands here and in golavimes_c: a
+// crate is a library or a static library, C needs the second, and demands, which proves its theorems of these functions, can depend on a
+// library alone. LentBoxes is written out in six functions: made by a function of its own (tried), the check does not find what the four
+// boxes hold after the call.
 #![tactic(auto)]
 
 ghost use Rattle.std.specs.Prelude.{◌≡◌, ◌+◌, ◌-◌, ◌≤◌, ◌∷◌, length, get_or, replicate};
@@ -15,7 +16,9 @@ use planning::editions::LentBoxes;
 use tables::refusal::Refusal;
 use tables::refused::{Edition, Refused};
 
-// Tells the caller values, and that nothing is refused.
+// Tells the caller values, and that nothing is refused. Each export matches for itself: where one `tell` is given a Result of values, as
+// `converted.map(|n| [n.bytes, n.boards])` (tried), `returns` of golavimes_lin_to_pbn stays open, since the check does not take apart the
+// Result that `map` was given; an answer in each export would be longer than its match.
 fn tell(values: &[u64], answer: &mut [u64]) -> u64
     requires { length answer.old ≡ 3 + length values.now }
     ensures { (answer.new ≡ 0 ∷ 0 ∷ 0 ∷ values.now) × (result ≡ 0) }

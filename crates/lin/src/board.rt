@@ -1,5 +1,6 @@
-// A board's lines on the page. Page and conventions are two parameters, as of the writer's functions that are called here: the walks over
-// pairs take the conventions without a page, and most texts the page without conventions.
+// A board's lines on the page. Page and conventions (and in pieces the text with them) are two parameters, as of the writer's functions that
+// are called here: the walks over pairs take the conventions and a text without a page, and most texts the page without conventions. That
+// the dealer is at most 3 stands in three contracts here, for the reason at LinDealing.
 ghost use Rattle.std.specs.Prelude.{◌≡◌, [], cond, ◌≤◌, ◌<◌};
 ghost use Rattle.tables.specs.Puts.{Puts};
 ghost use Rattle.writer.specs.Items.{tokens_text};
@@ -21,7 +22,7 @@ use writer::tokens::{put_call, put_seat, put_vulnerability};
 
 // From Event to Deal.
 fn put_head(page: &mut Page, c: Conventions, dealer: usize, vulnerability: usize, h: Hands)
-    requires { dealer < 4 }
+    requires { dealer ≤ 3 }
     ensures { Puts page.old (lin_head_text c dealer vulnerability h) page.new }
 {
     page.put_text(
@@ -45,7 +46,7 @@ fn put_result(page: &mut Page, c: Conventions, declarer: usize, k: Contract)
     page.put_text(b"\"]\n[Result \"\"]\n");
 }
 
-// The calls, four a line.
+// The calls, four a line; n is read behind the loop too, where enumerate is gone.
 fn put_calls(page: &mut Page, c: Conventions, text: &[u8])
     ensures { Puts page.old (tokens_text 0 (call_tokens c (calls_from c (pairs_of text.now)))) page.new }
 {
@@ -91,7 +92,8 @@ fn put_play(page: &mut Page, c: Conventions, text: &[u8], s: Survey, declarer: u
     }
 }
 
-// The declarer; 4 without a bid, for which put_seat puts nothing: put_play, the other use, has asked for a bid.
+// The declarer; 4 without a bid, for which put_seat puts nothing: an Option would be unwrapped to 4 for it, as at first_to_name, and put_play,
+// the other use, has asked for a bid.
 #[tactic(auto, unfolding(crate::specs::Bidding::declarer_of))]
 fn declarer_of(c: Conventions, text: &[u8], dealer: usize, k: Contract) -> u8
     requires { dealer ≤ 3 }

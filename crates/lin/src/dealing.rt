@@ -27,7 +27,9 @@ pub struct LinPart {
     pub suit: Option<u8>,
 }
 
-// What is kept of the md in force: its dealer; its hands, where no card stands twice and no hand has more than 13.
+// What is kept of the md in force: its dealer; its hands, where no card stands twice and no hand has more than 13. That the dealer is at
+// most 3 stands in contracts, and not in a ghost field: `told` of specs/DealingSteps.antt makes one of any dealing, and would have to ask
+// for the bound.
 #[derive(Clone, Copy)]
 pub struct LinDealing {
     pub dealer: usize,

@@ -2,7 +2,7 @@
 ghost use Rattle.std.specs.Prelude.{◌≡◌, ◌+◌, length, drop};
 ghost use Rattle.tables.specs.Text.{before};
 ghost use Rattle.lin.specs.Pairs.{command_of, pairs_of, has_pair};
-ghost use Rattle.lin.specs.PairSteps.{NextIs, pairs_room, pairs_left};
+ghost use Rattle.lin.specs.PairSteps.{NextIs, pairs_room};
 
 use reader::words::same_word;
 use tables::text::{from, index_of, trim, upto};

@@ -10,10 +10,11 @@ use crate::board::put_board;
 use crate::pairs::{Command, has_pair, pairs_in};
 use crate::survey::survey_of;
 use reader::deal::Hands;
+use reader::tag::Span;
 use tables::letters::Conventions;
 use tables::lines::lines_of;
 use tables::page::Page;
-use tables::text::{from, trim, upto};
+use tables::text::{from, trim};
 use writer::page::put_header;
 
 // How far the page has come: the boards, which all make deals, and whether one of them has a card. They are counted before one has, too:
@@ -106,7 +107,16 @@ fn put_split(page: &mut Page, c: Conventions, text: &[u8]) -> Option<Progress>
             continue;
         }
         if (p.command == Command::Qx) & (start < run) {
-            g = put_dealt(page, c, upto(from(text, start), run - start), g)?;
+            g = put_dealt(
+                page,
+                c,
+                Span {
+                    start,
+                    len: run - start,
+                }
+                .of(text),
+                g,
+            )?;
             start = run;
             run = p.end;
             continue;

@@ -27,7 +27,7 @@ pub(crate) fn card_in(c: Conventions, t: &[u8]) -> Option<u8>
 }
 
 // The card of a pair, where it is one.
-pub(crate) fn card_at(c: Conventions, p: PairAt) -> Option<u8>
+fn card_at(c: Conventions, p: PairAt) -> Option<u8>
     ensures { result ≡ card_at c (pair_of p.entry) }
 {
     if p.command == Command::Pc {
@@ -114,12 +114,10 @@ fn take_card(t: LinTrick, card: u8) -> LinTrick
     requires { FineTrick t × (t.count ≤ 3) }
     ensures { (result ≡ taken t card) × FineTrick result × (result.count ≤ 4) }
 {
-    let s = t.slots;
-    let slots = with_slot(s, t.count, card as usize);
     LinTrick {
-        leader: t.leader,
-        slots,
+        slots: with_slot(t.slots, t.count, card as usize),
         count: t.count + 1,
+        ..t
     }
 }
 
@@ -128,10 +126,9 @@ fn new_trick(leader: usize) -> LinTrick
     requires { leader ≤ 255 }
     ensures { (result ≡ empty_trick leader) × FineTrick result }
 {
-    let slots = no_slots();
     LinTrick {
         leader,
-        slots,
+        slots: no_slots(),
         count: 0,
     }
 }
@@ -141,8 +138,7 @@ fn next_trick(trump: usize, t: LinTrick) -> LinTrick
     requires { FineTrick t }
     ensures { (result ≡ next_trick trump t) × FineTrick result }
 {
-    let s = t.slots;
-    new_trick(winner(trump, t.leader, s))
+    new_trick(winner(trump, t.leader, t.slots))
 }
 
 // The lines of the tricks.

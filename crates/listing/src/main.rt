@@ -8,7 +8,8 @@ use std::rt::Files;
 use std::{fs, io};
 use tables::text::upto;
 
-// What a file holds; a file that is not opened is empty, where `read_file` of `recorded` says so and stops, as it does at a long one. An edition may have 16,384 bytes: one more is read, so that a longer file is seen.
+// What a file holds; a file that is not opened is empty, where `read_file` of `recorded` says so and stops, as it does at a long one. An
+// edition may have 16,384 bytes: one more is read, so that a longer file is seen.
 fn read_file<R: Files + AllocGlobal>(rt: &R, path: &str) -> io::Result<Vec<u8>> {
     let mut bytes = Vec::new(rt.alloc());
     match fs::open(rt, path) {

@@ -180,7 +180,7 @@ module _ (js : List BoardPlan) (slips : List ℕ) {boxes : Boxes} {ps : List ℕ
       let same : board_plans (cards_in a boxes'.old_cards) (cards_in b boxes'.new_cards) ≡ js = rw (k.0.old_cards, k.0.new_cards) (sym ej) in
       let text = listing_lines js ++ total_line u in
       let w' : Puts p₀ text p₁ = rw same at w in
-      let short : length text ≤ 549755813888 = rw length-append (omega (arith, LinesFew js, total_few u, few)) in
+      let short : length text ≤ 1099511627776 = rw length-append (omega (arith, LinesFew js, total_few u, few)) in
       let en : p₁.at ≡ length text = omega (arith, (w'.put (omega (arith, at0, short))).next, at0) in
       let ep : length p₁.bytes.now ≡ length page = w'.kept ∙ ap length from in
       let fit : leb p₁.at (length p₁.bytes.now) ≡ leb (length text) (length page) = rw (en, ep) in

@@ -27,7 +27,8 @@ fn state_text(s: BoardState) -> &'static [u8]
     }
 }
 
-// A name and a number.
+// A name and a number. A count has 64 bits, as C is told it, and `decimal` of the specs has 32: what is put here, in put_board, put_total
+// and put_listing is below 2^32, since a text has at most 16,777,215 bytes.
 fn put_pair(page: &mut Page, name: &[u8], n: u64)
     requires { n < 4294967296 }
     ensures { Puts page.old (name.now ++ decimal n) page.new }
@@ -62,6 +63,7 @@ pub(crate) fn put_total(page: &mut Page, t: Totals)
     page.put_byte(b'\n');
 }
 
+// Refusal 4 names no edition: its slips are of the new one's boards (DECISIONS P7).
 fn put_edition(page: &mut Page, edition: Option<Edition>)
     ensures { Puts page.old (cond (eqb (edition_told edition) 1) (ascii "old") (ascii "new")) page.new }
 {

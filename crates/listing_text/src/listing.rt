@@ -13,7 +13,6 @@ use crate::limited::read_both_limited;
 use crate::lines::{put_board, put_refused, put_total};
 use planning::cards::Card;
 use planning::editions::{Both, LentBoxes};
-use planning::numbers::zero_numbers;
 use planning::plan::{PlanRefusal, Totals, finish_plan, put_slips};
 use planning::state::state_of;
 use tables::letters::{Conventions, built_in};
@@ -57,7 +56,7 @@ fn finish_listing(boxes: &mut LentBoxes, slips: &mut [u64], page: &mut Page) -> 
     let written = page.finish();
     if written.is_err() {
         boxes.zero();
-        zero_numbers(slips);
+        slips.fill(0);
     }
     written
 }
@@ -100,7 +99,7 @@ pub fn list_with(
     ensures listed { IsListing c limit old.now new.now (words_of boxes.old) slips.old page.old (words_of boxes.new) slips.new page.new result }
     ensures same { SameLent boxes.old boxes.new }
 {
-    zero_numbers(slips);
+    slips.fill(0);
     match read_both_limited(c, old, new, limit, boxes) {
         Err(f) => write_refused(page, PlanRefusal::Edition(f)),
         Ok(both) => list_taken(boxes, both, slips, page),

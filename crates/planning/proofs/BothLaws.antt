@@ -1,68 +1,113 @@
 -- Laws of reading both editions: one for each answer.
 use Prim.Native.Nat.{ℕ, ◌+◌, ◌*◌, ◌-◌, ◌≤◌}
 use mathlib.Core.Path.{◌≡◌, refl, sym, ap, ◌∙◌}
-use mathlib.Core.Bool.{true}
+use mathlib.Core.Bool.{true, false}
 use mathlib.Core.List.{List}
 use native.Mathlib.Omega.{arith}
 use lib.Dec.{ltb}
 use lib.ListN.{length, length-append, length-replicate}
 use borrow.Author.Tests.{ltb-false}
-use Rattle.std.specs.Prelude.{Result, Ok, Err, is_ok}
+use Rattle.std.specs.Prelude.{Result, Ok, Err, is_ok, is_err, IsErrAnd, MatchResult}
 use Rattle.tables.specs.declared.letters.Conventions.{Conventions}
+use Rattle.tables.specs.declared.refused.Edition.{Edition}
 use Rattle.tables.specs.declared.refused.Edition.TheVariants.{Old, New}
 use Rattle.reader.specs.declared.edition.ReadRefusal.{ReadRefusal}
 use Rattle.reader.specs.declared.edition.Counts.{Counts}
 use Rattle.tables.proofs.Laws.{by_cases, clash}
-use Rattle.reader.specs.Store.{flat, padded, zeros}
+use Rattle.reader.specs.Store.{flat, padded}
 use Rattle.reader.specs.Editions.{reading_of, cards_of, IsRead}
 use Rattle.reader.specs.EditionSteps.{FullCards}
 use Rattle.planning.specs.declared.editions.Both.{Both}
-use Rattle.planning.specs.Plans.{Boxes, four, old_reading, new_reading, Editions, both_after, editions_of, BothRead}
-use Rattle.planning.specs.PlanSteps.{cards_in}
+use Rattle.planning.specs.declared.editions.EditionsRefusal.{EditionsRefusal}
+use Rattle.planning.specs.declared.editions.LentBoxes.{LentBoxes}
+use Rattle.planning.specs.Plans.{Boxes, four, words_of, SameLent, old_reading, new_reading, Editions, both_after, editions_of, BothRead}
+use Rattle.planning.specs.PlanSteps.{cards_in, BoxesKept, EachRead}
 use Rattle.planning.proofs.BoxLaws.{cards_back, taken_fits}
 
--- ---- both editions: one law for each answer
+-- ---- each edition
+
+-- What reading an edition answers, the refusal with the edition's name.
+abbrev pub named : Edition → Result Counts ReadRefusal → Result Counts EditionsRefusal
+named e (Ok n) = Ok n
+named e (Err f) = Err (record { edition = e; refusal = f })
+
+pub made_named : (e : Edition) (P : ReadRefusal → EditionsRefusal → Type 0) (r : Result Counts ReadRefusal) (q : Result Counts EditionsRefusal)
+    → MatchResult r (λ n. q ≡ Ok n) (λ f. IsErrAnd q (P f)) → ((f : ReadRefusal) (g : EditionsRefusal) → P f g → g ≡ record { edition = e; refusal = f }) → q ≡ named e r
+made_named e P (Ok n) q m h = m
+made_named e P (Err f) (Ok n) m h = absurd m
+made_named e P (Err f) (Err g) m h = ap Err (h f g m)
+
+abbrev counts_or : Counts → Result Counts EditionsRefusal → Counts
+counts_or n (Ok m) = m
+counts_or n (Err f) = n
+
+abbrev refusal_or : EditionsRefusal → Result Counts EditionsRefusal → EditionsRefusal
+refusal_or f (Ok m) = f
+refusal_or f (Err g) = g
+
+-- One answer of both readings.
+old_left : (r s : Result Counts ReadRefusal) (g : EditionsRefusal) → named Old r ≡ Err g → Err g ≡ both_after r s
+old_left (Ok m) s g h = clash (sym (ap is_ok h))
+old_left (Err f) s g h = ap Err (sym (ap (refusal_or g) h))
+
+new_left : (r s : Result Counts ReadRefusal) (m : Counts) (g : EditionsRefusal) → named Old r ≡ Ok m → named New s ≡ Err g → Err g ≡ both_after r s
+new_left (Err f) s m g h k = clash (ap is_ok h)
+new_left (Ok n) (Ok l) m g h k = clash (sym (ap is_ok k))
+new_left (Ok n) (Err f) m g h k = ap Err (sym (ap (refusal_or g) k))
+
+was_taken : (e : Edition) (r : Result Counts ReadRefusal) (m : Counts) → named e r ≡ Ok m → r ≡ Ok m
+was_taken e (Err f) m h = clash (ap is_ok h)
+was_taken e (Ok n) m h = ap Ok (ap (counts_or m) h)
 
 module _ {c : Conventions} {old new oc oe nc ne oc' oe' : List ℕ} {r : Result Counts ReadRefusal} (i : IsRead c old oc oe r oc' oe') where
-  pub old_refused : {f : ReadRefusal} {nc' ne' : List ℕ} → r ≡ Err f → nc' ≡ zeros nc → ne' ≡ zeros ne
-      → BothRead c old new (four oc oe nc ne) (four oc' oe' nc' ne') (Err (record { edition = Old; refusal = f }))
+  pub each_old : {g : EditionsRefusal} {nc' ne' : List ℕ} {x : Editions} → named Old r ≡ Err g → x ≡ Err g → EachRead c old new (four oc oe nc ne) (four oc' oe' nc' ne') x
   unfolding editions_of
-  old_refused e ec ee = record {
-    answer = rw (← i.answer, e);
-    boxes_left = record {
-      old_cards = rw e at i.cards_after;
-      old_entries = rw e at i.entries_after;
-      new_cards = ec;
-      new_entries = ee;
-    };
+  each_old {g} h e = record {
+    answer = e ∙ rw (← i.answer) (old_left r (reading_of c new (length nc) (length ne)) g h);
+    boxes_taken = λ k. clash (rw e at k);
   }
 
-  pub new_refused : {m : Counts} {f : ReadRefusal} {s : Result Counts ReadRefusal} {nc' ne' oc'' oe'' : List ℕ} → r ≡ Ok m → IsRead c new nc ne s nc' ne' → s ≡ Err f
-      → length oc' ≡ length oc → length oe' ≡ length oe → oc'' ≡ zeros oc' → oe'' ≡ zeros oe'
-      → BothRead c old new (four oc oe nc ne) (four oc'' oe'' nc' ne') (Err (record { edition = New; refusal = f }))
-  unfolding editions_of
-  new_refused e j e₂ lc le ec ee = record {
-    answer = rw (← i.answer, e, ← j.answer, e₂);
-    boxes_left = record {
-      old_cards = ec ∙ rw lc;
-      old_entries = ee ∙ rw le;
-      new_cards = rw e₂ at j.cards_after;
-      new_entries = rw e₂ at j.entries_after;
-    };
-  }
+  module _ {m : Counts} {s : Result Counts ReadRefusal} {nc' ne' : List ℕ} (h : named Old r ≡ Ok m) (j : IsRead c new nc ne s nc' ne') where
+    pub each_new : {g : EditionsRefusal} {x : Editions} → named New s ≡ Err g → x ≡ Err g → EachRead c old new (four oc oe nc ne) (four oc' oe' nc' ne') x
+    unfolding editions_of
+    each_new {g} k e = record {
+      answer = e ∙ rw (← i.answer, ← j.answer) (new_left r s m g h k);
+      boxes_taken = λ l. clash (rw e at l);
+    }
 
-  pub both_taken : {m n : Counts} {s : Result Counts ReadRefusal} {nc' ne' : List ℕ} → r ≡ Ok m → IsRead c new nc ne s nc' ne' → s ≡ Ok n
-      → BothRead c old new (four oc oe nc ne) (four oc' oe' nc' ne') (Ok (record { old = m; new = n }))
-  unfolding editions_of
-  both_taken e j e₂ = record {
-    answer = rw (← i.answer, e, ← j.answer, e₂);
-    boxes_left = record {
-      old_cards = rw e at i.cards_after;
-      old_entries = rw e at i.entries_after;
-      new_cards = rw e₂ at j.cards_after;
-      new_entries = rw e₂ at j.entries_after;
-    };
-  }
+    pub each_taken : {n : Counts} → named New s ≡ Ok n → EachRead c old new (four oc oe nc ne) (four oc' oe' nc' ne') (Ok (record { old = m; new = n }))
+    unfolding editions_of
+    each_taken {n} k =
+        let e = was_taken Old r m h in
+        let f = was_taken New s n k in
+        record {
+          answer = rw (← i.answer, e, ← j.answer, f);
+          boxes_taken = λ l. record {
+            old_cards = rw e at i.cards_after;
+            old_entries = rw e at i.entries_after;
+            new_cards = rw f at j.cards_after;
+            new_entries = rw f at j.entries_after;
+          };
+        }
+
+-- ---- both editions
+
+pub both_refused : {c : Conventions} {old new : List ℕ} {x y : LentBoxes} {b : Boxes} {r : Editions} → EachRead c old new (words_of x) (words_of y) r → SameLent x y → BoxesKept false (words_of y) b → is_err r ≡ true
+    → BothRead c old new (words_of x) b r
+both_refused {r = Ok n} w s k e = clash e
+both_refused {r = Err f} w s k e = record {
+  answer = w.answer;
+  boxes_left = record {
+    old_cards = k.old_cards ∙ rw s.old_cards_room;
+    old_entries = k.old_entries ∙ rw s.old_entries_room;
+    new_cards = k.new_cards ∙ rw s.new_cards_room;
+    new_entries = k.new_entries ∙ rw s.new_entries_room;
+  };
+}
+
+pub both_taken : {c : Conventions} {old new : List ℕ} {b b' : Boxes} {r : Editions} → EachRead c old new b b' r → is_err r ≡ false → BothRead c old new b b' r
+both_taken {r = Ok n} w e = record { answer = w.answer; boxes_left = w.boxes_taken refl }
+both_taken {r = Err f} w e = clash (sym e)
 
 -- ---- both were taken
 

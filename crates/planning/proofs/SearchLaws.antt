@@ -72,12 +72,6 @@ pub fits_is : (tabled : Bool) (d card : List ℕ) → fits tabled d card ≡ con
 unfolding fits has_deal passed_over
 fits_is tabled d card = either (is_whole card) (same d (card_deal card)) tabled (has_table card)
 
--- A table, where one is sought.
-pub there_sought : (t h : Bool) → (not t || h) ≡ not (t && not h)
-there_sought true true = refl
-there_sought true false = refl
-there_sought false h = refl
-
 -- The want of a table or word 9 decides.
 may_not : (tabled : Bool) (card : List ℕ) → may_fit tabled card ≡ false → passed_over tabled card ≡ true
 unfolding may_fit passed_over is_whole

@@ -1,37 +1,18 @@
 -- Laws of the searches for a board, and of their numbers, board after board.
 use Prim.Native.Nat.{ℕ, ◌+◌, ◌-◌, ◌*◌, ◌≤◌, ◌<◌}
-use mathlib.Core.Path.{◌≡◌, sym, ap, ◌∙◌}
+use mathlib.Core.Path.{◌≡◌, sym, ap}
 use mathlib.Core.Bool.{Bool, true, false}
 use mathlib.Core.List.{List, [], ◌∷◌}
 use native.Mathlib.Omega.{arith}
 use lib.ListN.{length, get_or, take, length-take}
-use lib.Dec.{leb}
-use borrow.Author.Tests.{lt-leb}
-use Rattle.tables.proofs.Laws.{by_cases, clash}
 use Rattle.reader.specs.Store.{put}
-use Rattle.reader.specs.Deals.{whole_hands, hands_of_words}
-use Rattle.planning.specs.declared.state.BoardState.{BoardState}
-use Rattle.planning.specs.Cards.{card_deal, is_whole}
+use Rattle.planning.specs.Cards.{card_deal}
 use Rattle.planning.specs.PlanSteps.{plan_here}
-use Rattle.planning.specs.States.{BoardPlan, state_number, state_of, board_plans}
+use Rattle.planning.specs.States.{BoardPlan, board_plans}
 use Rattle.planning.specs.Searches.{searched, old_sought, near_sought, twin_sought, words_if, old_words, near_words, twin_words, search_numbers, words_in_all}
 use Rattle.planning.proofs.BoardLaws.{boards_left, left_first, left_step, left_none, boards_count}
 use Rattle.planning.proofs.PlanLaws.{Rows, rows_first, rows_next}
 use Rattle.planning.proofs.SearchLaws.{few_words}
-use Rattle.planning.proofs.StateLaws.{deal_whole}
-
--- ---- one board
-
--- A board for which a search is made is whole.
-pub sought_whole : {s : BoardState} {made : Bool} {d : List ℕ} (m : ℕ) (olds news earlier : List (List ℕ)) (card : List ℕ) → 0 < m → s ≡ state_of olds news earlier card
-    → made ≡ leb m (state_number s) → d ≡ card_deal card → made ≡ true → whole_hands (hands_of_words d) ≡ true
-unfolding state_of
-sought_whole {s} {made} {d} m olds news earlier card l es em ed e =
-    by_cases (is_whole card)
-    (λ w. deal_whole d card w ed)
-    (λ w.
-    let z : state_number s ≡ 0 = rw (es, w) in
-    clash (sym (sym e ∙ em ∙ rw (z, lt-leb m 0 l))))
 
 -- ---- few words
 

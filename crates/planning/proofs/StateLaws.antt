@@ -6,7 +6,7 @@ use mathlib.Core.List.{List, [], ◌∷◌}
 use native.Mathlib.Omega.{arith}
 use lib.Dec.{eqb}
 use lib.ListN.{length, get_or}
-use borrow.Author.Tests.{eqb-false, eq-eqb, ne_eqb}
+use borrow.Author.Tests.{eqb-false, ne_eqb}
 use Rattle.tables.proofs.Laws.{by_cases, both}
 use Rattle.reader.specs.Deals.{whole_hands, hands_of_words}
 use Rattle.planning.specs.declared.state.BoardState.{BoardState}
@@ -29,21 +29,23 @@ module _ (olds news earlier : List (List ℕ)) (card : List ℕ) where
   state_own w t = rw (w, t)
 
   module _ {d : List ℕ} (w : is_whole card ≡ true) (t : has_table card ≡ false) (e : d ≡ card_deal card) where
-    pub state_old : (a : ℕ) → a ≡ first_with true d olds → (a ≡ 0 → ⊥) → Old a ≡ state_of olds news earlier card
+    pub state_old : {a : ℕ} → a ≡ first_with true d olds → 0 < a → Old a ≡ state_of olds news earlier card
     unfolding state_of
-    state_old a ea n = rw (w, t, ← e, ← ea, ne_eqb a 0 n)
+    state_old {a} ea n = rw (w, t, ← e, ← ea, ne_eqb a 0 (λ z. omega arith))
 
-    pub state_near : (a b : ℕ) → a ≡ first_with true d olds → a ≡ 0 → b ≡ first_with true d news → (b ≡ 0 → ⊥) → Near b ≡ state_of olds news earlier card
-    unfolding state_of
-    state_near a b ea za eb n = rw (w, t, ← e, ← ea, eq-eqb a 0 za, ← eb, ne_eqb b 0 n)
+    module _ (za : first_with true d olds ≡ 0) where
+      pub state_near : {b : ℕ} → b ≡ first_with true d news → 0 < b → Near b ≡ state_of olds news earlier card
+      unfolding state_of
+      state_near {b} eb n = rw (w, t, ← e, za, ← eb, ne_eqb b 0 (λ z. omega arith))
 
-    pub state_twin : (a b k : ℕ) → a ≡ first_with true d olds → a ≡ 0 → b ≡ first_with true d news → b ≡ 0 → k ≡ first_with false d earlier → (k ≡ 0 → ⊥) → Twin k ≡ state_of olds news earlier card
-    unfolding state_of
-    state_twin a b k ea za eb zb ek n = rw (w, t, ← e, ← ea, eq-eqb a 0 za, ← eb, eq-eqb b 0 zb, ← ek, ne_eqb k 0 n)
+      module _ (zb : first_with true d news ≡ 0) where
+        pub state_twin : {k : ℕ} → k ≡ first_with false d earlier → 0 < k → Twin k ≡ state_of olds news earlier card
+        unfolding state_of
+        state_twin {k} ek n = rw (w, t, ← e, za, zb, ← ek, ne_eqb k 0 (λ z. omega arith))
 
-    pub state_solve : (a b k : ℕ) → a ≡ first_with true d olds → a ≡ 0 → b ≡ first_with true d news → b ≡ 0 → k ≡ first_with false d earlier → k ≡ 0 → Solve ≡ state_of olds news earlier card
-    unfolding state_of
-    state_solve a b k ea za eb zb ek zk = rw (w, t, ← e, ← ea, eq-eqb a 0 za, ← eb, eq-eqb b 0 zb, ← ek, eq-eqb k 0 zk)
+        pub state_solve : first_with false d earlier ≡ 0 → Solve ≡ state_of olds news earlier card
+        unfolding state_of
+        state_solve zk = rw (w, t, ← e, za, zb, zk)
 
 -- ---- the source board is there
 

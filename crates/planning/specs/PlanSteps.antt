@@ -1,12 +1,13 @@
 -- What the inner functions of planning answer: a board of lent cards, a board of a search, totals board by board, and the end of planning.
-use Rattle.std.specs.Prelude.{ℕ, ◌+◌, ◌≤◌, ◌<◌, ◌/◌, zero, suc, ◌≡◌, Bool, cond, ◌&&◌, ◌||◌, not, List, [], ◌∷◌, eqb, length, get_or, take, drop, is_ok, Option, Some, None}
+use Rattle.std.specs.Prelude.{ℕ, ◌+◌, ◌≤◌, ◌<◌, ◌/◌, zero, suc, ◌≡◌, Bool, true, cond, ◌&&◌, ◌||◌, not, List, [], ◌∷◌, eqb, length, get_or, take, drop, is_ok, Option, Some, None}
+use Rattle.tables.specs.declared.letters.Conventions.{Conventions}
 use Rattle.reader.specs.Store.{zeros}
 use Rattle.planning.specs.declared.state.BoardState.{BoardState}
 use Rattle.planning.specs.declared.plan.Totals.{Totals}
 use Rattle.planning.specs.Cards.{has_table}
 use Rattle.planning.specs.States.{BoardPlan, state_of, state_number}
 use Rattle.planning.specs.Slips.{card_from}
-use Rattle.planning.specs.Plans.{Boxes, Planning, slips_answer}
+use Rattle.planning.specs.Plans.{Boxes, Editions, editions_of, BoxesAfter, Planning, slips_answer}
 
 -- The first n cards of lent words.
 abbrev pub cards_in : ℕ → List ℕ → List (List ℕ)
@@ -68,6 +69,11 @@ pub record BoxesKept (well : Bool) (boxes boxes' : Boxes) : Type 0 where
   pub old_entries : boxes'.old_entries ≡ cond well boxes.old_entries (zeros boxes.old_entries)
   pub new_cards : boxes'.new_cards ≡ cond well boxes.new_cards (zeros boxes.new_cards)
   pub new_entries : boxes'.new_entries ≡ cond well boxes.new_entries (zeros boxes.new_entries)
+
+-- Both editions are read, and each box is as it is to be where none is refused.
+pub record EachRead (c : Conventions) (old new : List ℕ) (boxes boxes' : Boxes) (r : Editions) : Type 0 where
+  pub answer : r ≡ editions_of c old new boxes
+  pub boxes_taken : is_ok r ≡ true → BoxesAfter c true old new boxes boxes'
 
 -- The answer for the totals, and all lent words: as they were, or zeros after a refusal.
 pub record PlanEnded (boxes : Boxes) (slips : List ℕ) (t : Totals) (r : Planning) (boxes' : Boxes) (slips' : List ℕ) : Type 0 where

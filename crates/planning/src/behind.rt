@@ -42,7 +42,8 @@ impl Behind {
     }
 }
 
-// The record of the card at the position p of an edition; from 0 to 0 where there is no card.
+// The record of the card at the position p of an edition; from 0 to 0 where there is no card, as the definition `record_of` answers: the source of a
+// state is always a board.
 fn record_at(edition: Edition, cards: &[Card], p: u64) -> Behind
     ensures { result ≡ record_of edition (card_at cards.now p) }
 {

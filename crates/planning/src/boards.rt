@@ -10,7 +10,7 @@ ghost use Rattle.planning.specs.Plans.{words_of, SameLent, BoardsTold};
 use crate::behind::behind_state;
 use crate::cards::Card;
 use crate::editions::{Both, EditionsRefusal, LentBoxes, read_both};
-use crate::numbers::{put_five, zero_numbers};
+use crate::numbers::put_five;
 use crate::state::state_of;
 use tables::letters::{Conventions, built_in};
 
@@ -24,7 +24,7 @@ fn board_numbers(olds: &[Card], news: &[Card], k: usize) -> [u64; 5]
     [s.number(), s.source(), b.edition.number(), b.start, b.end]
 }
 
-// Stores the five numbers of each board, as many as there is room for.
+// Stores the five numbers of each board, as many as there is room for. By index: see state_of.
 fn put_boards(olds: &[Card], news: &[Card], numbers: &mut [u64])
     ensures { numbers.new ≡ put_all 5 numbers.old 0 (numbers_from olds.now news.now (board_plans olds.now news.now)) }
 {
@@ -44,7 +44,7 @@ pub fn plan_boards_with(
     ensures told { BoardsTold c old.now new.now (words_of boxes.old) numbers.old (words_of boxes.new) numbers.new result }
     ensures same { SameLent boxes.old boxes.new }
 {
-    zero_numbers(numbers);
+    numbers.fill(0);
     let both = read_both(c, old, new, boxes)?;
     let (olds, news) = boxes.cards(both);
     put_boards(olds, news, numbers);

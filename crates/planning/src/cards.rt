@@ -1,5 +1,6 @@
 // Cards, as reading stores them in lent words, and what planning reads of one.
-ghost use Rattle.std.specs.Prelude.{◌≡◌, ◌+◌, ◌*◌, ◌≤◌, length};
+ghost use Rattle.std.specs.Prelude.{◌≡◌, ◌+◌, ◌*◌, ◌≤◌, true, false, MatchOption, length};
+ghost use Rattle.reader.specs.Deals.{whole_hands, hands_of_words};
 ghost use Rattle.planning.specs.Cards.{card_deal, is_whole, has_table, card_here};
 ghost use Rattle.planning.specs.PlanSteps.{cards_in, IsIndex};
 
@@ -35,7 +36,7 @@ pub(crate) fn index_of(p: u64, n: usize) -> Option<usize>
     Some((p - 1) as usize)
 }
 
-// Its deal, words 10 to 17.
+// The deal of a card, words 10 to 17.
 #[tactic(auto, unfolding(crate::specs::Cards::card_deal))]
 pub(crate) fn deal_at(card: &Card) -> [u32; 8]
     ensures { result ≡ card_deal card.now }
@@ -45,14 +46,34 @@ pub(crate) fn deal_at(card: &Card) -> [u32; 8]
     words
 }
 
-// Is its deal whole?
+// Is the deal of a card whole?
 pub fn is_whole(card: &Card) -> bool
     ensures { result ≡ is_whole card.now }
 {
     card[9] as usize == PARSED && reader::deal::is_whole(hands_of_words(deal_at(card)))
 }
 
-// Has it a table?
+// A deal of 13 cards in each hand, as one is that is searched for.
+#[derive(Clone, Copy)]
+pub(crate) struct WholeDeal {
+    pub words: [u32; 8],
+    ghost whole: { whole_hands (hands_of_words words) ≡ true },
+}
+
+// The deal of a card; none where it is not whole.
+#[tactic(auto, using(crate::proofs::StateLaws::deal_whole))]
+pub(crate) fn whole_deal(card: &Card) -> Option<WholeDeal>
+    ensures { MatchOption result (is_whole card.now ≡ false) (λ d. (is_whole card.now ≡ true) × (d.words ≡ card_deal card.now)) }
+{
+    if !is_whole(card) {
+        return None;
+    }
+    Some(WholeDeal {
+        words: deal_at(card),
+    })
+}
+
+// Has a card a table?
 #[tactic(auto, unfolding(crate::specs::Cards::has_table))]
 pub fn has_table(card: &Card) -> bool
     ensures { result ≡ has_table card.now }

@@ -1,11 +1,10 @@
 // Both editions, read into lent boxes.
 ghost use Rattle.std.specs.Prelude.{◌≡◌, ◌*◌, ◌≤◌, false, length};
 ghost use Rattle.planning.specs.Plans.{editions_number, editions_carries, edition_refused, words_of, SameLent, BothRead};
-ghost use Rattle.planning.specs.PlanSteps.{cards_in, BoxesKept};
+ghost use Rattle.planning.specs.PlanSteps.{cards_in, BoxesKept, EachRead};
 
 use crate::cards::{Card, cards_in};
 use reader::edition::{Counts, ReadRefusal, read_pbn_with};
-use reader::store::zero;
 use tables::letters::Conventions;
 use tables::refused::{Edition, Refused};
 
@@ -44,7 +43,8 @@ pub struct Both {
 }
 
 // The four boxes: words lent for the cards and the entries of the old edition, and of the new. The two texts are parameters beside them: they are
-// only read, while the boxes are written, and outlive these (record_behind answers a part of one).
+// only read, while the boxes are written, and outlive these (record_behind answers a part of one). They are no pair of their own, since they come
+// one by one from the boundary, and text_of alone chooses between them.
 #[derive(Drop)]
 pub struct LentBoxes<'a> {
     pub old_cards: &'a mut [u32],
@@ -70,16 +70,40 @@ impl LentBoxes<'_> {
         ensures zeros { BoxesKept false (words_of self.old) (words_of self.new) }
         ensures same { SameLent self.old self.new }
     {
-        zero(self.old_cards);
-        zero(self.old_entries);
-        zero(self.new_cards);
-        zero(self.new_entries);
+        self.old_cards.fill(0);
+        self.old_entries.fill(0);
+        self.new_cards.fill(0);
+        self.new_entries.fill(0);
     }
 }
 
-// Reads the old edition, then the new one. A refusal of either leaves all lent words zero: by matches, since a `?` would leave
-// before that. Five functions go on with LentBoxes::cards and a question
-// about the cards, three lines each: a function that is given the question would have to say of any question what it answers and stores.
+// Reads the old edition, then the new one. After a refusal of the new one the words lent for the old one hold what was read.
+fn read_each(
+    c: Conventions,
+    old: &[u8],
+    new: &[u8],
+    boxes: &mut LentBoxes,
+) -> Result<Both, EditionsRefusal>
+    ensures read { EachRead c old.now new.now (words_of boxes.old) (words_of boxes.new) result }
+    ensures same { SameLent boxes.old boxes.new }
+{
+    let m = read_pbn_with(c, old, boxes.old_cards, boxes.old_entries).map_err(
+        |refusal| EditionsRefusal {
+            edition: Edition::Old,
+            refusal,
+        },
+    )?;
+    let n = read_pbn_with(c, new, boxes.new_cards, boxes.new_entries).map_err(
+        |refusal| EditionsRefusal {
+            edition: Edition::New,
+            refusal,
+        },
+    )?;
+    Ok(Both { old: m, new: n })
+}
+
+// Reads both editions; a refusal of either leaves all lent words zero. Five functions go on with LentBoxes::cards and a question about the cards,
+// three lines each: a function that is given the question would have to say of any question what it answers and stores.
 pub fn read_both(
     c: Conventions,
     old: &[u8],
@@ -89,25 +113,9 @@ pub fn read_both(
     ensures read { BothRead c old.now new.now (words_of boxes.old) (words_of boxes.new) result }
     ensures same { SameLent boxes.old boxes.new }
 {
-    match read_pbn_with(c, old, boxes.old_cards, boxes.old_entries) {
-        Err(f) => {
-            zero(boxes.new_cards);
-            zero(boxes.new_entries);
-            Err(EditionsRefusal {
-                edition: Edition::Old,
-                refusal: f,
-            })
-        }
-        Ok(m) => match read_pbn_with(c, new, boxes.new_cards, boxes.new_entries) {
-            Err(f) => {
-                zero(boxes.old_cards);
-                zero(boxes.old_entries);
-                Err(EditionsRefusal {
-                    edition: Edition::New,
-                    refusal: f,
-                })
-            }
-            Ok(n) => Ok(Both { old: m, new: n }),
-        },
+    let r = read_each(c, old, new, boxes);
+    if r.is_err() {
+        boxes.zero();
     }
+    r
 }

@@ -1,13 +1,6 @@
 // Blocks of five numbers stored into lent slices.
 ghost use Rattle.std.specs.Prelude.{◌≡◌};
-ghost use Rattle.reader.specs.Store.{zeros, put};
-
-// Sets every number to 0. A function of its own, since the contract of `fill` speaks of clones, and each caller would go from there to zeros again.
-pub fn zero_numbers(numbers: &mut [u64])
-    ensures { numbers.new ≡ zeros numbers.old }
-{
-    numbers.fill(0);
-}
+ghost use Rattle.reader.specs.Store.{put};
 
 // Stores the n-th block of five, where there is room for a whole one.
 pub(crate) fn put_five(numbers: &mut [u64], n: usize, five: [u64; 5])

@@ -1,16 +1,15 @@
 // The search for the first board with a deal, and the hand words that it compares.
-ghost use Rattle.std.specs.Prelude.{◌≡◌, cond, true, ◌+◌, ◌*◌, ◌≤◌, ◌<◌, length};
-ghost use Rattle.reader.specs.Deals.{whole_hands, hands_of_words};
+ghost use Rattle.std.specs.Prelude.{◌≡◌, cond, ◌+◌, ◌*◌, ◌≤◌, ◌<◌, length, MatchOption};
 ghost use Rattle.planning.specs.Cards.{card_deal, is_whole, fits};
 ghost use Rattle.planning.specs.PlanSteps.{equal_front, may_fit};
 ghost use Rattle.planning.specs.States.{first_with};
 ghost use Rattle.planning.specs.Searches.{compared, searched};
 
-use crate::cards::{Card, has_table, is_whole};
+use crate::cards::{Card, WholeDeal, has_table, is_whole};
 use reader::board::PARSED;
 
-// The board found, from 1, 0 where there is none, and the number of hand words compared. The definitions of specs count so, and so is C told:
-// with an Option here each contract that names a board would turn it back into the number.
+// The board found, from 1, 0 where there is none, and the number of hand words compared. No Option: the definition `searched` makes this struct,
+// and the theorem FoundSame says of its `board` that it is `first_with` of specs, which is 0 for no board.
 #[derive(Clone, Copy)]
 pub struct Found {
     pub board: usize,
@@ -28,13 +27,11 @@ fn equal_words(card: &Card, deal: &[u32; 8]) -> usize
 }
 
 // Has the card a table, where one is sought, and is its word 9 1? The cards of its hands are not counted.
+#[tactic(auto, unfolding(crate::specs::PlanSteps::may_fit))]
 fn may_fit(card: &Card, tabled: bool) -> bool
     ensures { result ≡ may_fit tabled card.now }
 {
-    if tabled & !has_table(card) {
-        return false;
-    }
-    card[9] as usize == PARSED
+    (!tabled || has_table(card)) && card[9] as usize == PARSED
 }
 
 // The words that count on the card, where so many are equal and the next differs: none where its deal is not whole.
@@ -55,11 +52,10 @@ struct Tried {
     words: usize,
 }
 
-// A board, for a deal that is whole. A board with the same words is whole too, so its cards are counted only where a word differs: the words
+// A board, for a whole deal. A board with the same words is whole too, so its cards are counted only where a word differs: the words
 // of a board that is not whole are looked at, and do not count.
-fn try_board(card: &Card, deal: &[u32; 8], tabled: bool) -> Tried
-    requires { whole_hands (hands_of_words deal.now) ≡ true }
-    ensures { (result.fits ≡ fits tabled deal.now card.now) × (result.words ≡ compared tabled deal.now card.now) × (result.words ≤ 8) }
+fn try_board(card: &Card, deal: &WholeDeal, tabled: bool) -> Tried
+    ensures { (result.fits ≡ fits tabled deal.now.words card.now) × (result.words ≡ compared tabled deal.now.words card.now) × (result.words ≤ 8) }
 {
     if !may_fit(card, tabled) {
         return Tried {
@@ -67,7 +63,7 @@ fn try_board(card: &Card, deal: &[u32; 8], tabled: bool) -> Tried
             words: 0,
         };
     }
-    let equal = equal_words(card, deal);
+    let equal = equal_words(card, &deal.words);
     if equal == 8 {
         return Tried {
             fits: true,
@@ -80,15 +76,14 @@ fn try_board(card: &Card, deal: &[u32; 8], tabled: bool) -> Tried
     }
 }
 
-// The search among boards for the deal d, which is whole, and a table, where one is sought. `tabled` is a bool as in `fits`, of which the theorems
+// The search among boards for the deal d and a table, where one is sought. `tabled` is a bool as in `fits`, of which the theorems
 // speak: a closure's contract would have to say which of the two tests it is.
-pub(crate) fn search_with(cards: &[Card], d: [u32; 8], tabled: bool) -> Found
-    requires { whole_hands (hands_of_words d) ≡ true }
-    ensures { (result ≡ searched tabled d cards.now) × (result.board ≤ length cards.now) × (result.words ≤ 8 * length cards.now) }
+pub(crate) fn search_with(cards: &[Card], d: &WholeDeal, tabled: bool) -> Found
+    ensures { (result ≡ searched tabled d.now.words cards.now) × (result.board ≤ length cards.now) × (result.words ≤ 8 * length cards.now) }
 {
     let mut words = 0;
     for (k, card) in cards.iter().enumerate() {
-        let tried = try_board(card, &d, tabled);
+        let tried = try_board(card, d, tabled);
         words += tried.words;
         if tried.fits {
             return Found {
@@ -100,11 +95,12 @@ pub(crate) fn search_with(cards: &[Card], d: [u32; 8], tabled: bool) -> Found
     Found { board: 0, words }
 }
 
-// The board that the search finds, from 1; 0 where there is none.
-pub(crate) fn first_with(cards: &[Card], d: [u32; 8], tabled: bool) -> usize
-    requires { whole_hands (hands_of_words d) ≡ true }
-    ensures { (result ≡ first_with tabled d cards.now) × (result ≤ length cards.now) }
+// The board that the search finds, from 1.
+pub(crate) fn first_with(cards: &[Card], d: &WholeDeal, tabled: bool) -> Option<u64>
+    ensures { MatchOption result (first_with tabled d.now.words cards.now ≡ 0) (λ k. (k ≡ first_with tabled d.now.words cards.now) × (0 < k) × (k ≤ length cards.now)) }
 {
-    let found = search_with(cards, d, tabled);
-    found.board
+    match search_with(cards, d, tabled).board {
+        0 => None,
+        k => Some(k as u64),
+    }
 }

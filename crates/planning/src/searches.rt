@@ -1,16 +1,15 @@
 // Every board's searches: the hand words that each compares, from one reading.
-ghost use Rattle.std.specs.Prelude.{◌≡◌, ◌≤◌, ◌<◌, true, length};
+ghost use Rattle.std.specs.Prelude.{◌≡◌, ◌≤◌, ◌<◌, length};
 ghost use Rattle.tables.specs.Letters.{built_in};
-ghost use Rattle.reader.specs.Deals.{whole_hands, hands_of_words};
 ghost use Rattle.reader.specs.Store.{put_all};
 ghost use Rattle.planning.specs.PlanSteps.{plan_here};
 ghost use Rattle.planning.specs.States.{board_plans};
 ghost use Rattle.planning.specs.Searches.{searched, words_if, search_numbers, searches_from, words_in_all};
 ghost use Rattle.planning.specs.Plans.{words_of, SameLent, SearchesTold};
 
-use crate::cards::{Card, deal_at};
+use crate::cards::{Card, WholeDeal, whole_deal};
 use crate::editions::{Both, EditionsRefusal, LentBoxes, read_both};
-use crate::numbers::{put_five, zero_numbers};
+use crate::numbers::put_five;
 use crate::search::search_with;
 use crate::state::state_of;
 use tables::letters::{Conventions, built_in};
@@ -22,10 +21,9 @@ pub struct Searched {
     pub words: u64,
 }
 
-// The words that a search compares, 0 where it is not made.
-fn words_if(made: bool, cards: &[Card], d: [u32; 8], tabled: bool) -> u64
-    requires { made ≡ true → whole_hands (hands_of_words d) ≡ true }
-    ensures { result ≡ words_if made (searched tabled d cards.now) }
+// The words that a search compares, 0 where it is not made; `made` is a bool as in `words_if` of specs.
+fn words_if(made: bool, cards: &[Card], d: &WholeDeal, tabled: bool) -> u64
+    ensures { result ≡ words_if made (searched tabled d.now.words cards.now) }
 {
     if made {
         return search_with(cards, d, tabled).words as u64;
@@ -39,17 +37,20 @@ fn search_numbers(olds: &[Card], news: &[Card], k: usize) -> [u64; 5]
     ensures { result ≡ search_numbers olds.now news.now (plan_here olds.now news.now k) }
 {
     let s = state_of(olds, news, k);
-    let d = deal_at(&news[k]);
+    let Some(d) = whole_deal(&news[k]) else {
+        return [s.number(), s.source(), 0, 0, 0];
+    };
     [
         s.number(),
         s.source(),
-        words_if(s.old_sought(), olds, d, true),
-        words_if(s.near_sought(), news, d, true),
-        words_if(s.twin_sought(), &news[..k], d, false),
+        words_if(s.old_sought(), olds, &d, true),
+        words_if(s.near_sought(), news, &d, true),
+        words_if(s.twin_sought(), &news[..k], &d, false),
     ]
 }
 
-// Stores the five numbers of each board, as many as there is room for. Returns the words of all boards.
+// Stores the five numbers of each board, as many as there is room for, and returns the words of all boards. By index: see state_of. A text that is
+// read has at most 16777215 bytes, and so no more boards: their words are then below 2 ^ 64.
 fn put_searches(olds: &[Card], news: &[Card], numbers: &mut [u64]) -> u64
     requires { (length olds.now ≤ 16777215) × (length news.now ≤ 16777215) }
     ensures { (result ≡ words_in_all olds.now news.now (board_plans olds.now news.now))
@@ -75,7 +76,7 @@ pub fn plan_searches_with(
     ensures told { SearchesTold c old.now new.now (words_of boxes.old) numbers.old (words_of boxes.new) numbers.new result }
     ensures same { SameLent boxes.old boxes.new }
 {
-    zero_numbers(numbers);
+    numbers.fill(0);
     let both = read_both(c, old, new, boxes)?;
     let (olds, news) = boxes.cards(both);
     let words = put_searches(olds, news, numbers);

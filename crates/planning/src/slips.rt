@@ -4,10 +4,10 @@ ghost use Rattle.reader.specs.Store.{zeros, put};
 ghost use Rattle.planning.specs.Slips.{slip_of, five_of, slip_numbers};
 
 use crate::cards::{Card, deal_at};
-use crate::numbers::{put_five, zero_numbers};
+use crate::numbers::put_five;
 use reader::deal::hands_of_words;
 
-// A board's position from 1 and its hands.
+// A board's position from 1 and its hands, by name as in `Hands`: each is a number of its own in what C is given.
 #[derive(Clone, Copy, Debug, Default, PartialEq, Eq)]
 pub struct Slip {
     pub position: u64,
@@ -56,7 +56,7 @@ impl Slot for u64 {
     }
 
     fn clear(slots: &mut [u64]) {
-        zero_numbers(slots);
+        slots.fill(0);
     }
 
     fn put(slots: &mut [u64], n: usize, slip: Slip) {

@@ -4,7 +4,7 @@ ghost use Rattle.planning.specs.States.{state_of, state_number, from_of, is_solv
 ghost use Rattle.planning.specs.Searches.{old_sought, near_sought, twin_sought};
 ghost use Rattle.planning.specs.Slips.{card_from};
 
-use crate::cards::{Card, deal_at, has_table, is_whole};
+use crate::cards::{Card, has_table, whole_deal};
 use crate::search::first_with;
 
 // The state of a board, the first that fits; a source board counts from 1.
@@ -20,31 +20,27 @@ pub enum BoardState {
 
 // The state of the board at index k of the new edition. Boards are gone over by their index, and three functions ask that k is one: the search for
 // a twin is among those before k, the position is k + 1, and numbers are stored at k, so that an iterator of states would have to hand out k as well.
-// The cards of the editions are two slices, since each search takes one of them, and a struct of both would be taken apart at once.
-#[tactic(auto, using(crate::proofs::StateLaws::deal_whole))]
+// Nine functions take the cards of the editions as two slices, as the definitions of specs do: a struct of both would be a parameter fewer in the
+// six that pass both on, and be taken apart in the other three and in the contracts of all nine.
 pub fn state_of(olds: &[Card], news: &[Card], k: usize) -> BoardState
     requires { k < length news.now }
     ensures { (result ≡ state_of olds.now news.now (take k news.now) (card_from news.now k)) × (from_of result ≤ length olds.now + length news.now) }
 {
     let card = &news[k];
-    if !is_whole(card) {
+    let Some(d) = whole_deal(card) else {
         return BoardState::Blank;
-    }
+    };
     if has_table(card) {
         return BoardState::Own;
     }
-    let d = deal_at(card);
-    let in_old = first_with(olds, d, true);
-    if in_old != 0 {
-        return BoardState::Old(in_old as u64);
+    if let Some(j) = first_with(olds, &d, true) {
+        return BoardState::Old(j);
     }
-    let in_new = first_with(news, d, true);
-    if in_new != 0 {
-        return BoardState::Near(in_new as u64);
+    if let Some(j) = first_with(news, &d, true) {
+        return BoardState::Near(j);
     }
-    let earlier = first_with(&news[..k], d, false);
-    if earlier != 0 {
-        return BoardState::Twin(earlier as u64);
+    if let Some(j) = first_with(&news[..k], &d, false) {
+        return BoardState::Twin(j);
     }
     BoardState::Solve
 }

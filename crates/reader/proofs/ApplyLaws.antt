@@ -1,4 +1,5 @@
 -- What a tag does to a board, part by part.
+use Rattle.reader.specs.Sections.{span_of}
 use Rattle.reader.specs.declared.section.Kind.TheVariants.{Auction, Play, Optimum}
 use Rattle.reader.specs.declared.section.Kind.{Kind}
 use Rattle.reader.specs.Sections.{lines_at, split_off}
@@ -182,15 +183,15 @@ applied_places P c k value place b p a =
 -- ---- sections
 
 -- A section that a tag opens starts, and what was split off ends, no later than was asked.
-pub record Opened (at : ℕ) (split : Span) (o : Option Open) : Type 0 where
+pub record Opened (at : ℕ) (split : Option Span) (o : Option Open) : Type 0 where
   pub lines_early : lines_at o ≤ at
-  pub split_end : (split_off o).start + (split_off o).len ≤ split.start + split.len
+  pub split_end : (span_of (split_off o)).start + (span_of (split_off o)).len ≤ (span_of split).start + (span_of split).len
 
-opened_any : (at : ℕ) (split : Span) (t : Bool) (kind : Kind) → Opened at split (cond t (Some (record { kind = kind; at = at; split = split })) no_open)
+opened_any : (at : ℕ) (split : Option Span) (t : Bool) (kind : Kind) → Opened at split (cond t (Some (record { kind = kind; at = at; split = split })) no_open)
 opened_any at split true kind = record { lines_early = omega arith; split_end = omega arith }
 opened_any at split false kind = record { lines_early = omega arith; split_end = omega arith }
 
-pub open_early : (c : Conventions) (k : ℕ) (value : List ℕ) (at : ℕ) (split : Span) → Opened at split (open_by c k value at split)
+pub open_early : (c : Conventions) (k : ℕ) (value : List ℕ) (at : ℕ) (split : Option Span) → Opened at split (open_by c k value at split)
 unfolding open_by
 open_early c k value at split = go (eqb k 15) (eqb k 16) (eqb k 19)
   where
@@ -205,19 +206,19 @@ open_early c k value at split = go (eqb k 15) (eqb k 16) (eqb k 19)
     go false false r = opened_any at split r Optimum
 
 -- A section with a seat, from the reading of its seat.
-pub open_none : (kind : ℕ → Kind) {seat : ℕ} (at : ℕ) (split : Span) {r : Option ℕ} → unwrap_or r 4 ≡ seat → r ≡ None → seat_open kind seat at split ≡ None
+pub open_none : (kind : ℕ → Kind) {seat : ℕ} (at : ℕ) (split : Option Span) {r : Option ℕ} → unwrap_or r 4 ≡ seat → r ≡ None → seat_open kind seat at split ≡ None
 open_none kind at split e h = rw (← e, h)
 
-pub open_some : (kind : ℕ → Kind) {seat s : ℕ} (at : ℕ) (split : Span) {r : Option ℕ} → unwrap_or r 4 ≡ seat → IfSome r (λ n. n < 4) → r ≡ Some s
+pub open_some : (kind : ℕ → Kind) {seat s : ℕ} (at : ℕ) (split : Option Span) {r : Option ℕ} → unwrap_or r 4 ≡ seat → IfSome r (λ n. n < 4) → r ≡ Some s
     → seat_open kind seat at split ≡ Some (record { kind = kind s; at = at; split = split })
 open_some kind {s = s} at split e i h =
     let low : s < 4 = rw h at i in
     rw (← e, h, lt-ltb s 4 low)
 
-pub open_auction : (c : Conventions) (k : ℕ) (value : List ℕ) (at : ℕ) (split : Span) → k ≡ 15 → open_by c k value at split ≡ seat_open Auction (seat_of c (first_character value)) at split
+pub open_auction : (c : Conventions) (k : ℕ) (value : List ℕ) (at : ℕ) (split : Option Span) → k ≡ 15 → open_by c k value at split ≡ seat_open Auction (seat_of c (first_character value)) at split
 unfolding open_by
 open_auction c k value at split e = rw e
 
-pub open_play : (c : Conventions) (k : ℕ) (value : List ℕ) (at : ℕ) (split : Span) → k ≡ 16 → open_by c k value at split ≡ seat_open Play (seat_of c (first_character value)) at split
+pub open_play : (c : Conventions) (k : ℕ) (value : List ℕ) (at : ℕ) (split : Option Span) → k ≡ 16 → open_by c k value at split ≡ seat_open Play (seat_of c (first_character value)) at split
 unfolding open_by
 open_play c k value at split e = rw e

@@ -1,6 +1,6 @@
 -- The entries of a record's state are counted.
 use Rattle.reader.specs.Boards.{in_block, block_of}
-use Rattle.std.specs.Prelude.{Some}
+use Rattle.std.specs.Prelude.{Option, Some}
 use Prim.Native.Nat.{ℕ, ◌+◌}
 use mathlib.Core.Path.{◌≡◌, refl, sym, ◌∙◌}
 use mathlib.Core.Bool.{Bool, true, false, cond}
@@ -42,14 +42,14 @@ unfolding closed
 closed_counts c r s =
     counts_cond (eqb (kind_of s.section) 0) s (record { state = s; entries = [] }) (closed_by s (walked_all c r s.section s.board.contract)) (counts_none s s refl) refl
 
-pub tagged_counts : (c : Conventions) (s : State) (p : ℕ) (l : List ℕ) (q : ℕ) (t : Tag) (d : Span) → Counts s (tagged c s p l q t d)
+pub tagged_counts : (c : Conventions) (s : State) (p : ℕ) (l : List ℕ) (q : ℕ) (t : Tag) (d : Option Span) → Counts s (tagged c s p l q t d)
 unfolding tagged
 tagged_counts c s p l q t d = refl
 
 read_counts : (c : Conventions) (s : State) (p : ℕ) (l : List ℕ) (q : ℕ) (t : TagReading) → Counts s (read_by c s p l q t)
 read_counts c s p l q (Plain t) = tagged_counts c s p l q t no_span
 read_counts c s p l q (WithComment t d) = counts_then s (tagged c s p l q t no_span) (directed (tagged c s p l q t no_span).state p d) (tagged_counts c s p l q t no_span) refl
-read_counts c s p l q (WithData t d) = counts_then s (tagged c s p l q t (at p d)) (data_added (tagged c s p l q t (at p d)).state p d) (tagged_counts c s p l q t (at p d)) refl
+read_counts c s p l q (WithData t d) = counts_then s (tagged c s p l q t (Some (at p d))) (data_added (tagged c s p l q t (Some (at p d))).state p d) (tagged_counts c s p l q t (Some (at p d))) refl
 
 tag_counts : (c : Conventions) (r : List ℕ) (s : State) (p : ℕ) (l : List ℕ) (t : TagReading) → Counts s (tag_line_out c r s p l t)
 unfolding tag_line_out

@@ -220,7 +220,7 @@ unfolding applied
 applied_placed c k value place b es p h =
     record { values = applied_places (λ v. Points IsValueKind es v 1) c k value place b p h.values; auction = h.auction; play = h.play }
 
-tagged_keeps : (c : Conventions) (s : State) (p : ℕ) (l : List ℕ) (q : ℕ) (t : TagPlaces) (split : Span) → Keeps s (tagged c s p l q t split)
+tagged_keeps : (c : Conventions) (s : State) (p : ℕ) (l : List ℕ) (q : ℕ) (t : TagPlaces) (split : Option Span) → Keeps s (tagged c s p l q t split)
 unfolding tagged
 tagged_keeps c s p l q t split es h =
     let name = entry 1 (p + t.name.start) t.name.len 0 in
@@ -238,8 +238,8 @@ reading_keeps c s p l q (WithComment t d) =
     let o = tagged c s p l q t no_span in
     keeps_then s o (directed o.state p d) (tagged_keeps c s p l q t no_span) (λ es h. kept_grows (directed o.state p d).entries h)
 reading_keeps c s p l q (WithData t d) =
-    let o = tagged c s p l q t (at p d) in
-    keeps_then s o (data_added o.state p d) (tagged_keeps c s p l q t (at p d)) (λ es h. kept_grows (data_added o.state p d).entries h)
+    let o = tagged c s p l q t (Some (at p d)) in
+    keeps_then s o (data_added o.state p d) (tagged_keeps c s p l q t (Some (at p d))) (λ es h. kept_grows (data_added o.state p d).entries h)
 
 tag_keeps : (c : Conventions) (r : List ℕ) (s : State) (p : ℕ) (l : List ℕ) (t : TagReading) → Keeps s (tag_line_out c r s p l t)
 unfolding tag_line_out

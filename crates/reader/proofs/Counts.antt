@@ -1,5 +1,6 @@
 -- How many entries a text has: at most four for each byte. A line outside sections adds at most three, a section that closes at most
 -- two for each byte of its data and the last trick; its data lies between its tag and the line that closes it.
+use Rattle.reader.specs.Sections.{span_of}
 use Rattle.reader.specs.Boards.{in_block, block_of}
 use Rattle.reader.specs.declared.section.Kind.TheVariants.{Auction, Play, Optimum}
 use Rattle.reader.specs.declared.section.Kind.{Kind}
@@ -113,24 +114,25 @@ data_step commentary p l ls =
     (λ e. rw e (omega arith))
     (λ e. rw (e, bytes_append (piece_of commentary p l)) (omega (arith, piece_few commentary p l)))
 
-split_few : (r : List ℕ) (s : Span) → bytes_in (split_piece r s) ≤ s.len
-split_few r s = by_cases (eqb s.len 0) (λ e. rw e (omega arith)) (λ e. rw e (omega (arith, cut_len s r)))
+split_few : (r : List ℕ) (s : Option Span) → bytes_in (split_piece r s) ≤ (span_of s).len
+split_few r None = omega arith
+split_few r (Some s) = omega (arith, cut_len s r)
 
 -- A section just opened at q: what was split off, and what follows.
-abbrev opened_most : List ℕ → ℕ → Span → ℕ
-opened_most r q split = 2 * split.len + 1 + 2 * bytes_in (data_in false q (raw_lines (drop q r)))
+abbrev opened_most : List ℕ → ℕ → Option Span → ℕ
+opened_most r q split = 2 * (span_of split).len + 1 + 2 * bytes_in (data_in false q (raw_lines (drop q r)))
 
-kind_most : (r : List ℕ) (kind : Kind) (q : ℕ) (split : Span) → closing_most r (Some (record { kind = kind; at = q; split = split })) ≤ opened_most r q split
+kind_most : (r : List ℕ) (kind : Kind) (q : ℕ) (split : Option Span) → closing_most r (Some (record { kind = kind; at = q; split = split })) ≤ opened_most r q split
 unfolding section_data
 kind_most r kind q split =
     by_cases (eqb (kind_number kind) 0)
     (λ e. rw e (omega arith))
     (λ e. rw (e, bytes_append (split_piece r split)) (omega (arith, split_few r split)))
 
-seat_most : (r : List ℕ) (kind : ℕ → Kind) (seat q : ℕ) (split : Span) → closing_most r (seat_open kind seat q split) ≤ opened_most r q split
+seat_most : (r : List ℕ) (kind : ℕ → Kind) (seat q : ℕ) (split : Option Span) → closing_most r (seat_open kind seat q split) ≤ opened_most r q split
 seat_most r kind seat q split = by_cases (ltb seat 4) (λ e. rw e (kind_most r (kind seat) q split)) (λ e. rw e (omega arith))
 
-open_most : (c : Conventions) (r : List ℕ) (k : ℕ) (value : List ℕ) (q : ℕ) (split : Span) → closing_most r (open_by c k value q split) ≤ opened_most r q split
+open_most : (c : Conventions) (r : List ℕ) (k : ℕ) (value : List ℕ) (q : ℕ) (split : Option Span) → closing_most r (open_by c k value q split) ≤ opened_most r q split
 unfolding open_by
 open_most c r k value q split =
     by_cases (eqb k 15)
@@ -285,10 +287,10 @@ module _ (c : Conventions) (r : List ℕ) (s : State) (p : ℕ) (l : List ℕ) (
   tag_bounded (WithData t g) h i j =
       record {
         past = 2 * g.len + 1;
-        closing = rw (← n) (omega (arith, open_most c r (tag_number (cut t.name l)) (cut t.value l) (p + length l) (at p g)));
+        closing = rw (← n) (omega (arith, open_most c r (tag_number (cut t.name l)) (cut t.value l) (p + length l) (Some (at p g))));
         few =
             rw length-append
-            (omega (arith, ClosedFew c r s, i.1, j.0, added_few (tagged c (closed c r s).state p l (p + length l) t (at p g)).state p g));
+            (omega (arith, ClosedFew c r s, i.1, j.0, added_few (tagged c (closed c r s).state p l (p + length l) t (Some (at p g))).state p g));
       }
 
   kind_bounded : (k : Line) → line_kind l ≡ k → in_block s ≡ false → closing_most r s.section ≤ d + 2 * bytes_in (data_in (in_block s) p (l ∷ ls))

@@ -121,7 +121,7 @@ pub record Follows {A : Type 0} (c : Conventions) (r : List ℕ) (g : Board → 
   pub by_tag : (k : ℕ) (value : List ℕ) (place : ℕ) (b : Board) → g (applied c k value place b) ≡ f k value (g b)
   pub kept : (s : State) → Kept s.section → g (closed c r s).state.board ≡ g s.board
   pub none_open : Kept no_open
-  pub opened : (k : ℕ) (value : List ℕ) (q : ℕ) (split : Span) → Fine k → Kept (open_by c k value q split)
+  pub opened : (k : ℕ) (value : List ℕ) (q : ℕ) (split : Option Span) → Fine k → Kept (open_by c k value q split)
 
 module _ {A : Type 0} (c : Conventions) (r : List ℕ) (g : Board → A) (f : ℕ → List ℕ → A → A) (Fine : ℕ → Type 0) (Kept : Option Open → Type 0) (h : Follows c r g f Fine Kept) where
   -- A step from s follows the tags ts.
@@ -214,10 +214,10 @@ unfolding applied
 IdentityFolds c r = PartFolds c r (λ b. b.id) (identity_by c) (λ k value place b. refl) (λ b t a p trump. refl)
 
 -- Only an OptimumResultTable, 19, opens a section that is neither an auction nor a play.
-seat_low : (kind : ℕ → Kind) (seat q : ℕ) (split : Span) → kind_number (kind seat) ≤ 2 → kind_of (seat_open kind seat q split) ≤ 2
+seat_low : (kind : ℕ → Kind) (seat q : ℕ) (split : Option Span) → kind_number (kind seat) ≤ 2 → kind_of (seat_open kind seat q split) ≤ 2
 seat_low kind seat q split h = chosen (λ (o : Option Open). kind_of o ≤ 2) (ltb seat 4) (Some (record { kind = kind seat; at = q; split = split })) no_open (λ e. h) (λ e. omega arith)
 
-open_low : (c : Conventions) (k : ℕ) (value : List ℕ) (q : ℕ) (split : Span) → (k ≡ 19 → ⊥) → kind_of (open_by c k value q split) ≤ 2
+open_low : (c : Conventions) (k : ℕ) (value : List ℕ) (q : ℕ) (split : Option Span) → (k ≡ 19 → ⊥) → kind_of (open_by c k value q split) ≤ 2
 unfolding open_by
 open_low c k value q split n =
     let seat = seat_of c (first_character value) in

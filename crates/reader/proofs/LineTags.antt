@@ -1,4 +1,5 @@
 -- What a record reads as, line by line and without places: its tags, its directives and its commentary.
+use Rattle.std.specs.Prelude.{Option}
 use Rattle.reader.specs.Boards.{in_block, block_of}
 use Rattle.std.specs.Prelude.{Some, None}
 use Prim.Native.Nat.{ℕ, ◌+◌, ◌-◌, ◌≤◌, ◌<◌}
@@ -295,7 +296,7 @@ module _ (c : Conventions) (r : List ℕ) (p : ℕ) (l : List ℕ) (i : LineAt r
       let e = PartPlaced r l p d.start d.len i.bytes j in
       record { tags_added = λ is. refl; directives_added = λ is. rw e; blocks_added = λ is. refl; counted = sym (add-zero s.tags) }
 
-  tagged_adds : (s : State) (q : ℕ) (t : TagPlaces) (split : Span) → TagInside t (length l)
+  tagged_adds : (s : State) (q : ℕ) (t : TagPlaces) (split : Option Span) → TagInside t (length l)
       → Adds r s (record { name = cut t.name l; value = cut t.value l } ∷ []) [] [] (tagged c s p l q t split)
   unfolding tagged item_of
   tagged_adds s q t split j =
@@ -310,8 +311,8 @@ module _ (c : Conventions) (r : List ℕ) (p : ℕ) (l : List ℕ) (i : LineAt r
       let o = tagged c s p l q t no_span in
       then_adds r s (pair_on (Plain t) l ∷ []) [] [] (comment_on (WithComment t d) l s.tags) [] [] o (directed o.state p d) (tagged_adds s q t no_span j.0) (directed_adds o.state d j.1)
   reading_adds s q (WithData t d) j =
-      let o = tagged c s p l q t (at p d) in
-      then_adds r s (pair_on (Plain t) l ∷ []) [] [] [] [] [] o (data_added o.state p d) (tagged_adds s q t (at p d) j.0) (data_adds r o.state p d)
+      let o = tagged c s p l q t (Some (at p d)) in
+      then_adds r s (pair_on (Plain t) l ∷ []) [] [] [] [] [] o (data_added o.state p d) (tagged_adds s q t (Some (at p d)) j.0) (data_adds r o.state p d)
 
   tag_adds : (s : State) (t : TagReading) → ReadingPlaced t (length l) → Adds r s (pair_on t l ∷ []) (comment_on t l s.tags) [] (tag_line_out c r s p l t)
   unfolding tag_line_out

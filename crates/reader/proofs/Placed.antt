@@ -1,4 +1,6 @@
 -- Every entry of a record, and of a text, has a kind 1 to 8, and all but a trick lie inside it.
+use Rattle.std.specs.Prelude.{None}
+use Rattle.reader.specs.Sections.{span_of}
 use Rattle.reader.specs.Boards.{in_block, block_of}
 use Rattle.std.specs.Prelude.{Option, Some}
 use Rattle.reader.specs.declared.section.Kind.TheVariants.{Auction, Play, Optimum}
@@ -98,10 +100,11 @@ lines_within r commentary p (l ∷ ls) e =
     let b = lines_within r (commentary_after commentary l) (p + length l) ls n.rest in
     by_cases (stops_at commentary l) (λ t. rw t none) (λ t. rw t (all_append a b))
 
-split_within : (r : List ℕ) (s : Span) → SpanInside s (length r) → All (Within (length r)) (split_piece r s)
-split_within r s h = by_cases (eqb s.len 0) (λ e. rw e none) (λ e. rw e (one {x = record { at = s.start; bytes = cut s r }} (record { ends = omega (arith, cut_len s r) }) none))
+split_within : (r : List ℕ) (s : Option Span) → SpanInside (span_of s) (length r) → All (Within (length r)) (split_piece r s)
+split_within r None h = none
+split_within r (Some s) h = one {x = record { at = s.start; bytes = cut s r }} (record { ends = omega (arith, cut_len s r) }) none
 
-section_placed : (c : Conventions) (r : List ℕ) (o : Option Open) (trump : ℕ) → SpanInside (split_off o) (length r) → All (Placed (length r)) (walked_all c r o trump).entries
+section_placed : (c : Conventions) (r : List ℕ) (o : Option Open) (trump : ℕ) → SpanInside (span_of (split_off o)) (length r) → All (Placed (length r)) (walked_all c r o trump).entries
 unfolding walked_all section_data
 section_placed c r o trump h =
     out_all_lem (walked c o trump) (λ w q i. walked_placed c o trump (length r) w q i) no_walk
@@ -115,9 +118,9 @@ last_placed n kind w = by_cases (eqb kind 2) (λ e. rw e (all_map (trick_placed 
 -- A step's entries lie inside, and so does what was split off the tag of its section.
 record Stays (n : ℕ) (o : Out State) : Type 0 where
   placed : All (Placed n) o.entries
-  split : SpanInside (split_off o.state.section) n
+  split : SpanInside (span_of (split_off o.state.section)) n
 
-closed_stays : (c : Conventions) (r : List ℕ) (s : State) → SpanInside (split_off s.section) (length r) → Stays (length r) (closed c r s)
+closed_stays : (c : Conventions) (r : List ℕ) (s : State) → SpanInside (span_of (split_off s.section)) (length r) → Stays (length r) (closed c r s)
 unfolding closed
 closed_stays c r s h =
     let w = walked_all c r s.section s.board.contract in
@@ -129,25 +132,25 @@ closed_stays c r s h =
 at_placed : (n k p m z : ℕ) (d : Span) → 1 ≤ k → k ≤ 8 → p + m ≤ n → SpanInside d m → Placed n (entry k (p + d.start) d.len z)
 at_placed n k p m z d a b h i = record { kind_some = a; kind_low = b; inside = λ x. omega arith }
 
-open_split : (c : Conventions) (k : ℕ) (value : List ℕ) (q n : ℕ) (split : Span) → SpanInside split n → SpanInside (split_off (open_by c k value q split)) n
+open_split : (c : Conventions) (k : ℕ) (value : List ℕ) (q n : ℕ) (split : Option Span) → SpanInside (span_of split) n → SpanInside (span_of (split_off (open_by c k value q split))) n
 unfolding open_by
 open_split c k value q n split h =
-    let P : Option Open → Type 0 = λ o. SpanInside (split_off o) n in
+    let P : Option Open → Type 0 = λ o. SpanInside (span_of (split_off o)) n in
     let x : Option Open = Some (record { kind = Optimum; at = q; split = split }) in
     chosen P (eqb k 15) (seat_open Auction (seat_of c (first_character value)) q split) (cond (eqb k 16) (seat_open Play (seat_of c (first_character value)) q split) (cond (eqb k 19) x no_open)) (λ e. seat Auction)
     (λ e.
     chosen P (eqb k 16) (seat_open Play (seat_of c (first_character value)) q split) (cond (eqb k 19) x no_open) (λ f. seat Play)
     (λ f. chosen P (eqb k 19) x no_open (λ g. h) (λ g. omega arith)))
   where
-    seat : (kind : ℕ → Kind) → SpanInside (split_off (seat_open kind (seat_of c (first_character value)) q split)) n
+    seat : (kind : ℕ → Kind) → SpanInside (span_of (split_off (seat_open kind (seat_of c (first_character value)) q split))) n
     seat kind =
-        chosen (λ (o : Option Open). SpanInside (split_off o) n) (ltb (seat_of c (first_character value)) 4)
+        chosen (λ (o : Option Open). SpanInside (span_of (split_off o)) n) (ltb (seat_of c (first_character value)) 4)
         (Some (record { kind = kind (seat_of c (first_character value)); at = q; split = split }))
         no_open
         (λ e. h)
         (λ e. omega arith)
 
-tagged_stays : (c : Conventions) (s : State) (p : ℕ) (l : List ℕ) (q n : ℕ) (t : TagPlaces) (split : Span) → p + length l ≤ n → TagInside t (length l) → SpanInside split n
+tagged_stays : (c : Conventions) (s : State) (p : ℕ) (l : List ℕ) (q n : ℕ) (t : TagPlaces) (split : Option Span) → p + length l ≤ n → TagInside t (length l) → SpanInside (span_of split) n
     → Stays n (tagged c s p l q t split)
 unfolding tagged
 tagged_stays c s p l q n t split h i j =
@@ -168,13 +171,13 @@ reading_stays c s p l q n (WithComment t d) h i =
     let z = (tagged c s p l q t no_span).state.tags in
     record { placed = all_append a.placed (one (at_placed n 3 p (length l) z d (omega arith) (omega arith) h i.1) none); split = a.split }
 reading_stays c s p l q n (WithData t d) h i =
-    let a = tagged_stays c s p l q n t (at p d) h i.0 (omega (arith, i.1)) in
-    record { placed = all_append a.placed (data_placed (tagged c s p l q t (at p d)).state p n (length l) d h i.1); split = a.split }
+    let a = tagged_stays c s p l q n t (Some (at p d)) h i.0 (omega (arith, i.1)) in
+    record { placed = all_append a.placed (data_placed (tagged c s p l q t (Some (at p d))).state p n (length l) d h i.1); split = a.split }
 
 all_white : (r : List ℕ) (i j : ℕ) → j ≤ i → is_all_white r i j ≡ true
 all_white r i j h = let z : j - i ≡ 0 = omega arith in rw z
 
-blocked_stays : (r : List ℕ) (s : State) (i j : ℕ) → j ≤ length r → SpanInside (split_off s.section) (length r) → Stays (length r) (blocked r s i j)
+blocked_stays : (r : List ℕ) (s : State) (i j : ℕ) → j ≤ length r → SpanInside (span_of (split_off s.section)) (length r) → Stays (length r) (blocked r s i j)
 unfolding blocked
 blocked_stays r s i j h k =
     record {
@@ -187,7 +190,7 @@ blocked_stays r s i j h k =
       split = k;
     }
 
-module _ (c : Conventions) (r : List ℕ) (s : State) (p : ℕ) (l : List ℕ) (h : p + length l ≤ length r) (k : SpanInside (split_off s.section) (length r)) where
+module _ (c : Conventions) (r : List ℕ) (s : State) (p : ℕ) (l : List ℕ) (h : p + length l ≤ length r) (k : SpanInside (span_of (split_off s.section)) (length r)) where
   commentary_stays : Stays (length r) (in_commentary r s p l)
   unfolding in_commentary
   commentary_stays =
@@ -224,7 +227,7 @@ module _ (c : Conventions) (r : List ℕ) (s : State) (p : ℕ) (l : List ℕ) (
 
 -- ---- the lines of a record
 
-lines_placed : (c : Conventions) (r : List ℕ) (s : State) (p : ℕ) (ls : List (List ℕ)) → raw_lines (drop p r) ≡ ls → SpanInside (split_off s.section) (length r)
+lines_placed : (c : Conventions) (r : List ℕ) (s : State) (p : ℕ) (ls : List (List ℕ)) → raw_lines (drop p r) ≡ ls → SpanInside (span_of (split_off s.section)) (length r)
     → All (Placed (length r)) (lines_out c r s p ls).entries
 lines_placed c r s p [] e k = (closed_stays c r s k).placed
 lines_placed c r s p (l ∷ ls) e k =

@@ -1,4 +1,6 @@
 -- Each directive and each block has the number of tags before it, so that no plain board has an anchor past its tags.
+use Rattle.std.specs.Prelude.{Some}
+use Rattle.std.specs.Prelude.{Option}
 use Rattle.reader.specs.Boards.{block_of}
 use Rattle.std.specs.Prelude.{None}
 use Rattle.reader.specs.Sections.{kind_of}
@@ -83,7 +85,7 @@ closed_counted c r s =
     let l = closed_late c r s in
     record { anchored = late_anchored s.tags l; counted = omega (arith, (closed_keeps c r s).tags_kept, late_count l) }
 
-tagged_counted : (c : Conventions) (s : State) (p : ℕ) (l : List ℕ) (q : ℕ) (t : TagPlaces) (split : Span) → Counted s (tagged c s p l q t split)
+tagged_counted : (c : Conventions) (s : State) (p : ℕ) (l : List ℕ) (q : ℕ) (t : TagPlaces) (split : Option Span) → Counted s (tagged c s p l q t split)
 unfolding tagged
 tagged_counted c s p l q t split =
     record {
@@ -108,8 +110,8 @@ reading_counted c s p l q (WithComment t d) =
     let o = tagged c s p l q t no_span in
     then_counted s o (directed o.state p d) (tagged_counted c s p l q t no_span) (directed_counted o.state p d)
 reading_counted c s p l q (WithData t d) =
-    let o = tagged c s p l q t (at p d) in
-    then_counted s o (data_added o.state p d) (tagged_counted c s p l q t (at p d)) (data_counted o.state p d)
+    let o = tagged c s p l q t (Some (at p d)) in
+    then_counted s o (data_added o.state p d) (tagged_counted c s p l q t (Some (at p d))) (data_counted o.state p d)
 
 blocked_counted : (r : List ℕ) (s : State) (i j : ℕ) → Counted s (blocked r s i j)
 unfolding blocked

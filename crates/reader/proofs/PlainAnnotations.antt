@@ -28,7 +28,6 @@ use Rattle.reader.specs.declared.section.Walk.{Walk}
 use Rattle.reader.specs.declared.board.Section.{Section}
 use Rattle.reader.specs.declared.board.Board.{Board}
 use Rattle.reader.specs.declared.board.State.{State}
-use Rattle.reader.specs.Tag.{cut}
 use Rattle.reader.specs.Lines.{last_brace}
 use Rattle.reader.specs.Pieces.{Piece, Out, out_all, and_then, entry, tokens_of, raw_lines}
 use Rattle.reader.specs.Auction.{call_token_of, bidding, called_by, called, called_piece}
@@ -109,8 +108,9 @@ lines_few r commentary p (l ∷ ls) e =
     let i = lines_few r (commentary_after commentary l) (p + length l) ls n.rest in
     by_cases (stops_at commentary l) (λ t. rw t (omega arith)) (λ t. rw (t, bytes_append (piece_of commentary p l)) (omega (arith, piece_few commentary p l, n.inside)))
 
-split_few : (r : List ℕ) (s : Span) → bytes_in (split_piece r s) ≤ length r
-split_few r s = chosen (λ qs. bytes_in qs ≤ length r) (eqb s.len 0) [] (record { at = s.start; bytes = cut s r } ∷ []) (λ e. omega arith) (λ e. omega (arith, cut_few s r))
+split_few : (r : List ℕ) (s : Option Span) → bytes_in (split_piece r s) ≤ length r
+split_few r None = omega arith
+split_few r (Some s) = omega (arith, cut_few s r)
 
 section_annotations : (c : Conventions) (r : List ℕ) (o : Option Open) (trump : ℕ) → annotation_size (walked_all c r o trump).entries ≤ 2 * length r
 unfolding walked_all section_data
@@ -193,7 +193,7 @@ together_holds r s o k a b =
     moved : {n : ℕ} {xs ys : List Entry} {v : Section} → xs ≡ ys → Within n xs v → Within n ys v
     moved e z = rw e at z
 
-tagged_holds : (c : Conventions) (r : List ℕ) (s : State) (p : ℕ) (l : List ℕ) (q : ℕ) (t : TagPlaces) (split : Span) → Holding r s (tagged c s p l q t split)
+tagged_holds : (c : Conventions) (r : List ℕ) (s : State) (p : ℕ) (l : List ℕ) (q : ℕ) (t : TagPlaces) (split : Option Span) → Holding r s (tagged c s p l q t split)
 unfolding tagged applied
 tagged_holds c r s p l q t split = same_auction r s (tagged c s p l q t split) refl refl
 
@@ -203,8 +203,8 @@ reading_holds c r s p l q (WithComment t d) =
     let o = tagged c s p l q t no_span in
     together_holds r s o (directed o.state p d) (tagged_holds c r s p l q t no_span) (same_auction r o.state (directed o.state p d) refl refl)
 reading_holds c r s p l q (WithData t d) =
-    let o = tagged c s p l q t (at p d) in
-    together_holds r s o (data_added o.state p d) (tagged_holds c r s p l q t (at p d)) (same_auction r o.state (data_added o.state p d) refl refl)
+    let o = tagged c s p l q t (Some (at p d)) in
+    together_holds r s o (data_added o.state p d) (tagged_holds c r s p l q t (Some (at p d))) (same_auction r o.state (data_added o.state p d) refl refl)
 
 blocked_holds : (r : List ℕ) (s : State) (i j : ℕ) → Holding r s (blocked r s i j)
 unfolding blocked

@@ -157,14 +157,14 @@ closed_bounded c r s h =
 
 -- ---- a line
 
-tagged_bounded : (c : Conventions) (s : State) (p : ℕ) (l : List ℕ) (q : ℕ) (t : TagPlaces) (split : Span) → Bounded s.board → Bounded (tagged c s p l q t split).state.board
+tagged_bounded : (c : Conventions) (s : State) (p : ℕ) (l : List ℕ) (q : ℕ) (t : TagPlaces) (split : Option Span) → Bounded s.board → Bounded (tagged c s p l q t split).state.board
 unfolding tagged
 tagged_bounded c s p l q t split h = applied_bounded c (tag_number (cut t.name l)) (cut t.value l) (s.n + 2) s.board h
 
 reading_bounded : (c : Conventions) (s : State) (p : ℕ) (l : List ℕ) (q : ℕ) (t : TagReading) → Bounded s.board → Bounded (read_by c s p l q t).state.board
 reading_bounded c s p l q (Plain t) h = tagged_bounded c s p l q t no_span h
 reading_bounded c s p l q (WithComment t d) h = tagged_bounded c s p l q t no_span h
-reading_bounded c s p l q (WithData t d) h = tagged_bounded c s p l q t (at p d) h
+reading_bounded c s p l q (WithData t d) h = tagged_bounded c s p l q t (Some (at p d)) h
 
 blocked_board : (r : List ℕ) (s : State) (i j : ℕ) → Bounded s.board → Bounded (blocked r s i j).state.board
 unfolding blocked

@@ -1,4 +1,6 @@
 -- What tags alone change on a board follows from the record's tags, in their order.
+use Rattle.std.specs.Prelude.{Some}
+use Rattle.std.specs.Prelude.{Option}
 use Rattle.reader.specs.Boards.{block_of}
 use Rattle.reader.specs.Sections.{kind_of}
 use Prim.Native.Nat.{ℕ, ◌+◌}
@@ -110,7 +112,7 @@ module _ (c : Conventions) (r : List ℕ) {A : Type 0} (R : List Entry → Board
       silent s (data_added s p d) refl (maybe_tags (eqb (kind_of s.section) 0) (entry 5 (p + d.start) d.len (kind_of s.section)) (λ u. omega arith)) (leaves_all s.board)
 
   module _ (p : ℕ) (s : State) (l : List ℕ) (i : LineAt r p l) where
-    tagged_follows : (q : ℕ) (t : TagPlaces) (split : Span) → TagInside t (length l) → Follows s (tagged c s p l q t split)
+    tagged_follows : (q : ℕ) (t : TagPlaces) (split : Option Span) → TagInside t (length l) → Follows s (tagged c s p l q t split)
     unfolding tagged item_of
     tagged_follows q t split j =
         let x = entry 1 (p + t.name.start) t.name.len 0 in
@@ -130,8 +132,8 @@ module _ (c : Conventions) (r : List ℕ) {A : Type 0} (R : List Entry → Board
         let o = tagged c s p l q t no_span in
         together_follows s o (directed o.state p d) (tagged_follows q t no_span j.0) (directed_follows o.state p d)
     reading_follows q (WithData t d) j =
-        let o = tagged c s p l q t (at p d) in
-        together_follows s o (data_added o.state p d) (tagged_follows q t (at p d) j.0) (data_follows o.state p d)
+        let o = tagged c s p l q t (Some (at p d)) in
+        together_follows s o (data_added o.state p d) (tagged_follows q t (Some (at p d)) j.0) (data_follows o.state p d)
 
     line_follows : (t : TagReading) → line_kind l ≡ TagOn t → Follows s (read_by c s p l (p + length l) t)
     line_follows t k =

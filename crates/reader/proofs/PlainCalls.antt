@@ -1,4 +1,6 @@
 -- The calls of a plain board can be written: codes are those of calls, and an annotation starts with a mark and has no white space.
+use Rattle.std.specs.Prelude.{None}
+use Rattle.std.specs.Prelude.{Some}
 use Rattle.reader.specs.Boards.{block_of}
 use Rattle.std.specs.Prelude.{Option}
 use Prim.Native.Nat.{ℕ, zero, suc, ◌+◌, ◌-◌, ◌≤◌, ◌<◌}
@@ -271,10 +273,9 @@ lines_stand r commentary p (l ∷ ls) e =
     let b = lines_stand r (commentary_after commentary l) (p + length l) ls n.rest in
     by_cases (stops_at commentary l) (λ t. rw t none) (λ t. rw t (all_append a b))
 
-split_stands : (r : List ℕ) (s : Span) → All (Stands r) (split_piece r s)
-split_stands r s =
-    chosen (λ qs. All (Stands r) qs) (eqb s.len 0) [] (record { at = s.start; bytes = cut s r } ∷ []) (λ e. none)
-    (λ e. one {x = record { at = s.start; bytes = cut s r }} (record { stands = sym (taken_len s.len (drop s.start r)) }) none)
+split_stands : (r : List ℕ) (s : Option Span) → All (Stands r) (split_piece r s)
+split_stands r None = none
+split_stands r (Some s) = one {x = record { at = s.start; bytes = cut s r }} (record { stands = sym (taken_len s.len (drop s.start r)) }) none
 
 section_stands : (r : List ℕ) (o : Option Open) → All (Stands r) (section_data r o)
 unfolding section_data
@@ -327,7 +328,7 @@ blocked_calls r s i j = maybe_one r (is_all_white r i j) 4 i (j - i) s.tags (ome
 data_calls : (r : List ℕ) (s : State) (p : ℕ) (d : Span) → All (CallGood r) (data_added s p d).entries
 data_calls r s p d = maybe_one r (eqb (kind_of s.section) 0) 5 (p + d.start) d.len (kind_of s.section) (omega arith)
 
-tagged_calls : (c : Conventions) (r : List ℕ) (s : State) (p : ℕ) (l : List ℕ) (q : ℕ) (t : TagPlaces) (split : Span) → All (CallGood r) (tagged c s p l q t split).entries
+tagged_calls : (c : Conventions) (r : List ℕ) (s : State) (p : ℕ) (l : List ℕ) (q : ℕ) (t : TagPlaces) (split : Option Span) → All (CallGood r) (tagged c s p l q t split).entries
 unfolding tagged
 tagged_calls c r s p l q t split =
     one (plain_one r 1 (p + t.name.start) t.name.len 0 (omega arith)) (one (plain_one r 2 (p + t.value.start) t.value.len 0 (omega arith)) none)
@@ -336,7 +337,7 @@ reading_calls : (c : Conventions) (r : List ℕ) (s : State) (p : ℕ) (l : List
 reading_calls c r s p l q (Plain t) = tagged_calls c r s p l q t no_span
 reading_calls c r s p l q (WithComment t d) =
     all_append (tagged_calls c r s p l q t no_span) (one (plain_one r 3 (p + d.start) d.len (tagged c s p l q t no_span).state.tags (omega arith)) none)
-reading_calls c r s p l q (WithData t d) = all_append (tagged_calls c r s p l q t (at p d)) (data_calls r (tagged c s p l q t (at p d)).state p d)
+reading_calls c r s p l q (WithData t d) = all_append (tagged_calls c r s p l q t (Some (at p d))) (data_calls r (tagged c s p l q t (Some (at p d))).state p d)
 
 -- THEOREM. Every call and every annotation of a record can be written.
 pub CallsGood : (c : Conventions) (r : List ℕ) → All (CallGood r) (record_out c r).entries

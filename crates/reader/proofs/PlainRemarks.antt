@@ -1,4 +1,5 @@
 -- The directives and the blocks of a plain board can be written: a directive stands on one line, and no block ends before its last line.
+use Rattle.std.specs.Prelude.{Option}
 use Rattle.reader.specs.Boards.{in_block, block_of}
 use Rattle.reader.specs.Sections.{kind_of}
 use Prim.Native.Nat.{ℕ, zero, suc, ◌+◌, ◌-◌, ◌≤◌, ◌<◌}
@@ -358,7 +359,7 @@ module _ (c : Conventions) (r : List ℕ) (p : ℕ) (s : State) (l : List ℕ) (
       chosen (λ es. All (RemarkGood r) es) (eqb (kind_of t.section) 0) [] (entry 5 (p + d.start) d.len (kind_of t.section) ∷ []) (λ e. none)
       (λ e. one {x = entry 5 (p + d.start) d.len (kind_of t.section)} (neither_good r _ (λ u. omega arith) (λ u. omega arith)) none)
 
-  tagged_good : (q : ℕ) (t : TagPlaces) (split : Span) → All (RemarkGood r) (tagged c s p l q t split).entries
+  tagged_good : (q : ℕ) (t : TagPlaces) (split : Option Span) → All (RemarkGood r) (tagged c s p l q t split).entries
   unfolding tagged
   tagged_good q t split =
       one {x = entry 1 (p + t.name.start) t.name.len 0} (neither_good r _ (λ u. omega arith) (λ u. omega arith))
@@ -369,7 +370,7 @@ module _ (c : Conventions) (r : List ℕ) (p : ℕ) (s : State) (l : List ℕ) (
   reading_good q (WithComment t d) k j =
       all_append (tagged_good q t no_span)
       (one {x = entry 3 (p + d.start) d.len (tagged c s p l q t no_span).state.tags} (directive_at d (tagged c s p l q t no_span).state.tags j.1 (comment_good l t d (line_feed r p l i) k)) none)
-  reading_good q (WithData t d) k j = all_append (tagged_good q t (at p d)) (data_good (tagged c s p l q t (at p d)).state d)
+  reading_good q (WithData t d) k j = all_append (tagged_good q t (Some (at p d))) (data_good (tagged c s p l q t (Some (at p d))).state d)
 
   reading_closed : (q : ℕ) (t : TagReading) → in_block (read_by c s p l q t).state ≡ false
   unfolding tagged

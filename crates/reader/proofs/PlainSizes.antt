@@ -1,5 +1,6 @@
 -- How large a plain board is: its tags, directives and blocks have at most three times the bytes of its record, and its tags, calls and
 -- tricks are at most four for each byte.
+use Rattle.std.specs.Prelude.{Option}
 use Rattle.reader.specs.Boards.{in_block, block_of}
 use Rattle.std.specs.Prelude.{Some}
 use Rattle.reader.specs.Sections.{kind_of}
@@ -124,11 +125,11 @@ opening_sized p s l = record { fits = λ i. omega arith; next = λ i. omega (ari
 data_size_lem : (s : State) (p : ℕ) (d : Span) → size_in (data_added s p d).entries ≡ 0
 data_size_lem s p d = chosen (λ es. size_in es ≡ 0) (eqb (kind_of s.section) 0) [] (entry 5 (p + d.start) d.len (kind_of s.section) ∷ []) (λ e. refl) (λ e. refl)
 
-tagged_size : (c : Conventions) (s : State) (p : ℕ) (l : List ℕ) (q n : ℕ) (t : TagPlaces) (split : Span) → TagInside t n → size_in (tagged c s p l q t split).entries ≤ 2 * n
+tagged_size : (c : Conventions) (s : State) (p : ℕ) (l : List ℕ) (q n : ℕ) (t : TagPlaces) (split : Option Span) → TagInside t n → size_in (tagged c s p l q t split).entries ≤ 2 * n
 unfolding tagged
 tagged_size c s p l q n t split i = omega (arith, i.name_inside, i.value_inside)
 
-pub tagged_commentary : (c : Conventions) (s : State) (p : ℕ) (l : List ℕ) (q : ℕ) (t : TagPlaces) (split : Span) → in_block (tagged c s p l q t split).state ≡ false
+pub tagged_commentary : (c : Conventions) (s : State) (p : ℕ) (l : List ℕ) (q : ℕ) (t : TagPlaces) (split : Option Span) → in_block (tagged c s p l q t split).state ≡ false
 unfolding tagged
 tagged_commentary c s p l q t split = refl
 
@@ -140,9 +141,9 @@ reading_sized c p s l q (WithComment t d) i =
     flat_sized p (length l) s (read_by c s p l q (WithComment t d)) (tagged_commentary c s p l q t no_span)
     (rw size_append (omega (arith, tagged_size c s p l q (length l) t no_span i.0, i.1)))
 reading_sized c p s l q (WithData t d) i =
-    let o = tagged c s p l q t (at p d) in
-    flat_sized p (length l) s (read_by c s p l q (WithData t d)) (tagged_commentary c s p l q t (at p d))
-    (rw size_append (omega (arith, tagged_size c s p l q (length l) t (at p d) i.0, data_size_lem o.state p d)))
+    let o = tagged c s p l q t (Some (at p d)) in
+    flat_sized p (length l) s (read_by c s p l q (WithData t d)) (tagged_commentary c s p l q t (Some (at p d)))
+    (rw size_append (omega (arith, tagged_size c s p l q (length l) t (Some (at p d)) i.0, data_size_lem o.state p d)))
 
 kind_inside : (l : List ℕ) (k : Line) → line_kind l ≡ k → LinePlaced k (length l)
 kind_inside l k e = rw e at (LineInside l)

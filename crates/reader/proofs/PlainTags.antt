@@ -1,4 +1,5 @@
 -- The tags of a plain board: each value is the entry behind its name, and every name and value can be written.
+use Rattle.std.specs.Prelude.{Option}
 use Rattle.reader.specs.Boards.{block_of}
 use Rattle.reader.specs.Sections.{kind_of}
 use Prim.Native.Nat.{ℕ, ◌+◌, ◌-◌}
@@ -210,7 +211,7 @@ abbrev pub GoodTag : List ℕ → Entry → Entry → Type 0
 GoodTag r a b = Good (bytes_of r a) (bytes_of r b)
 
 module _ (c : Conventions) (r : List ℕ) (p : ℕ) (s : State) (l : List ℕ) (i : LineAt r p l) where
-  tagged_paired : (q : ℕ) (t : TagPlaces) (split : Span) → TagInside t (length l) → Good (cut t.name l) (cut t.value l) → Paired (GoodTag r) (tagged c s p l q t split).entries
+  tagged_paired : (q : ℕ) (t : TagPlaces) (split : Option Span) → TagInside t (length l) → Good (cut t.name l) (cut t.value l) → Paired (GoodTag r) (tagged c s p l q t split).entries
   unfolding tagged
   tagged_paired q t split j g =
       let n = PartPlaced r l p t.name.start t.name.len i.bytes j.name_inside in
@@ -220,7 +221,7 @@ module _ (c : Conventions) (r : List ℕ) (p : ℕ) (s : State) (l : List ℕ) (
   reading_paired : (q : ℕ) (t : TagReading) → ReadingPlaced t (length l) → Good (cut (tag_in t).name l) (cut (tag_in t).value l) → Paired (GoodTag r) (read_by c s p l q t).entries
   reading_paired q (Plain t) j g = tagged_paired q t no_span j g
   reading_paired q (WithComment t d) j g = paired_append (tagged_paired q t no_span j.0 g) (other (λ u. omega arith) (λ u. omega arith) over)
-  reading_paired q (WithData t d) j g = paired_append (tagged_paired q t (at p d) j.0 g) (data_paired (tagged c s p l q t (at p d)).state p d)
+  reading_paired q (WithData t d) j g = paired_append (tagged_paired q t (Some (at p d)) j.0 g) (data_paired (tagged c s p l q t (Some (at p d))).state p d)
 
   line_paired : (t : TagReading) → line_kind l ≡ TagOn t → Paired (GoodTag r) (read_by c s p l (p + length l) t).entries
   line_paired t k =

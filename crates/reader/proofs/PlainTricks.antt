@@ -1,4 +1,5 @@
 -- The tricks of a plain board: a trick's slots are those that were played, and each is empty or a card.
+use Rattle.std.specs.Prelude.{Some}
 use Rattle.reader.specs.Boards.{block_of}
 use Rattle.std.specs.Prelude.{Option}
 use Prim.Native.Nat.{ℕ, ◌+◌, ◌-◌, ◌*◌, ◌/◌, ◌%◌, ◌≤◌}
@@ -222,7 +223,7 @@ blocked_tricks r s i j = maybe_one (is_all_white r i j) 4 i (j - i) s.tags (omeg
 data_tricks : (s : State) (p : ℕ) (d : Span) → All TrickGood (data_added s p d).entries
 data_tricks s p d = maybe_one (eqb (kind_of s.section) 0) 5 (p + d.start) d.len (kind_of s.section) (omega arith)
 
-tagged_tricks : (c : Conventions) (s : State) (p : ℕ) (l : List ℕ) (q : ℕ) (t : TagPlaces) (split : Span) → All TrickGood (tagged c s p l q t split).entries
+tagged_tricks : (c : Conventions) (s : State) (p : ℕ) (l : List ℕ) (q : ℕ) (t : TagPlaces) (split : Option Span) → All TrickGood (tagged c s p l q t split).entries
 unfolding tagged
 tagged_tricks c s p l q t split =
     one (low_one 1 (p + t.name.start) t.name.len 0 (omega arith)) (one (low_one 2 (p + t.value.start) t.value.len 0 (omega arith)) none)
@@ -231,7 +232,7 @@ reading_tricks : (c : Conventions) (s : State) (p : ℕ) (l : List ℕ) (q : ℕ
 reading_tricks c s p l q (Plain t) = tagged_tricks c s p l q t no_span
 reading_tricks c s p l q (WithComment t d) =
     all_append (tagged_tricks c s p l q t no_span) (one (low_one 3 (p + d.start) d.len (tagged c s p l q t no_span).state.tags (omega arith)) none)
-reading_tricks c s p l q (WithData t d) = all_append (tagged_tricks c s p l q t (at p d)) (data_tricks (tagged c s p l q t (at p d)).state p d)
+reading_tricks c s p l q (WithData t d) = all_append (tagged_tricks c s p l q t (Some (at p d))) (data_tricks (tagged c s p l q t (Some (at p d))).state p d)
 
 -- THEOREM. Every slot of every trick of a record is empty or a card.
 pub TricksGood : (c : Conventions) (r : List ℕ) → All TrickGood (record_out c r).entries

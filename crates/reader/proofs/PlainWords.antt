@@ -129,7 +129,7 @@ put_in k place n v p (one a (one b (one c (one d (one e (one f (one g (one h (on
     (one (low (eqb k 9) v.contract e) (one (low (eqb k 11) v.north f) (one (low (eqb k 12) v.east g) (one (low (eqb k 13) v.south h)
     (one (low (eqb k 14) v.west i) (one (low (eqb k 4) v.deal j) (one (low (eqb k 20) v.score l) (one (low (eqb k 21) v.par m) none)))))))))))
 
-tagged_refers : (c : Conventions) (s : State) (p : ℕ) (l : List ℕ) (q : ℕ) (t : TagPlaces) (split : Span) → Refers s.n s.board → Refers (s.n + 2) (tagged c s p l q t split).state.board
+tagged_refers : (c : Conventions) (s : State) (p : ℕ) (l : List ℕ) (q : ℕ) (t : TagPlaces) (split : Option Span) → Refers s.n s.board → Refers (s.n + 2) (tagged c s p l q t split).state.board
 unfolding tagged applied values_by
 tagged_refers c s p l q t split h =
     let k = tag_number (cut t.name l) in
@@ -148,7 +148,7 @@ reading_refers : (c : Conventions) (s : State) (p : ℕ) (l : List ℕ) (q : ℕ
 unfolding tagged
 reading_refers c s p l q (Plain t) h = tagged_refers c s p l q t no_span h
 reading_refers c s p l q (WithComment t d) h = refers_more {b = (tagged c s p l q t no_span).state.board} (omega arith) (tagged_refers c s p l q t no_span h)
-reading_refers c s p l q (WithData t d) h = refers_more {b = (tagged c s p l q t (at p d)).state.board} (omega arith) (tagged_refers c s p l q t (at p d) h)
+reading_refers c s p l q (WithData t d) h = refers_more {b = (tagged c s p l q t (Some (at p d))).state.board} (omega arith) (tagged_refers c s p l q t (Some (at p d)) h)
 
 -- ---- a record
 

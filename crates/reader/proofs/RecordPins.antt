@@ -78,7 +78,7 @@ after_second_blank = refl
 
 -- The data of a section: what was split off its tag line, then its data lines, past directives, commentary and `[` lines that are no
 -- tags, up to the next tag.
-play_data : section_data (ascii "[Play \"W\"]SJ\nS2 S3\n;x\n{y\n}\n[Z]\nS4\n[B \"c\"]\nS5") (Some (record { kind = Play 3; at = 13; split = record { start = 10; len = 2 } }))
+play_data : section_data (ascii "[Play \"W\"]SJ\nS2 S3\n;x\n{y\n}\n[Z]\nS4\n[B \"c\"]\nS5") (Some (record { kind = Play 3; at = 13; split = Some (record { start = 10; len = 2 }) }))
     ≡ piece 10 (ascii "SJ") ∷ piece 13 (ascii "S2 S3") ∷ piece 31 (ascii "S4") ∷ []
 unfolding is_white trimmed trim_span trim_part bracket_of ends_quoted name_of is_quoted value_of is_comment comment_of tag_line data_bracket data_after split_of is_blank has_brace split_line bracket_line line_kind commentary_after stops_at piece_of section_data
 play_data = refl

@@ -124,17 +124,17 @@ lines_walked c r s p (l ∷ ls) e o =
 -- ---- the tag's line
 
 -- An open section that starts at q, with what was split off its tag's line.
-record Starts (q : ℕ) (split : Span) (o : Option Open) : Type 0 where
+record Starts (q : ℕ) (split : Option Span) (o : Option Open) : Type 0 where
   starts : eqb (kind_of o) 0 ≡ false → (lines_at o ≡ q) × (split_off o ≡ split)
 
-none_starts : (q : ℕ) (split : Span) → Starts q split no_open
+none_starts : (q : ℕ) (split : Option Span) → Starts q split no_open
 none_starts q split = record { starts = λ h. clash (sym h) }
 
-seat_starts : (kind : ℕ → Kind) (seat q : ℕ) (split : Span) → Starts q split (seat_open kind seat q split)
+seat_starts : (kind : ℕ → Kind) (seat q : ℕ) (split : Option Span) → Starts q split (seat_open kind seat q split)
 seat_starts kind seat q split =
     chosen (Starts q split) (ltb seat 4) (Some (record { kind = kind seat; at = q; split = split })) no_open (λ e. record { starts = λ h. (refl, refl) }) (λ e. none_starts q split)
 
-open_starts : (c : Conventions) (k : ℕ) (value : List ℕ) (q : ℕ) (split : Span) → Starts q split (open_by c k value q split)
+open_starts : (c : Conventions) (k : ℕ) (value : List ℕ) (q : ℕ) (split : Option Span) → Starts q split (open_by c k value q split)
 unfolding open_by
 open_starts c k value q split =
     let seat = seat_of c (first_character value) in
@@ -160,9 +160,8 @@ module _ (c : Conventions) (r : List ℕ) (s : State) (p : ℕ) (l : List ℕ) (
       let a = (open_starts c (tag_number (cut t.name l)) (cut t.value l) q no_span).starts o in
       record { commentary_off = refl; lines_at = a.0; split_is = ap (split_piece r) (sym a.1) }
   reading_opens (WithData t d) j o =
-      let a = (open_starts c (tag_number (cut t.name l)) (cut t.value l) q (at p d)).starts o in
-      let e : split_piece r (at p d) ≡ record { at = p + d.start; bytes = cut (at p d) r } ∷ [] = rw j.1 in
-      record { commentary_off = refl; lines_at = a.0; split_is = rw o (sym e) ∙ ap (split_piece r) (sym a.1) }
+      let a = (open_starts c (tag_number (cut t.name l)) (cut t.value l) q (Some (at p d))).starts o in
+      record { commentary_off = refl; lines_at = a.0; split_is = rw o refl ∙ ap (split_piece r) (sym a.1) }
 
   closed_opens : (t : TagReading) → Opened r q (read_by c (closed c r s).state p l q t) → Opened r q (and_then (closed c r s) (read_by c (closed c r s).state p l q t))
   closed_opens t h =

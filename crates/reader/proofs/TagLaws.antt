@@ -1,7 +1,7 @@
 -- Laws of tags.
 use Prim.Native.Nat.{ℕ, zero, suc, ◌+◌, ◌-◌, ◌≤◌, ◌<◌}
 use mathlib.Core.Path.{◌≡◌, refl, sym, ap, ◌∙◌}
-use mathlib.Core.Bool.{Bool, true, false, cond, ◌&&◌}
+use mathlib.Core.Bool.{Bool, true, false, cond, ◌&&◌, ◌||◌}
 use mathlib.Core.List.{List, [], ◌∷◌, ◌++◌}
 use native.Mathlib.Numerals.{add-one}
 use native.Mathlib.Omega.{arith}
@@ -16,6 +16,7 @@ use Rattle.tables.proofs.TextLaws.{drop_front, front_few}
 use Rattle.reader.specs.declared.tag.Span.{Span}
 use Rattle.std.specs.Prelude.{Option, Some, None, is_some, unwrap_or}
 use Rattle.std.specs.Bool.{then_some}
+use Rattle.std.specs.List.{list_any}
 use Rattle.reader.specs.Tag.{part, last_after, last_byte, trim_part, trim_span, ends_quoted, close_at, is_quoted, find_at}
 
 -- ---- bytes
@@ -32,9 +33,9 @@ pub last_get : (s : List ℕ) → get_or s (length s - 1) 0 ≡ last_byte s
 last_get [] = refl
 last_get (b ∷ bs) = last_at (b ∷ bs) (length (b ∷ bs)) refl (λ e. omega arith)
 
-pub among_before : (x : ℕ) (s : List ℕ) → ltb (length (before x s)) (length s) ≡ among x s
-among_before x [] = refl
-among_before x (b ∷ bs) = by_cases (eqb b x) (λ e. rw e (lt-ltb 0 (suc (length bs)) (omega arith))) (λ e. rw (e, leb-suc-suc) (among_before x bs))
+pub among_any : (x : ℕ) (s : List ℕ) → list_any (λ y. eqb y x) s ≡ among x s
+among_any x [] = refl
+among_any x (b ∷ bs) = ap (λ (k : Bool). eqb b x || k) (among_any x bs)
 
 -- The byte behind a front is the first of what follows it.
 pub byte_front : (p : ℕ → Bool) (s : List ℕ) → get_or s (length (front p s)) 0 ≡ get_or (beyond p s) 0 0

@@ -1,4 +1,5 @@
 -- Laws of a tag's line.
+use Rattle.reader.specs.Sections.{span_of}
 use Rattle.reader.specs.Boards.{in_block, block_of}
 use Rattle.std.specs.Prelude.{Some, None}
 use Rattle.std.specs.Prelude.{Option}
@@ -55,10 +56,10 @@ counted_sound n k =
 
 -- ---- a tag
 
-opened_sound : (c : Conventions) (k : ℕ) (value : List ℕ) (p q : ℕ) (split : Span) (s t : State) →
+opened_sound : (c : Conventions) (k : ℕ) (value : List ℕ) (p q : ℕ) (split : Option Span) (s t : State) →
     Sound p s →
     p ≤ q →
-    split.start + split.len ≤ q →
+    (span_of split).start + (span_of split).len ≤ q →
     t.section ≡ open_by c k value q split →
     block_of t ≤ q + 1 →
     Sound q t
@@ -72,10 +73,10 @@ opened_sound c k value p q split s t h pq sq e b =
 
 -- A tag's step from its parts: its two entries, its board and its section.
 pub tag_stepped :
-    (c : Conventions) (l : List ℕ) (t : Tag) (split : Span) {s : State} {p q k : ℕ} {name value : List ℕ} {e e' e'' : Entries} {board : Board} {section : Option Open} →
+    (c : Conventions) (l : List ℕ) (t : Tag) (split : Option Span) {s : State} {p q k : ℕ} {name value : List ℕ} {e e' e'' : Entries} {board : Board} {section : Option Open} →
     Sound p s →
     p ≤ q →
-    split.start + split.len ≤ q →
+    (span_of split).start + (span_of split).len ≤ q →
     Adds e e' (entry 1 (p + t.name.start) t.name.len 0 ∷ []) →
     Adds e' e'' (entry 2 (p + t.value.start) t.value.len 0 ∷ []) →
     name ≡ cut t.name l →
@@ -116,7 +117,7 @@ pub read_data :
     (c : Conventions) (s : State) (p : ℕ) (l : List ℕ) {q : ℕ} {r r' : State} {e e' e'' : Entries} {t : TagReading} {x : Tag} {d split : Span} →
     t ≡ WithData x d →
     split ≡ at p d →
-    Stepped q e e' r (tagged c s p l q x split) →
+    Stepped q e e' r (tagged c s p l q x (Some split)) →
     Emits e' e'' r' (data_added r p d) →
     Stepped q e e'' r' (read_by c s p l q t)
 read_data c s p l {d = d} et es h f = rw et (stepped_then (λ (x : State). data_entries x.section p d) (rw es at h) f)

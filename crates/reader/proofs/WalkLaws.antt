@@ -1,12 +1,17 @@
 -- Laws of walking a section's data.
+use Rattle.reader.specs.declared.tag.Span.{Span}
+use Rattle.reader.specs.Tag.{cut}
+use Rattle.reader.specs.PieceSteps.{piece}
+use Rattle.std.specs.Prelude.{None}
+use Rattle.reader.specs.Sections.{span_of}
 use Rattle.reader.specs.declared.section.Kind.TheVariants.{Auction, Play, Optimum}
 use Rattle.std.specs.Prelude.{Option, Some}
 use Prim.Native.Nat.{ℕ, ◌+◌, ◌-◌, ◌*◌, ◌≤◌}
 use mathlib.Core.Path.{◌≡◌, refl, sym, ap, ◌∙◌}
-use mathlib.Core.List.{List, [], ◌∷◌, ◌++◌, append_assoc}
+use mathlib.Core.List.{List, [], ◌∷◌, ◌++◌, append_assoc, append-nil}
 use native.Mathlib.Omega.{arith}
 use lib.Dec.{eqb}
-use lib.ListN.{length}
+use lib.ListN.{length, length-take}
 use Rattle.tables.specs.declared.letters.Conventions.{Conventions}
 use Rattle.tables.specs.Tables.{row_of}
 use Rattle.tables.proofs.Laws.{by_cases}
@@ -107,9 +112,26 @@ pub record Walking (c : Conventions) (r : List ℕ) (o : Option Open) (trump : �
   pub left : ToEmit (walked c o trump) l₀ (walked_all c r o trump) l w (data_from r at)
   pub counted : l.count ≡ l₀.count + walk_count w
   pub seated : Seated w.tricks
-  pub few : walk_count w ≤ 3 * ((split_off o).len + (at - (lines_at o)))
+  pub few : walk_count w ≤ 3 * ((span_of (split_off o)).len + (at - (lines_at o)))
   pub from_at : lines_at o ≤ at
   pub inside : at ≤ length r
+
+module _ (c : Conventions) (r : List ℕ) (o : Option Open) (trump : ℕ) where
+  length_cut : (d : Span) → length (cut d r) ≤ d.len
+  length_cut d = rw length-take (omega arith)
+
+  pub span_walked : (w w' : Walk) (l l' : Entries) (d : Span) {s : List ℕ} → s ≡ cut d r → Walks (walk_count w + 3 * length s) l l' w' (walked c o trump w (piece d.start s))
+      → Walks (walk_count w + 3 * d.len) l l' w' (out_all (walked c o trump) w (split_piece r (Some d)))
+  span_walked w w' l l' d e k =
+      let h = rw e at k in
+      record {
+        emits = record { answer = h.emits.answer; adds = rw append-nil h.emits.adds };
+        seated = h.seated;
+        few = omega (arith, h.few, length_cut d);
+      }
+
+  pub none_walked : (w : Walk) (l : Entries) → Seated w.tricks → Walks (walk_count w + 3 * 0) l l w (out_all (walked c o trump) w (split_piece r None))
+  none_walked w l s = record { emits = record { answer = refl; adds = adds_none l }; seated = s; few = omega arith }
 
 module _ (c : Conventions) (r : List ℕ) (o : Option Open) (trump : ℕ) (l₀ : Entries) where
   all_left : ToEmit (walked c o trump) l₀ (walked_all c r o trump) l₀ no_walk (split_piece r (split_off o) ++ lines_data r o)
@@ -118,7 +140,7 @@ module _ (c : Conventions) (r : List ℕ) (o : Option Open) (trump : ℕ) (l₀ 
 
   -- What was split off the tag line is walked.
   pub walking : (w₀ w : Walk) (l : Entries) → w₀ ≡ no_walk → lines_at o ≤ length r
-      → Walks (walk_count w₀ + 3 * (split_off o).len) l₀ l w (out_all (walked c o trump) w₀ (split_piece r (split_off o))) → Walking c r o trump l₀ w (lines_at o) l
+      → Walks (walk_count w₀ + 3 * (span_of (split_off o)).len) l₀ l w (out_all (walked c o trump) w₀ (split_piece r (split_off o))) → Walking c r o trump l₀ w (lines_at o) l
   walking w₀ w l e h k =
       let t : ToEmit (walked c o trump) l₀ (walked_all c r o trump) l₀ w₀ (split_piece r (split_off o) ++ data_from r (lines_at o)) = rw e all_left in
       record {
@@ -132,10 +154,10 @@ module _ (c : Conventions) (r : List ℕ) (o : Option Open) (trump : ℕ) (l₀ 
 
   pub walk_on : (w : Walk) (at : ℕ) (l : Entries) (w' : Walk) (next : Next) (l' : Entries)
       → Walking c r o trump l₀ w at l
-      → Walks (walk_count w + 3 * next.piece.len) l l' w' (out_all (walked c o trump) w (split_piece r next.piece))
+      → Walks (walk_count w + 3 * next.piece.len) l l' w' (out_all (walked c o trump) w (split_piece r (Some next.piece)))
       → PieceFrom r at next → Walking c r o trump l₀ w' next.at l'
   walk_on w at l w' next l' v k q =
-      let ps : List Piece = split_piece r next.piece in
+      let ps : List Piece = split_piece r (Some next.piece) in
       let t : ToEmit (walked c o trump) l₀ (walked_all c r o trump) l w (ps ++ data_from r next.at) = rw q.data_lines at v.left in
       record {
         left = emitting_run (walked c o trump) l₀ (walked_all c r o trump) l w ps (data_from r next.at) l' w' t k.emits;
@@ -147,5 +169,5 @@ module _ (c : Conventions) (r : List ℕ) (o : Option Open) (trump : ℕ) (l₀ 
       }
 
   pub walk_ended : (w : Walk) (at : ℕ) (l : Entries) → Walking c r o trump l₀ w at l → data_from r at ≡ []
-      → Walks (3 * ((split_off o).len + (length r - (lines_at o)))) l₀ l w (walked_all c r o trump)
+      → Walks (3 * ((span_of (split_off o)).len + (length r - (lines_at o)))) l₀ l w (walked_all c r o trump)
   walk_ended w at l v e = record { emits = emitted (rw e at v.left); seated = v.seated; few = omega (arith, v.few, v.inside) }

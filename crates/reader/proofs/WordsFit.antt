@@ -348,7 +348,7 @@ record Opens (o : Option Open) : Type 0 where
   seat_in : opener o ≤ 4
   kind_in : kind_of o ≤ 3
 
-open_low : (c : Conventions) (k : ℕ) (value : List ℕ) (q : ℕ) (split : Span) → Opens (open_by c k value q split)
+open_low : (c : Conventions) (k : ℕ) (value : List ℕ) (q : ℕ) (split : Option Span) → Opens (open_by c k value q split)
 unfolding open_by
 open_low c k value q split =
     let seat = seat_of c (first_character value) in
@@ -363,7 +363,7 @@ open_low c k value q split =
     chosen (λ x. Opens x) (eqb k 16) (seat_open Play seat q split) (cond (eqb k 19) rows no_open) (λ f. seated Play (omega arith) (seat_low c (first_character value)))
     (λ f. chosen (λ x. Opens x) (eqb k 19) rows no_open (λ g. record { seat_in = omega arith; kind_in = omega arith }) (λ g. none_open)))
 
-tagged_step : (c : Conventions) (s : State) (p : ℕ) (l : List ℕ) (q : ℕ) (t : TagPlaces) (split : Span) → Ready s → Step Ready (tagged c s p l q t split)
+tagged_step : (c : Conventions) (s : State) (p : ℕ) (l : List ℕ) (q : ℕ) (t : TagPlaces) (split : Option Span) → Ready s → Step Ready (tagged c s p l q t split)
 unfolding tagged applied contract_by
 tagged_step c s p l q t split h =
     let k = tag_number (cut t.name l) in
@@ -421,8 +421,8 @@ reading_step c s p l q (WithComment t d) h =
     let a = tagged_step c s p l q t no_span h in
     then_step o (directed o.state p d) a (directed_step o.state p d a.left)
 reading_step c s p l q (WithData t d) h =
-    let o = tagged c s p l q t (at p d) in
-    let a = tagged_step c s p l q t (at p d) h in
+    let o = tagged c s p l q t (Some (at p d)) in
+    let a = tagged_step c s p l q t (Some (at p d)) h in
     then_step o (data_added o.state p d) a (data_step o.state p d a.left)
 
 -- ---- a record

@@ -1,6 +1,7 @@
 -- Parts of a line's step, and what the functions that read a line promise of the state after it.
+use Rattle.reader.specs.Sections.{span_of}
 use Rattle.reader.specs.Boards.{block_of}
-use Rattle.std.specs.Prelude.{ℕ, ◌+◌, ◌≤◌, ◌≡◌, [], Some, None, length}
+use Rattle.std.specs.Prelude.{ℕ, ◌+◌, ◌≤◌, ◌≡◌, [], Option, Some, None, length}
 use Rattle.tables.specs.Numbers.{Number}
 use Rattle.reader.specs.Sections.{lines_at, split_off}
 use Rattle.reader.specs.declared.tag.Span.{Span}
@@ -20,10 +21,10 @@ met_words None = (0, 0)
 met_words (Some v) = (1, v)
 
 -- What is split off a tag line as section data.
-abbrev pub split_in : ℕ → TagReading → Span
+abbrev pub split_in : ℕ → TagReading → Option Span
 split_in p (Plain t) = no_span
 split_in p (WithComment t d) = no_span
-split_in p (WithData t d) = at p d
+split_in p (WithData t d) = Some (at p d)
 
 -- A line that adds nothing.
 abbrev pub unchanged : State → Out State
@@ -33,7 +34,7 @@ unchanged s = record { state = s; entries = [] }
 
 pub record Sound (p : ℕ) (s : State) : Type 0 where
   pub lines_before : lines_at s.section ≤ p
-  pub split_before : (split_off s.section).start + (split_off s.section).len ≤ p
+  pub split_before : (span_of (split_off s.section)).start + (span_of (split_off s.section)).len ≤ p
   pub block_before : block_of s ≤ p + 1
 
 -- The contract of a step: its answer and its entries, and what holds after it at q.

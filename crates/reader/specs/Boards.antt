@@ -137,18 +137,18 @@ applied c k value place b =
 
 -- ---- sections
 
-abbrev pub no_span : Span
-no_span = record { start = 0; len = 0 }
+abbrev pub no_span : Option Span
+no_span = None
 
 abbrev pub no_open : Option Open
 no_open = None
 
 -- A section with a seat: none where the seat is bad.
-abbrev pub seat_open : (ℕ → Kind) → ℕ → ℕ → Span → Option Open
+abbrev pub seat_open : (ℕ → Kind) → ℕ → ℕ → Option Span → Option Open
 seat_open kind seat at split = cond (ltb seat 4) (Some (record { kind = kind seat; at = at; split = split })) no_open
 
 -- Auction, Play and OptimumResultTable open a section; at is where the lines after the tag start.
-unfoldable pub open_by : Conventions → ℕ → List ℕ → ℕ → Span → Option Open
+unfoldable pub open_by : Conventions → ℕ → List ℕ → ℕ → Option Span → Option Open
 open_by c k value at split =
     cond (eqb k auction_name) (seat_open Auction (seat_of c (first_character value)) at split)
     (cond (eqb k play_name) (seat_open Play (seat_of c (first_character value)) at split)
@@ -214,7 +214,7 @@ abbrev pub adding : State → List Entry → Out State
 adding s es = record { state = counted_state s (length es); entries = es }
 
 -- A tag, once open sections are closed: its name, its value, and what its value does. p is the line's place, q the next line's.
-unfoldable pub tagged : Conventions → State → ℕ → List ℕ → ℕ → Tag → Span → Out State
+unfoldable pub tagged : Conventions → State → ℕ → List ℕ → ℕ → Tag → Option Span → Out State
 tagged c s p l q t split =
     record {
       state = record {
@@ -247,7 +247,7 @@ at p d = record { start = p + d.start; len = d.len }
 abbrev pub read_by : Conventions → State → ℕ → List ℕ → ℕ → TagReading → Out State
 read_by c s p l q (Plain t) = tagged c s p l q t no_span
 read_by c s p l q (WithComment t d) = and_then (tagged c s p l q t no_span) (directed (tagged c s p l q t no_span).state p d)
-read_by c s p l q (WithData t d) = and_then (tagged c s p l q t (at p d)) (data_added (tagged c s p l q t (at p d)).state p d)
+read_by c s p l q (WithData t d) = and_then (tagged c s p l q t (Some (at p d))) (data_added (tagged c s p l q t (Some (at p d))).state p d)
 
 unfoldable pub tag_line_out : Conventions → List ℕ → State → ℕ → List ℕ → TagReading → Out State
 tag_line_out c r s p l t = and_then (closed c r s) (read_by c (closed c r s).state p l (p + length l) t)

@@ -1,30 +1,12 @@
 -- How the code walks the data of a section, and what its functions promise.
-use Rattle.std.specs.Prelude.{ℕ, ◌+◌, ◌≤◌, ◌<◌, ◌≡◌, List, [], ◌++◌, Bool, false, cond, Option, None, Some, length, drop}
-use Rattle.reader.specs.declared.line.Line.{Line}
-use Rattle.reader.specs.declared.line.Line.TheVariants.{Blank, Brace, Directive, Tag, Bracket, Data}
+use Rattle.std.specs.Prelude.{ℕ, ◌+◌, ◌≤◌, ◌<◌, ◌≡◌, List, [], ◌++◌, false, Option, None, Some, length, drop}
 use Rattle.reader.specs.declared.section.Next.{Next}
 use Rattle.reader.specs.declared.store.Entries.{Entries}
-use Rattle.reader.specs.declared.section.Visit.{Visit}
-use Rattle.reader.specs.declared.section.Visit.TheVariants.{Stop, Pass, Piece as PieceOn}
 use Rattle.reader.specs.declared.section.Walk.{Walk}
-use Rattle.reader.specs.Lines.{line_kind}
 use Rattle.reader.specs.Pieces.{Piece, Out, raw_lines}
 use Rattle.reader.specs.PieceSteps.{Emits}
 use Rattle.reader.specs.TokenSteps.{Seated}
 use Rattle.reader.specs.Sections.{data_in, split_piece}
-
--- What a section makes of a line: a tag or a blank line closes it, a data line is a piece of its data, and all other lines are passed.
-abbrev pub visit_kind : Line → Visit
-visit_kind Blank = Stop
-visit_kind Brace = Pass
-visit_kind (Directive s) = Pass
-visit_kind (Tag t) = Stop
-visit_kind Bracket = Pass
-visit_kind (Data s) = PieceOn s
-
--- Commentary is passed.
-unfoldable pub visit_of : Bool → List ℕ → Visit
-visit_of commentary l = cond commentary Pass (visit_kind (line_kind l))
 
 -- The data lines from the place p on.
 abbrev pub data_from : List ℕ → ℕ → List Piece
@@ -33,7 +15,7 @@ data_from r p = data_in false p (raw_lines (drop p r))
 -- A data line that was found from the place p on: its piece and the data lines after it are those from p on; the piece and the place
 -- after it lie in the record, and that place is after p by the piece's length or more.
 pub record PieceFrom (r : List ℕ) (p : ℕ) (n : Next) : Type 0 where
-  pub data_lines : data_from r p ≡ split_piece r n.piece ++ data_from r n.at
+  pub data_lines : data_from r p ≡ split_piece r (Some n.piece) ++ data_from r n.at
   pub piece_inside : n.piece.start + n.piece.len ≤ length r
   pub inside : n.at ≤ length r
   pub past : p + n.piece.len ≤ n.at

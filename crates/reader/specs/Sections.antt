@@ -57,8 +57,9 @@ data_in commentary p [] = []
 data_in commentary p (l ∷ ls) = cond (stops_at commentary l) [] (piece_of commentary p l ++ data_in (commentary_after commentary l) (p + length l) ls)
 
 -- What was split off the section's tag line, if anything.
-abbrev pub split_piece : List ℕ → Span → List Piece
-split_piece r s = cond (eqb s.len 0) [] (record { at = s.start; bytes = cut s r } ∷ [])
+abbrev pub split_piece : List ℕ → Option Span → List Piece
+split_piece r None = []
+split_piece r (Some s) = record { at = s.start; bytes = cut s r } ∷ []
 
 -- The number of a section's kind, as the mark of a data line's entry.
 abbrev pub kind_number : Kind → ℕ
@@ -86,9 +87,14 @@ abbrev pub lines_at : Option Open → ℕ
 lines_at None = 0
 lines_at (Some o) = o.at
 
-abbrev pub split_off : Option Open → Span
-split_off None = record { start = 0; len = 0 }
+abbrev pub split_off : Option Open → Option Span
+split_off None = None
 split_off (Some o) = o.split
+
+-- For bounds: an empty span where nothing was split off.
+abbrev pub span_of : Option Span → Span
+span_of None = record { start = 0; len = 0 }
+span_of (Some s) = s
 
 -- The data lines after a section's tag, in the record r.
 abbrev pub lines_data : List ℕ → Option Open → List Piece

@@ -3,7 +3,7 @@ ghost use Rattle.std.specs.Prelude.{◌≡◌, ◌≤◌, ℕ, cond, eqb, length
 ghost use Rattle.tables.specs.Text.{first_character};
 ghost use Rattle.tables.specs.Letters.{seat_of};
 ghost use Rattle.reader.specs.Names.{deal_name, contract_name, double_dummy_tricks_name, number_of};
-ghost use Rattle.reader.specs.Boards.{with_number, with_result, parsed_deal, table_by, is_kept_contract, applied, open_by, no_board};
+ghost use Rattle.reader.specs.Boards.{parsed_deal, table_by, is_kept_contract, applied, open_by, no_board};
 ghost use Rattle.reader.specs.BoardSteps.{met_words};
 
 use crate::board::{
@@ -14,7 +14,7 @@ use crate::deal::{Hands, hand_words, read_deal};
 use crate::names::TagName;
 use crate::section::{Kind, Open};
 use crate::tag::Span;
-use crate::words::{contract_trump, same, vulnerability_of};
+use crate::words::{contract_trump, vulnerability_of};
 use tables::dd::dd_table_from_pbn;
 use tables::letters::{Conventions, seat_of};
 use tables::numbers::{parse_number, parse_signed};
@@ -37,29 +37,7 @@ fn met_words(n: Option<u32>) -> (usize, usize)
     }
 }
 
-fn with_number(i: Identity, n: Option<u32>) -> Identity
-    ensures { result ≡ with_number i n }
-{
-    let (number_met, number) = met_words(n);
-    Identity {
-        number_met,
-        number,
-        ..i
-    }
-}
-
-fn with_result(i: Identity, n: Option<u32>) -> Identity
-    ensures { result ≡ with_result i n }
-{
-    let (result_met, result) = met_words(n);
-    Identity {
-        result_met,
-        result,
-        ..i
-    }
-}
-
-// The hands of a deal that parsed; one that was kept unparsed wins all the same.
+// The hands of a deal that parsed; one that was kept unparsed stays UNPARSED.
 fn parsed_deal(h: Hands, d: DealCard) -> DealCard
     ensures { result ≡ parsed_deal h d }
 {
@@ -109,7 +87,7 @@ fn table_by(value: &[u8], t: TableCard) -> TableCard
 fn is_kept_contract(value: &[u8]) -> bool
     ensures { result ≡ is_kept_contract value.now }
 {
-    !value.is_empty() & !same(b"?", value)
+    !matches!(value, [] | [b'?'])
 }
 
 // Contract: kept, and the trump of a play after it.
@@ -146,7 +124,7 @@ pub(crate) fn apply_tag(
     };
     match name {
         TagName::Board => {
-            b.id = with_number(b.id, parse_number(value, 4294967295));
+            (b.id.number_met, b.id.number) = met_words(parse_number(value, 4294967295));
             b.values.id = kept(value, place, b.values.id);
         }
         TagName::Dealer => b.id.dealer = seat_in(c, value),
@@ -157,7 +135,9 @@ pub(crate) fn apply_tag(
         TagName::Date => b.values.date = kept(value, place, b.values.date),
         TagName::Declarer => b.id.declarer = seat_in(c, value),
         TagName::Contract => contract_tag(c, value, place, b),
-        TagName::Result => b.id = with_result(b.id, parse_signed(value, 128)),
+        TagName::Result => {
+            (b.id.result_met, b.id.result) = met_words(parse_signed(value, 128));
+        }
         TagName::North => b.values.north = kept(value, place, b.values.north),
         TagName::East => b.values.east = kept(value, place, b.values.east),
         TagName::South => b.values.south = kept(value, place, b.values.south),
@@ -176,7 +156,7 @@ pub(crate) fn open_by(
     k: Option<TagName>,
     value: &[u8],
     at: usize,
-    split: Span,
+    split: Option<Span>,
 ) -> Option<Open>
     ensures { result ≡ open_by c (number_of k) value.now at split }
 {

@@ -6,12 +6,12 @@ ghost use Rattle.reader.specs.TokenSteps.{CallInside};
 
 use crate::store::{ANNOTATION, CALL, Entries};
 use crate::tokens::tokens_in;
-use crate::words::{PASS, PLUS, call_code, call_len, is_all_pass, section_end};
+use crate::words::{PASS, PLUS, call_code, call_len, is_all_pass};
 use tables::letters::Conventions;
 use tables::text::upto;
 
-// What a token of an auction is. The specs say what a token is and what it does apart, and one function of both would be longer than 40
-// lines.
+// What a token of an auction is: an enum matched once, since the definitions call_token_of and called_by of specs/Auction.antt say what a
+// token is and what it does apart, over this enum.
 #[derive(Clone, Copy)]
 pub enum CallToken {
     Plus,
@@ -28,37 +28,33 @@ pub enum CallToken {
 // stand in contracts for the reason at Entries (store.rt).
 #[derive(Clone, Copy, Default)]
 pub struct Bidding {
+    pub end: usize,
+    pub count: usize,
+    // Side by side, as those of `Tricks`.
     pub any: bool,
     pub made: bool,
-    pub end: usize,
     pub stopped: bool,
-    pub count: usize,
 }
 
-#[tactic(auto, unfolding(crate::specs::Auction::call_token_of))]
+#[tactic(auto, unfolding(crate::specs::Auction::call_token_of, crate::specs::Words::section_end))]
 fn call_token(c: Conventions, t: &[u8]) -> CallToken
     ensures { (result ≡ call_token_of c t.now) × CallInside result (length t.now) }
 {
-    let end = section_end(t);
-    if end == 1 {
-        return CallToken::Plus;
+    match t {
+        [b'+'] => CallToken::Plus,
+        [b'*'] => CallToken::Star,
+        _ if is_all_pass(t) => CallToken::AllPass,
+        _ => match call_len(t) {
+            0 => CallToken::Annotation,
+            k => match call_code(c, upto(t, k)) {
+                Some(code) => CallToken::Call(code, k),
+                None => CallToken::NoCall,
+            },
+        },
     }
-    if end == 2 {
-        return CallToken::Star;
-    }
-    if is_all_pass(t) {
-        return CallToken::AllPass;
-    }
-    let k = call_len(t);
-    if k == 0 {
-        return CallToken::Annotation;
-    }
-    let Some(code) = call_code(c, upto(t, k)) else {
-        return CallToken::NoCall;
-    };
-    CallToken::Call(code, k)
 }
 
+// By place, as the definition `bidding` takes them: each of its seven uses would be a struct of four lines.
 fn bid(made: bool, end: usize, stopped: bool, count: usize) -> Bidding
     ensures { result ≡ bidding made end stopped count }
 {

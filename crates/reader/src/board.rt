@@ -85,7 +85,8 @@ pub struct Board {
 
 // The board so far, its open section, its tags and entries, and where the block of commentary starts that is open. How many entries there
 // may be stands in the contracts of the steps (2^57 to 2^59), not here: a step from the greatest number would break a bound that is the
-// same before and after it, and only the loop of `read_board` knows the record's length.
+// same before and after it, and only the loop of `read_board` knows the record's length. Nor does a State know the place p that is read up
+// to, and its section and block start no later (`Sound p`).
 #[derive(Clone, Copy)]
 pub struct State {
     pub board: Board,

@@ -1,6 +1,6 @@
 // The four hands of a deal: read from a Deal tag's value, counted, and as words. A hand is a number with bit 13 x suit + rank for
 // each of its cards: suits C D H S from 0, 2 is rank 0.
-ghost use Rattle.std.specs.Prelude.{◌≡◌, ◌+◌, ◌*◌, ◌/◌, ◌%◌, ◌^◌, ◌≤◌, ◌<◌, IfSome};
+ghost use Rattle.std.specs.Prelude.{◌≡◌, ◌+◌, ◌*◌, ◌^◌, ◌≤◌, ◌<◌, IfSome};
 ghost use Rattle.tables.specs.Text.{word};
 ghost use Rattle.reader.specs.Deals.{has, is_dash, hands_after, turned, deal_in, deal_of, InDeck, whole_hands, hand_words, hands_of_words};
 ghost use Rattle.reader.specs.DealSteps.{card_added, add_card, IsGrown, step_of, Fine, IsFine, end_of, run_from, start_hand, hand_into, deal_words};
@@ -9,7 +9,8 @@ use crate::store::low_word;
 use tables::letters::{Conventions, rank_of, seat_of};
 use tables::text::{byte_at, from, is_white, next_words, trim, word_len};
 
-// By name, not an array by seat: none of those who take hands apart has a seat to ask with, and `h.north` needs no bound.
+// By name, not an array by seat: the definitions and theorems of 11 files of specs/ speak of Hands by these names, and an array is to them
+// a list of any length (see `Slots`).
 #[derive(Clone, Copy)]
 pub struct Hands {
     pub north: u64,
@@ -26,6 +27,8 @@ pub struct PartHand {
     pub room: u8,
 }
 
+// A card k, here and below, is a number that was just read or computed (13 x suit + rank): a type of numbers below 52 would be made at
+// each call and opened in it.
 pub fn power(k: u8) -> u64
     requires { k < 52 }
     ensures { result ≡ 2 ^ k }
@@ -91,7 +94,7 @@ fn end_of(h: PartHand) -> Option<u64>
     (h.suit == 0).then_some(h.cards)
 }
 
-// The suits of the first field of s. `seen < 2 ^ 52` stands here and at `read_hand` alone, and in `card_added`: a struct of cards would
+// The suits of the first field of s. `seen < 2 ^ 52` stands here, at `read_hand`, `add_card` and `card_added`: a struct of cards would
 // be opened at each step, since hands are what one such number has more than another.
 fn read_suits(c: Conventions, seen: u64, s: &[u8]) -> Option<u64>
     requires { seen < 2 ^ 52 }
@@ -212,7 +215,7 @@ pub fn is_whole(h: Hands) -> bool
         & (h.west.count_ones() == 13)
 }
 
-// A number of 64 bits from its words.
+// A number of 64 bits from its words: no method of the library makes a u64 of two, and from_le_bytes takes bytes.
 pub fn from_words(low: u32, high: u32) -> u64
     ensures { result ≡ high * 4294967296 + low }
 {

@@ -74,7 +74,7 @@ fn placed_word(n: usize, x: usize) -> u32
     low_word(n % 4294967296 + x % 4294967296)
 }
 
-// The word of none is that of a vulnerability that no tag gave.
+// 0, the word of none vulnerable, for 4, no vulnerability (see `Identity`).
 fn vulnerability_word(v: usize) -> u32
     ensures { result ≡ low_word (cond (eqb v 4) 0 v) }
 {
@@ -106,7 +106,14 @@ fn head_words(n: usize, count: usize, b: Board) -> [u32; 10]
 fn cell_words(t: TableCard) -> [u32; 20]
     ensures { result ≡ t.cells }
 {
-    t.cells.map(u32::from)
+    // By index: the array's map was tried and takes some 500 instructions a board more, 1 in 100 of reading, which is to be three times
+    // as fast as the Rust (docs/SPEED.md).
+    let cells = t.cells;
+    let mut words = [0; 20];
+    for i in 0..20 {
+        words[i] = cells[i] as u32;
+    }
+    words
 }
 
 // The table's kind, and the value entries.
@@ -168,7 +175,8 @@ fn put_back(cards: &mut [u32], i: usize, at: Place, b: Board)
     copy_in(cards, i + 21, &tail);
 }
 
-// Stores the k-th card, where there is room for a whole one: k goes on behind the last lent card, since boards without one are counted.
+// Stores the k-th card, where there is room for a whole one: k goes on behind the last lent card, since boards without one are counted. By
+// its index: of words that as_chunks_mut cuts into cards nothing is known once a card is changed.
 fn put_card(cards: &mut [u32], k: usize, at: Place, s: State)
     ensures { (cards.new ≡ put 64 cards.old k (card_words at.start at.end at.before s.n s.board)) × (length (card_words at.start at.end at.before s.n s.board) ≡ 64) }
 {
@@ -239,17 +247,16 @@ fn finish_reading(
 ) -> Result<Counts, ReadRefusal>
     ensures { ReadingEnded cards.old entries.old counts result cards.new entries.new }
 {
-    if cards.len() / 64 < counts.boards {
-        cards.fill(0);
-        entries.fill(0);
-        return Err(ReadRefusal::BoxFull(counts.boards as u64));
-    }
-    if entries.len() / 4 < counts.entries {
-        cards.fill(0);
-        entries.fill(0);
-        return Err(ReadRefusal::ListFull(counts.entries as u64));
-    }
-    Ok(counts)
+    let refusal = if cards.len() / 64 < counts.boards {
+        ReadRefusal::BoxFull(counts.boards as u64)
+    } else if entries.len() / 4 < counts.entries {
+        ReadRefusal::ListFull(counts.entries as u64)
+    } else {
+        return Ok(counts);
+    };
+    cards.fill(0);
+    entries.fill(0);
+    Err(refusal)
 }
 
 // Reads a text into the lent words, by the given conventions. A refusal leaves all of them zero.

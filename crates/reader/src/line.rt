@@ -3,7 +3,7 @@ ghost use Rattle.std.specs.Prelude.{◌≡◌, false, MatchOption, length};
 ghost use Rattle.reader.specs.Lines.{is_blank, has_brace, last_brace, line_kind, split_line, bracket_line, opens_board};
 ghost use Rattle.reader.specs.LineSteps.{LastBrace, LinePlaced};
 
-use crate::tag::{Span, Tag, contains, parse_tag_line, split_tag_and_data, trim_span};
+use crate::tag::{Span, Tag, parse_tag_line, split_tag_and_data, trim_span};
 use tables::text::{byte_at, lead_len};
 
 // A tag: alone on its line, with a comment, or with section data split off. `tag_read` alone takes it apart, once, with a branch for each;
@@ -34,11 +34,11 @@ pub(crate) fn is_blank(line: &[u8]) -> bool
 }
 
 // Whether the line has a `}`.
-#[tactic(auto, unfolding(crate::specs::Lines::has_brace))]
+#[tactic(auto, using(crate::proofs::TagLaws::among_any), unfolding(crate::specs::Lines::has_brace))]
 pub(crate) fn has_brace(line: &[u8]) -> bool
     ensures { result ≡ has_brace line.now }
 {
-    contains(line, b'}')
+    line.contains(&b'}')
 }
 
 // The place of the last `}`.

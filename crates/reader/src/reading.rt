@@ -1,14 +1,16 @@
 // The lines of a record: what each does to the board, and the entries that it adds. A line l stands at the place p of its record; both
-// are handed on side by side, since half of the steps take p alone (with a part of l) and none hands on l alone.
-ghost use Rattle.std.specs.Prelude.{◌≡◌, ◌∷◌, [], ◌+◌, ◌-◌, ◌*◌, ◌≤◌, ◌<◌, ◌^◌, Some, Some, length};
+// are handed on side by side, since half of the steps take p alone (with a part of l) and no step takes l without p. The State and the
+// Entries go side by side too: `read_board` hands the State out while the Entries stay its caller's, and `Emits`, the contract of the
+// steps, compares the two lists of entries, and the State apart with the one that the definitions make, which have no lent words.
+ghost use Rattle.std.specs.Prelude.{◌≡◌, ◌∷◌, [], ◌+◌, ◌*◌, ◌≤◌, ◌<◌, ◌^◌, Some, length};
 ghost use Rattle.reader.specs.Pieces.{entry};
 ghost use Rattle.reader.specs.PieceSteps.{Adds, Emits};
 ghost use Rattle.reader.specs.TagSteps.{TagInside};
 ghost use Rattle.reader.specs.LineSteps.{ReadingPlaced};
 ghost use Rattle.reader.specs.TokenSteps.{Seated};
-ghost use Rattle.reader.specs.Sections.{kind_number};
+ghost use Rattle.reader.specs.Sections.{kind_number, span_of};
 ghost use Rattle.reader.specs.SectionSteps.{walk_count};
-ghost use Rattle.reader.specs.Boards.{at, no_state, auction_closed, play_closed, table_closed, board_closed, closed, tagged, directed, data_added, read_by, blocked, braced, block_of, in_commentary, line_out, record_out};
+ghost use Rattle.reader.specs.Boards.{no_state, auction_closed, play_closed, table_closed, board_closed, closed, tagged, directed, data_added, read_by, blocked, braced, block_of, in_commentary, line_out, record_out};
 ghost use Rattle.reader.specs.BoardSteps.{Sound, Stepped, LastStored};
 
 use crate::apply::{apply_tag, no_board, open_by};
@@ -18,7 +20,7 @@ use crate::names::tag_name;
 use crate::play::last_trick;
 use crate::section::{Kind, Open, Walk, walk_section};
 use crate::store::{COMMENTARY, DATA, DIRECTIVE, Entries, NAME, VALUE};
-use crate::tag::{NO_SPAN, Span, Tag};
+use crate::tag::{Span, Tag};
 use tables::dd::gathered_table;
 use tables::letters::Conventions;
 use tables::lines::lines_from;
@@ -88,9 +90,7 @@ fn table_closed(b: Board, w: Walk) -> Board
         return b;
     };
     let table = TableCard { kind: ROWS, cells };
-    let mut next = b;
-    next.table = table;
-    next
+    Board { table, ..b }
 }
 
 // The board after its open section.
@@ -136,17 +136,6 @@ fn close_sections(c: Conventions, r: &[u8], s: &mut State, entries: &mut Entries
     s.n += k;
 }
 
-// A part of the line at p, as a part of the record.
-fn placed_span(p: usize, d: Span) -> Span
-    requires { p + d.start < 2 ^ 63 }
-    ensures { result ≡ at p d }
-{
-    Span {
-        start: p + d.start,
-        len: d.len,
-    }
-}
-
 // Stores the part d of the line at p, with a mark.
 fn put_part(entries: &mut Entries, kind: usize, p: usize, d: Span, mark: usize)
     requires { (entries.old.start + p + d.start < 2 ^ 63) × (entries.old.count ≤ 2 ^ 60) }
@@ -162,10 +151,10 @@ fn tag_step(
     p: usize,
     l: &[u8],
     tag: Tag,
-    split: Span,
+    split: Option<Span>,
     entries: &mut Entries,
 )
-    requires { (entries.old.start + p + length l.now ≤ 16777215) × (entries.old.count ≤ 2 ^ 58) × (s.old.n ≤ 2 ^ 58) × Sound p s.old × (s.old.tags ≤ 2 ^ 58) × TagInside tag (length l.now) × (split.start + split.len ≤ p + length l.now) }
+    requires { (entries.old.start + p + length l.now ≤ 16777215) × (entries.old.count ≤ 2 ^ 58) × (s.old.n ≤ 2 ^ 58) × Sound p s.old × (s.old.tags ≤ 2 ^ 58) × TagInside tag (length l.now) × ((span_of split).start + (span_of split).len ≤ p + length l.now) }
     ensures { Stepped (p + length l.now) entries.old entries.new s.new (tagged c s.old p l.now (p + length l.now) tag split) }
 {
     put_part(entries, NAME, p, tag.name, 0);
@@ -205,13 +194,13 @@ fn tag_read(c: Conventions, s: &mut State, p: usize, l: &[u8], t: TagReading, en
     ensures { Stepped (p + length l.now) entries.old entries.new s.new (read_by c s.old p l.now (p + length l.now) t) }
 {
     match t {
-        TagReading::Plain(tag) => tag_step(c, s, p, l, tag, NO_SPAN, entries),
+        TagReading::Plain(tag) => tag_step(c, s, p, l, tag, None, entries),
         TagReading::WithComment(tag, d) => {
-            tag_step(c, s, p, l, tag, NO_SPAN, entries);
+            tag_step(c, s, p, l, tag, None, entries);
             directive_step(s, p, d, entries);
         }
         TagReading::WithData(tag, d) => {
-            tag_step(c, s, p, l, tag, placed_span(p, d), entries);
+            tag_step(c, s, p, l, tag, Some(d.moved(p)), entries);
             data_step(s, p, d, entries);
         }
     }
@@ -275,7 +264,7 @@ fn line_step(c: Conventions, r: &[u8], s: &mut State, p: usize, l: &[u8], entrie
     }
 }
 
-// The board of a record's own text r.
+// The board of a record's own text r. The place of a line is counted, here as in `record_end` and `next_piece`, by the reason at `Lines`.
 pub(crate) fn read_board(c: Conventions, r: &[u8], entries: &mut Entries) -> State
     requires { (entries.old.start + length r.now ≤ 16777215) × (entries.old.count ≤ 2 ^ 56) }
     ensures { Emits entries.old entries.new result (record_out c r.now) }

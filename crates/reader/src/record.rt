@@ -1,6 +1,6 @@
 // Where a record ends.
 ghost use Rattle.std.specs.Prelude.{◌≡◌, ◌≤◌, length};
-ghost use Rattle.reader.specs.Records.{fresh, scanned, closes_record};
+ghost use Rattle.reader.specs.Records.{scanned, closes_record};
 ghost use Rattle.reader.specs.RecordSteps.{FirstEnd};
 
 use crate::line::{is_blank, opens_board};

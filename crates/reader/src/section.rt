@@ -1,11 +1,10 @@
 // The data of an open section, walked again when the section closes.
 ghost use Rattle.std.specs.Prelude.{◌≡◌, ◌+◌, ◌-◌, ◌*◌, ◌≤◌, ◌^◌, Some, length};
 ghost use Rattle.tables.specs.Tables.{row_of};
-ghost use Rattle.reader.specs.Pieces.{out_all};
 ghost use Rattle.reader.specs.PieceSteps.{piece};
 ghost use Rattle.reader.specs.TokenSteps.{Seated};
-ghost use Rattle.reader.specs.Sections.{kind_number, commentary_after, split_piece, row_stored, walked, no_walk, walked_all};
-ghost use Rattle.reader.specs.SectionSteps.{visit_of, NextPiece, walk_count, Walks};
+ghost use Rattle.reader.specs.Sections.{kind_number, commentary_after, span_of, row_stored, walked, no_walk, walked_all};
+ghost use Rattle.reader.specs.SectionSteps.{NextPiece, walk_count, Walks};
 
 use crate::auction::{Bidding, call_piece};
 use crate::line::{Line, has_brace, line_kind};
@@ -15,7 +14,7 @@ use crate::tag::Span;
 use tables::dd::{no_cells, read_row, stored_row};
 use tables::letters::Conventions;
 use tables::lines::lines_from;
-use tables::text::{byte_at, from, lead_len, upto};
+use tables::text::{byte_at, lead_len};
 
 // What an open section is of, with the seat of an auction's dealer or of a play's opening leader.
 #[derive(Clone, Copy)]
@@ -38,12 +37,12 @@ impl Kind {
     }
 }
 
-// An open section: where the lines after its tag start, and what was split off its tag line.
+// An open section: where the lines after its tag start, and what was split off its tag line, if anything.
 #[derive(Clone, Copy)]
 pub struct Open {
     pub kind: Kind,
     pub at: usize,
-    pub split: Span,
+    pub split: Option<Span>,
 }
 
 // What a section's data come to so far: the bidding, the tricks, and the cells of an OptimumResultTable, none after a bad row. An enum of
@@ -55,25 +54,11 @@ pub struct Walk {
     pub rows: Option<[u8; 20]>,
 }
 
-// Whether commentary is open after the line. Of a line outside commentary only the first byte that is not white matters.
+// Whether commentary is open after the line. A line opens it with its first byte that is not white.
 pub(crate) fn commentary_after(commentary: bool, l: &[u8]) -> bool
     ensures { result ≡ commentary_after commentary l.now }
 {
-    if commentary {
-        return !has_brace(l);
-    }
-    if byte_at(l, lead_len(l)) == 123 {
-        return !has_brace(l);
-    }
-    false
-}
-
-// What a section makes of a line: it ends there, the line is passed, or it is data, trimmed.
-#[derive(Clone, Copy)]
-pub enum Visit {
-    Stop,
-    Pass,
-    Piece(Span),
+    (commentary || byte_at(l, lead_len(l)) == b'{') && !has_brace(l)
 }
 
 // A piece of a section's data, and where the lines after it start.
@@ -81,23 +66,6 @@ pub enum Visit {
 pub struct Next {
     pub piece: Span,
     pub at: usize,
-}
-
-#[tactic(auto, unfolding(crate::specs::SectionSteps::visit_of))]
-fn visit_line(commentary: bool, l: &[u8]) -> Visit
-    ensures { result ≡ visit_of commentary l.now }
-{
-    if commentary {
-        return Visit::Pass;
-    }
-    match line_kind(l) {
-        Line::Blank => Visit::Stop,
-        Line::Brace => Visit::Pass,
-        Line::Directive(_) => Visit::Pass,
-        Line::Tag(_) => Visit::Stop,
-        Line::Bracket => Visit::Pass,
-        Line::Data(s) => Visit::Piece(s),
-    }
 }
 
 // The section's next data line, of the lines from `at` on; none where the section has ended.
@@ -108,21 +76,19 @@ fn next_piece(r: &[u8], at: usize) -> Option<Next>
     let mut commentary = false;
     let mut e = at;
     for l in lines_from(r, at) {
-        match visit_line(commentary, l) {
-            Visit::Stop => return None,
-            Visit::Pass => commentary = commentary_after(commentary, l),
-            Visit::Piece(s) => {
-                let piece = Span {
-                    start: e + s.start,
-                    len: s.len,
-                };
-                return Some(Next {
-                    piece,
-                    at: e + l.len(),
-                });
+        let next = e + l.len();
+        if !commentary {
+            match line_kind(l) {
+                Line::Data(d) => {
+                    let piece = d.moved(e);
+                    return Some(Next { piece, at: next });
+                }
+                Line::Blank | Line::Tag(_) => return None,
+                Line::Brace | Line::Directive(_) | Line::Bracket => {}
             }
         }
-        e += l.len();
+        commentary = commentary_after(commentary, l);
+        e = next;
     }
     None
 }
@@ -142,10 +108,8 @@ fn no_walk() -> Walk
 fn walk_row(c: Conventions, rows: Option<[u8; 20]>, s: &[u8]) -> Option<[u8; 20]>
     ensures { result ≡ row_stored (row_of c 0 s.now) rows }
 {
-    match read_row(c, s, 0) {
-        Ok(given) => Some(stored_row(rows?, Ok(given))),
-        Err(_) => None,
-    }
+    let given = read_row(c, s, 0).ok()?;
+    Some(stored_row(rows?, Ok(given)))
 }
 
 // A piece of the section's data at the place `at` of its record. The conventions, the section and the trump go together in three functions,
@@ -181,25 +145,6 @@ fn walk_piece(
     }
 }
 
-// The piece `s` of the record `r`, unless it is empty.
-fn walk_span(
-    c: Conventions,
-    r: &[u8],
-    o: Open,
-    trump: usize,
-    w: Walk,
-    s: Span,
-    entries: &mut Entries,
-) -> Walk
-    requires { Seated w.tricks × (entries.old.start + length r.now ≤ 2 ^ 40) × (entries.old.count ≤ 2 ^ 58) × (walk_count w ≤ 2 ^ 59) × (s.start + s.len ≤ length r.now) }
-    ensures { Walks (walk_count w + 3 * s.len) entries.old entries.new result (out_all (walked c (Some o) trump) w (split_piece r.now s)) }
-{
-    if s.len == 0 {
-        return w;
-    }
-    walk_piece(c, o, trump, w, s.of(r), s.start, entries)
-}
-
 // All the data of the open section `o` of the record `r`. An iterator of pieces would be used here alone: its state would be the place
 // that next_piece answers, and its `next` would be next_piece.
 pub(crate) fn walk_section(
@@ -209,13 +154,17 @@ pub(crate) fn walk_section(
     trump: usize,
     entries: &mut Entries,
 ) -> Walk
-    requires { (entries.old.start + length r.now ≤ 2 ^ 40) × (entries.old.count ≤ 2 ^ 57) × (o.at ≤ length r.now) × (o.split.start + o.split.len ≤ length r.now) }
-    ensures { Walks (3 * (o.split.len + (length r.now - o.at))) entries.old entries.new result (walked_all c r.now (Some o) trump) }
+    requires { (entries.old.start + length r.now ≤ 2 ^ 40) × (entries.old.count ≤ 2 ^ 57) × (o.at ≤ length r.now) × ((span_of o.split).start + (span_of o.split).len ≤ length r.now) }
+    ensures { Walks (3 * ((span_of o.split).len + (length r.now - o.at))) entries.old entries.new result (walked_all c r.now (Some o) trump) }
 {
-    let mut w = walk_span(c, r, o, trump, no_walk(), o.split, entries);
+    let mut w = match o.split {
+        Some(d) => walk_piece(c, o, trump, no_walk(), d.of(r), d.start, entries),
+        None => no_walk(),
+    };
     let mut at = o.at;
     while let Some(next) = next_piece(r, at) {
-        w = walk_span(c, r, o, trump, w, next.piece, entries);
+        let d = next.piece;
+        w = walk_piece(c, o, trump, w, d.of(r), d.start, entries);
         at = next.at;
     }
     w

@@ -1,7 +1,7 @@
 // Blocks of words stored into lent slices.
 ghost use Rattle.std.specs.Prelude.{◌≡◌, ◌∷◌, [], ◌+◌, ◌≤◌, ◌<◌, ◌^◌, length};
 ghost use Rattle.std.proofs.lemmas.List.Edits.{sets};
-ghost use Rattle.reader.specs.Store.{low_word, zeros, moved};
+ghost use Rattle.reader.specs.Store.{low_word, moved};
 ghost use Rattle.reader.specs.Pieces.{entry};
 ghost use Rattle.reader.specs.PieceSteps.{Adds};
 
@@ -36,13 +36,6 @@ pub(crate) fn low_word(x: usize) -> u32
     ensures { result ≡ low_word x }
 {
     (x % 4294967296) as u32
-}
-
-// `fill(0)`, whose answer is named here as the contracts of lent words name it.
-pub fn zero(words: &mut [u32])
-    ensures { words.new ≡ zeros words.old }
-{
-    words.fill(0);
 }
 
 // Copies src into dst from index at.
@@ -85,7 +78,8 @@ impl Entries<'_> {
         });
     }
 
-    // Stores e as the next entry, where there is room for a whole one.
+    // Stores e as the next entry, where there is room for a whole one: by its index, since of words that as_chunks_mut cuts into entries
+    // nothing is known once one is changed.
     pub(crate) fn push(&mut self, e: Entry)
         requires { (self.old.start + e.x < 2 ^ 63) × (self.old.count ≤ 2 ^ 60) }
         ensures { Adds self.old self.new (e ∷ []) }

@@ -2,7 +2,7 @@
 // a card, 0 of a level, 4 of a trump or a vulnerability; specs of the writer, of lin and of the demands compare those numbers, so that
 // they stay, and a contract here says an Option by them.
 ghost use Rattle.std.specs.Prelude.{◌≡◌, ◌≤◌, ◌<◌, length, IfSome, unwrap_or};
-ghost use Rattle.reader.specs.Words.{same, same_word, level_of, bid_code, bid_of, is_pass, underscore_code, sign_code, call_of, is_mark, call_part, section_end, is_all_pass, is_doubling, contract_trump, is_no_side, is_both_sides, vulnerability_of, card_number, card_named};
+ghost use Rattle.reader.specs.Words.{same_word, level_of, bid_code, bid_of, is_pass, underscore_code, sign_code, call_of, is_mark, call_part, is_all_pass, is_doubling, contract_trump, is_no_side, is_both_sides, vulnerability_of, card_number, card_named};
 
 use tables::letters::{Conventions, rank_of, strain_of, suit_of, to_capital};
 use tables::text::{byte_at, first_character, from, is_inside, upto};
@@ -15,13 +15,6 @@ pub const X: u8 = 36;
 pub const XX: u8 = 37;
 
 pub const PLUS: u8 = 38;
-
-// Equal texts. `==` takes no `&[u8; 1]` beside a `&[u8]`: each place would have to say `b"+".as_slice() == token`.
-pub fn same(a: &[u8], b: &[u8]) -> bool
-    ensures { result ≡ same a.now b.now }
-{
-    a == b
-}
 
 // A word in capitals, and a token in either case. `eq_ignore_ascii_case` would take a word in small letters too.
 pub fn same_word(word: &[u8], token: &[u8]) -> bool
@@ -55,7 +48,7 @@ fn bid_of(c: Conventions, token: &[u8]) -> Option<u8>
 fn is_pass(token: &[u8]) -> bool
     ensures { result ≡ is_pass token.now }
 {
-    same_word(b"PASS", token) | same_word(b"P", token) | same(b"-", token)
+    same_word(b"PASS", token) | same_word(b"P", token) | matches!(token, [b'-'])
 }
 
 // One to eight underscores are 39 to 46.
@@ -84,7 +77,7 @@ fn sign_code(token: &[u8]) -> Option<u8>
     if same_word(b"XX", token) {
         return Some(XX);
     }
-    if same(b"+", token) {
+    if matches!(token, [b'+']) {
         return Some(PLUS);
     }
     underscore_code(token)
@@ -117,20 +110,6 @@ pub(crate) fn call_len(token: &[u8]) -> usize
         .iter()
         .position(|b| is_mark(*b))
         .unwrap_or(token.len())
-}
-
-// How a token ends its section: + is 1, * is 2, any other 0, as the C interface's words of a section say it.
-#[tactic(auto, unfolding(crate::specs::Words::section_end))]
-pub(crate) fn section_end(token: &[u8]) -> u8
-    ensures { (result ≡ section_end token.now) × (result ≤ 2) }
-{
-    if same(b"+", token) {
-        return 1;
-    }
-    if same(b"*", token) {
-        return 2;
-    }
-    0
 }
 
 // AP, all pass.
@@ -167,7 +146,7 @@ pub(crate) fn contract_trump(c: Conventions, value: &[u8]) -> u8
 fn is_no_side(value: &[u8]) -> bool
     ensures { result ≡ is_no_side value.now }
 {
-    same_word(b"NONE", value) | same_word(b"LOVE", value) | same(b"-", value)
+    same_word(b"NONE", value) | same_word(b"LOVE", value) | matches!(value, [b'-'])
 }
 
 #[tactic(auto, unfolding(crate::specs::Words::is_both_sides))]
@@ -203,10 +182,7 @@ pub(crate) fn vulnerability_of(value: &[u8]) -> u8
 pub fn card_number(suit: u8, rank: u8) -> Option<u8>
     ensures { (unwrap_or result 52 ≡ card_number suit rank) × IfSome result (λ k. k < 52) }
 {
-    if suit > 3 {
-        return None;
-    }
-    if rank > 12 {
+    if suit > 3 || rank > 12 {
         return None;
     }
     Some(13 * suit + rank)
@@ -217,13 +193,13 @@ pub fn card_number(suit: u8, rank: u8) -> Option<u8>
 pub fn card_named(c: Conventions, token: &[u8]) -> Option<u8>
     ensures { (unwrap_or result 52 ≡ card_named c token.now) × IfSome result (λ k. k < 52) }
 {
-    if token.len() < 2 {
+    let [suit, rank, ..] = token else {
+        return None;
+    };
+    if is_inside(*rank) {
         return None;
     }
-    if is_inside(token[1]) {
-        return None;
-    }
-    let suit = suit_of(c, token[0])?;
+    let suit = suit_of(c, *suit)?;
     let rank = rank_of(c, first_character(from(token, 1)))?;
     card_number(suit, rank)
 }

@@ -27,6 +27,8 @@ impl<'a> Bytes<'a> {
         }
     }
 
+    // By split_first_chunk and from_le_bytes this is as long, and as u16 and u32 the numbers here would have to be turned into lengths, which
+    // most of them are, in a dozen places of the programs.
     pub fn two_bytes(&mut self) -> Option<usize>
         ensures bytes { IfSome result (λ n. self.old.rest.now ≡ n % 256 ∷ n / 256 ∷ self.new.rest.now) }
         ensures small { IfSome result (λ n. n < 65536) }

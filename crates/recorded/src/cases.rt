@@ -5,7 +5,7 @@ use crate::bytes::Bytes;
 use std::fmt;
 
 // Why a replay stops at a case: it gave another answer than the recorded one, or it is not whole.
-#[derive(Clone, Copy, Debug, PartialEq, Eq)]
+#[derive(Clone, Copy, PartialEq, Eq)]
 pub enum Fault {
     Different,
     NotWhole,
@@ -21,7 +21,7 @@ impl fmt::Display for Fault {
 }
 
 // The fault, and the byte that the case starts at.
-#[derive(Clone, Copy, Debug)]
+#[derive(Clone, Copy)]
 pub struct Stop {
     pub fault: Fault,
     pub at: usize,
@@ -57,11 +57,13 @@ pub trait Recorded<'a>: Copy {
     fn take(cases: &mut Bytes<'a>) -> Option<Self>
         ensures { OnSome result (length cases.new.rest.now < length cases.old.rest.now) };
 
-    // Whether the product gives what was recorded.
+    // Whether the product gives what was recorded. No contract: each program runs another part of the product, whose contracts say what it
+    // gives, and compares that with the file.
     fn is_same(self) -> bool;
 
     // Counts the case, by the places of the program's counts.
-    fn count(self, counts: &mut [u64]);
+    fn count(self, counts: &mut [u64])
+        ensures { length counts.new ≡ length counts.old };
 }
 
 // Replays the next case, and counts it.

@@ -30,6 +30,7 @@ pub fn is_written<T: PartialEq + Copy, F: Fn(&mut [u8]) -> T>(
     bytes: &[u8],
 ) -> bool
     requires { (page ≤ 16384) × F.IsAlwaysCallable write }
+    ensures { IsTrue result → length bytes.now ≤ page }
 {
     let mut lent = [170; 16384];
     let page = &mut lent[..page];

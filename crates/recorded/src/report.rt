@@ -28,7 +28,9 @@ pub fn read_file<R: Files + Print + AllocGlobal>(
     Ok(Some(bytes))
 }
 
-// Replays the cases of a file, from counts that are 0, and prints each count under its name; None where the file is not read.
+// Replays the cases of a file, from counts that are 0, and prints each count under its name; None where the file is not read. The replay
+// is given, and not the case: a case borrows the file, which is read in here, so that no caller can name its lifetime.
+// Nothing is promised beyond: it prints, and answers what the replay answered.
 pub fn report<R: Files + Print + AllocGlobal, F: Fn(&[u8], &mut [u64]) -> Replayed>(
     rt: &R,
     name: &str,
@@ -49,7 +51,8 @@ pub fn report<R: Files + Print + AllocGlobal, F: Fn(&[u8], &mut [u64]) -> Replay
     Ok(Some(replayed))
 }
 
-// How a replay ended, and how many cases were compared where it came to the end.
+// How a replay ended, and how many cases were compared where it came to the end. It prints, which no contract can speak of. Two programs
+// print this, and three how many were compared at a stop too, as they always have.
 pub fn print_end(rt: &impl Print, replayed: Replayed) -> io::Result<()> {
     match replayed.end {
         Ok(()) => println!(rt; "{replayed}"),

@@ -3,7 +3,8 @@ ghost use Rattle.std.specs.Prelude.{◌≡◌, Ok, Err, cond, eqb};
 
 use tables::refused::Refused;
 
-// A refusal's number, and the number that it carries.
+// A refusal's number, and the number that it carries: those of the recorded file (FORMAT.md, specs/Refusals.antt). What the product refuses
+// is turned into them to be compared, and never back, so that `count` of each program reads numbers.
 #[derive(Clone, Copy, PartialEq, Eq)]
 pub struct Told {
     pub refusal: u64,

@@ -7,6 +7,17 @@ use recorded::cases::{Recorded, add};
 use recorded::pages::is_written;
 use recorded::told::{Told, answer};
 
+// The places of the counts, behind those of the five groups.
+#[derive(Clone, Copy)]
+enum Place {
+    Converted = 5,
+    NoDeal = 6,
+    PageFull = 7,
+    Boards = 8,
+    Bytes = 9,
+    Pages = 10,
+}
+
 // `page` is a length.
 #[derive(Clone, Copy)]
 pub struct Case<'a> {
@@ -54,14 +65,14 @@ impl<'a> Recorded<'a> for Case<'a> {
         add(counts, self.group, 1);
         match self.told {
             Ok(page) => {
-                add(counts, 5, 1);
-                add(counts, 8, page.boards);
-                add(counts, 9, page.bytes);
+                add(counts, Place::Converted as usize, 1);
+                add(counts, Place::Boards as usize, page.boards);
+                add(counts, Place::Bytes as usize, page.bytes);
             }
-            Err(Told { refusal: 16, .. }) => add(counts, 6, 1),
-            Err(Told { refusal: 7, .. }) => add(counts, 7, 1),
+            Err(Told { refusal: 16, .. }) => add(counts, Place::NoDeal as usize, 1),
+            Err(Told { refusal: 7, .. }) => add(counts, Place::PageFull as usize, 1),
             Err(_) => (),
         }
-        add(counts, 10, self.page as u64);
+        add(counts, Place::Pages as usize, self.page as u64);
     }
 }

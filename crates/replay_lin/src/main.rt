@@ -16,7 +16,8 @@ use recorded::cases::replay_all;
 use recorded::report::report;
 use std::io;
 
-// What is counted, by the places of cases.rt.
+// What is counted, by the places of cases.rt: names and counts are lists beside each other, since the counts go on alone where the names
+// are only printed.
 const NAMES: [&str; 11] = [
     "chosen texts",
     "texts of several boards",

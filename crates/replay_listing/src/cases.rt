@@ -14,6 +14,14 @@ use recorded::pages::is_written;
 use recorded::told::{Told, answer};
 use tables::refusal::Refusal;
 
+// The places of the counts.
+#[derive(Clone, Copy)]
+enum Place {
+    Listed,
+    Refused,
+    TooShort,
+}
+
 // `limit` and `page` are lengths. The answer is the number of bytes, which is carried where the refusal is 0.
 #[derive(Clone, Copy)]
 pub struct Case<'a> {
@@ -76,11 +84,11 @@ impl<'a> Recorded<'a> for Case<'a> {
 
     // Listed, refused in a line, which begins with r, or a page too short.
     fn count(self, counts: &mut [u64]) {
-        let k = match self.told {
-            Ok(_) if self.output.first() == Some(&b'r') => 1,
-            Ok(_) => 0,
-            Err(_) => 2,
+        let place = match self.told {
+            Ok(_) if self.output.starts_with(b"r") => Place::Refused,
+            Ok(_) => Place::Listed,
+            Err(_) => Place::TooShort,
         };
-        add(counts, k, 1);
+        add(counts, place as usize, 1);
     }
 }

@@ -8,6 +8,17 @@ use recorded::cases::{Recorded, add};
 use recorded::pages::FULL;
 use recorded::told::{Told, answer};
 
+// The places of the counts, behind those of the five groups.
+#[derive(Clone, Copy)]
+enum Place {
+    Taken = 5,
+    BoxFull = 6,
+    ListFull = 7,
+    Boards = 8,
+    Entries = 9,
+    Words = 10,
+}
+
 // The words that are lent.
 #[derive(Clone, Copy)]
 pub struct Lent {
@@ -69,14 +80,18 @@ impl<'a> Recorded<'a> for Case<'a> {
         add(counts, self.group, 1);
         match self.told {
             Ok(n) => {
-                add(counts, 5, 1);
-                add(counts, 8, n.boards as u64);
-                add(counts, 9, n.entries as u64);
+                add(counts, Place::Taken as usize, 1);
+                add(counts, Place::Boards as usize, n.boards as u64);
+                add(counts, Place::Entries as usize, n.entries as u64);
             }
-            Err(Told { refusal: 2, .. }) => add(counts, 6, 1),
-            Err(Told { refusal: 3, .. }) => add(counts, 7, 1),
+            Err(Told { refusal: 2, .. }) => add(counts, Place::BoxFull as usize, 1),
+            Err(Told { refusal: 3, .. }) => add(counts, Place::ListFull as usize, 1),
             Err(_) => (),
         }
-        add(counts, 10, (self.lent.cards + self.lent.entries) as u64);
+        add(
+            counts,
+            Place::Words as usize,
+            (self.lent.cards + self.lent.entries) as u64,
+        );
     }
 }

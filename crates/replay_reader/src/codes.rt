@@ -38,7 +38,7 @@ impl Code {
 }
 
 // Whether the codes give all words and no more.
-pub fn is_coded(words: &[u32], codes: &[u8]) -> bool {
+pub(crate) fn is_coded(words: &[u32], codes: &[u8]) -> bool {
     let mut words = words;
     let mut codes = Bytes { rest: codes };
     while !codes.rest.is_empty() {

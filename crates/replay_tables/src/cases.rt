@@ -16,7 +16,7 @@ use tables::dd::{
 use tables::refusal::Refusal;
 
 // A writer is given a table, and a reader answers with one.
-#[derive(Clone, Copy, PartialEq, Eq)]
+#[derive(Clone, Copy)]
 pub enum Kind {
     DigitsWritten,
     HeaderWritten,
@@ -25,22 +25,14 @@ pub enum Kind {
     RowsRead,
 }
 
-impl Kind {
-    fn from_byte(b: u8) -> Option<Kind> {
-        match b {
-            1 => Some(Kind::DigitsWritten),
-            2 => Some(Kind::HeaderWritten),
-            3 => Some(Kind::RowsWritten),
-            4 => Some(Kind::DigitsRead),
-            5 => Some(Kind::RowsRead),
-            _ => None,
-        }
-    }
-
-    fn is_read(self) -> bool {
-        (self == Kind::DigitsRead) | (self == Kind::RowsRead)
-    }
-}
+// In the order of the bytes 1 to 5.
+const KINDS: [Kind; 5] = [
+    Kind::DigitsWritten,
+    Kind::HeaderWritten,
+    Kind::RowsWritten,
+    Kind::DigitsRead,
+    Kind::RowsRead,
+];
 
 // `page` is a length, and the answer the number of bytes that a writer put or a reader filled.
 #[derive(Clone, Copy)]
@@ -81,13 +73,16 @@ impl<'a> Case<'a> {
 
 impl<'a> Recorded<'a> for Case<'a> {
     fn take(cases: &mut Bytes<'a>) -> Option<Case<'a>> {
-        let kind = Kind::from_byte(cases.byte()?)?;
+        let kind = KINDS[cases.group()?];
         let input = cases.part()?;
         let page = cases.two_bytes()?;
         let refusal = u64::from(cases.byte()?);
         let carried = cases.four_bytes()? as u64;
         let output = cases.part()?;
-        let table = if kind.is_read() { output } else { input };
+        let table = match kind {
+            Kind::DigitsRead | Kind::RowsRead => output,
+            _ => input,
+        };
         if (table.len() != 20) | (page > 512) {
             return None;
         }

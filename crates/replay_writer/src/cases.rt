@@ -8,6 +8,17 @@ use recorded::pages::{FULL, holds};
 use recorded::told::{Told, answer};
 use writer::write::write_pbn;
 
+// The places of the counts, behind those of the five groups.
+#[derive(Clone, Copy)]
+enum Place {
+    Written = 5,
+    BoxFull = 6,
+    ListFull = 7,
+    PageFull = 8,
+    Bytes = 9,
+    Pages = 10,
+}
+
 // The words and bytes that are lent.
 #[derive(Clone, Copy)]
 pub struct Lent {
@@ -29,19 +40,20 @@ pub struct Case<'a> {
 }
 
 impl<'a> Case<'a> {
-    // Whether these words are those that reading leaves, all zero after a refusal.
-    fn is_read(self, lent: &[u32], also: &[u32]) -> bool {
-        let mut cards = [FULL; 8192];
-        let mut entries = [FULL; 8192];
-        let cards = &mut cards[..self.lent.cards];
-        let entries = &mut entries[..self.lent.entries];
+    // Whether these words are those that reading leaves, all zero after a refusal. Words are lent anew, since those that writing left are
+    // compared with them; a function that lends them would be given what to do as a closure, and could promise nothing of it.
+    fn is_read(self, cards: &[u32], entries: &[u32]) -> bool {
+        let mut read_cards = [FULL; 8192];
+        let mut read_entries = [FULL; 8192];
+        let read_cards = &mut read_cards[..self.lent.cards];
+        let read_entries = &mut read_entries[..self.lent.entries];
         if self.told.is_ok() {
-            let _ = read_pbn(self.text, cards, entries);
+            let _ = read_pbn(self.text, read_cards, read_entries);
         } else {
-            cards.fill(0);
-            entries.fill(0);
+            read_cards.fill(0);
+            read_entries.fill(0);
         }
-        (lent == &*cards) & (also == &*entries)
+        (cards == &*read_cards) & (entries == &*read_entries)
     }
 }
 
@@ -87,14 +99,14 @@ impl<'a> Recorded<'a> for Case<'a> {
         add(counts, self.group, 1);
         match self.told {
             Ok(bytes) => {
-                add(counts, 5, 1);
-                add(counts, 9, bytes);
+                add(counts, Place::Written as usize, 1);
+                add(counts, Place::Bytes as usize, bytes);
             }
-            Err(Told { refusal: 2, .. }) => add(counts, 6, 1),
-            Err(Told { refusal: 3, .. }) => add(counts, 7, 1),
-            Err(Told { refusal: 7, .. }) => add(counts, 8, 1),
+            Err(Told { refusal: 2, .. }) => add(counts, Place::BoxFull as usize, 1),
+            Err(Told { refusal: 3, .. }) => add(counts, Place::ListFull as usize, 1),
+            Err(Told { refusal: 7, .. }) => add(counts, Place::PageFull as usize, 1),
             Err(_) => (),
         }
-        add(counts, 10, self.lent.page as u64);
+        add(counts, Place::Pages as usize, self.lent.page as u64);
     }
 }

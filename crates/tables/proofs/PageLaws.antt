@@ -6,12 +6,12 @@ use mathlib.Core.List.{List, [], ◌∷◌, ◌++◌, append_assoc}
 use native.Mathlib.Nat.{add-zero}
 use native.Mathlib.Omega.{arith}
 use native.Mathlib.Nat.{pow-succ'}
-use lib.Dec.{ltb, leb, eqb}
+use lib.Dec.{ltb, leb}
 use lib.ListN.{length, take, set, replicate, length-append, length-replicate}
 use lib.Seq.{sets, sets-eq, length-sets, take-append_seam}
-use borrow.Author.Tests.{leb-true, lt-ltb, le-ltb, ltb-true, ltb-false, eqb-true, eqb-false}
+use borrow.Author.Tests.{leb-true, lt-ltb, le-ltb, ltb-true, ltb-false}
 use Rattle.tables.specs.declared.refusal.Refusal.{Refusal}
-use Rattle.std.specs.Prelude.{Result}
+use Rattle.std.specs.Prelude.{Bool, Result}
 use Rattle.tables.specs.Numbers.{digits, decimal}
 use Rattle.tables.specs.Page.{Wrote, right, answer_of, page_of}
 use Rattle.tables.specs.PageSteps.{Put, PageEnded}
@@ -132,14 +132,17 @@ unfolding right
 right_space n h = rw (decimal_one n h)
 
 -- In two places a number of one digit has a space before it.
-pub right_is : (w n : ℕ) → w ≤ 2 → n < 4294967296 → right w (decimal n) ≡ cond (ltb n 10 && eqb w 2) (32 ∷ decimal n) (decimal n)
-right_is w n h l =
+pub right_is : (wide : Bool) (n : ℕ) → n < 4294967296 → right (cond wide 2 1) (decimal n) ≡ cond (ltb n 10 && wide) (32 ∷ decimal n) (decimal n)
+right_is wide n l =
     by_cases (ltb n 10)
     (λ t.
-    by_cases (eqb w 2)
-    (λ u. rw (t, u) (rw (eqb-true w 2 u) (right_space n (ltb-true n 10 t))))
-    (λ u. rw (t, u) (right_whole w n (omega (arith, decimal_some n, eqb-false w 2 u)))))
-    (λ t. rw t (right_whole w n (omega (arith, decimal_two n l (ltb-false n 10 t)))))
+    by_cases wide
+    (λ u. rw (t, u) (right_space n (ltb-true n 10 t)))
+    (λ u. rw (t, u) (right_whole 1 n (decimal_some n))))
+    (λ t.
+    by_cases wide
+    (λ u. rw (t, u) (right_whole 2 n (decimal_two n l (ltb-false n 10 t))))
+    (λ u. rw (t, u) (right_whole 1 n (decimal_some n))))
 
 -- ---- the end
 

@@ -17,7 +17,7 @@ pub puts_then : {p : Page} {xs : List ℕ} {q : Page} {ys : List ℕ} {r : Page}
 puts_then {p} {xs} {q} {ys} {r} a b =
     record {
       put = λ h.
-          let n : p.at + (length xs + length ys) ≤ 549755813888 = rw length-append at h in
+          let n : p.at + (length xs + length ys) ≤ 1099511627776 = rw length-append at h in
           let first = a.put (omega arith) in
           put_then first (b.put (omega (arith, first.next)));
       kept = b.kept ∙ a.kept;
@@ -34,7 +34,7 @@ puts_nothing p = record { put = λ h. record { after = refl; next = omega arith 
 
 -- What is left to put: the page p₀ is to have bs, and p what is left of it, rest.
 pub record PutsLeft (p₀ : Page) (bs : List ℕ) (p : Page) (rest : List ℕ) : Type 0 where
-  pub left : p₀.at + length bs ≤ 549755813888 → ToPut p₀.bytes.now p₀.at bs p.bytes.now p.at rest
+  pub left : p₀.at + length bs ≤ 1099511627776 → ToPut p₀.bytes.now p₀.at bs p.bytes.now p.at rest
   pub kept : length p.bytes.now ≡ length p₀.bytes.now
   pub same : p.bytes.ghost_name ≡ p₀.bytes.ghost_name
 
@@ -61,5 +61,5 @@ pub puts_all : {p₀ : Page} {bs : List ℕ} {p : Page} → PutsLeft p₀ bs p [
 puts_all t = record { put = λ h. put_all_lem (t.left h); kept = t.kept; same = t.same }
 
 -- A page on which bs was put from its start, and which was finished, is written.
-pub ended : {page : List ℕ} {p : Page} {bs : List ℕ} {q : Page} {page₁ page' : List ℕ} {r : Result ℕ Refusal} → PageEnded q.at q.bytes.now page₁ r → Puts p bs q → p.at ≡ 0 → p.bytes.now ≡ page → page₁ ≡ page' → length bs ≤ 549755813888 → Wrote bs page page' r
+pub ended : {page : List ℕ} {p : Page} {bs : List ℕ} {q : Page} {page₁ page' : List ℕ} {r : Result ℕ Refusal} → PageEnded q.at q.bytes.now page₁ r → Puts p bs q → p.at ≡ 0 → p.bytes.now ≡ page → page₁ ≡ page' → length bs ≤ 1099511627776 → Wrote bs page page' r
 ended {page} {p} {bs} {q} {page₁} {page'} {r} e a z b f h = finished (rw (← b) (rw z at (a.put (omega (arith, z))))) (subst (λ (l : List ℕ). PageEnded q.at q.bytes.now l r) f e)

@@ -1,13 +1,13 @@
 // The two PBN forms of a double-dummy table (dd.rs). A table is an array of exactly 20 bytes, its cells in the order N, S, E, W,
 // each NT, S, H, D, C.
-ghost use Rattle.std.specs.Prelude.{◌≡◌, ◌+◌, ◌≤◌, ◌<◌, length, replicate, ltb, Ok, MatchOption};
+ghost use Rattle.std.specs.Prelude.{◌≡◌, ◌+◌, ◌≤◌, ◌<◌, length, replicate, cond, ltb, MatchOption};
 ghost use Rattle.std.specs.List.{list_any};
 ghost use Rattle.tables.specs.Letters.{built_in};
 ghost use Rattle.tables.specs.Text.{characters};
 ghost use Rattle.tables.specs.Numbers.{decimal};
 ghost use Rattle.tables.specs.Page.{Wrote, right};
 ghost use Rattle.tables.specs.Puts.{Puts};
-ghost use Rattle.tables.specs.Tables.{digit_byte, digits_text, digit_of, digits_reading, table_of_digits, width_of, header_text, row_order, cell_of, column_text, row_text, rows_from, rows_text, fields_row, row_of, stored_row, missing, gathered, table_of_rows};
+ghost use Rattle.tables.specs.Tables.{digit_byte, digits_text, digit_of, digits_reading, table_of_digits, header_text, row_order, cell_of, column_text, row_text, rows_text, fields_row, row_of, stored_row, missing, gathered, table_of_rows};
 
 use crate::letters::{Conventions, built_in, seat_letter, seat_of, strain_of, suit_letter};
 use crate::lines::lines_of;
@@ -18,7 +18,7 @@ use crate::text::{
     count_characters, first_character, first_word, from, next_words, trim, trim_start,
 };
 
-// One trick count as a base-14 digit.
+// One trick count as a base-14 digit, d of more than 13: `from_digit` answers an Option of a char, with none there, for three arms.
 #[tactic(auto, unfolding(crate::specs::Tables::digit_byte))]
 pub fn encode_tricks(tricks: u8) -> u8
     ensures { result ≡ digit_byte tricks }
@@ -35,12 +35,7 @@ pub fn encode_tricks(tricks: u8) -> u8
 fn decode_tricks(b: u8) -> Option<u8>
     ensures { MatchOption result (13 < digit_of b) (λ d. (d ≡ digit_of b) × (d ≤ 13)) }
 {
-    match b {
-        b'0'..=b'9' => Some(b - b'0'),
-        b'A'..=b'D' => Some(b - b'A' + 10),
-        b'a'..=b'd' => Some(b - b'a' + 10),
-        _ => None,
-    }
+    char::from(b).to_digit(14).map(|d| d as u8)
 }
 
 // The digits of a table of bytes. The writer's put_digits has the words of a card, any of which may be above 255 and is cut first: one
@@ -53,7 +48,8 @@ fn put_digits(page: &mut Page, table: &[u8])
     }
 }
 
-// The value of a DoubleDummyTricks tag.
+// The value of a DoubleDummyTricks tag. Given to one function, what the three writers put between the first line and the last would be a
+// closure, with a contract for it.
 pub fn dd_table_to_pbn(table: &[u8; 20], page: &mut [u8]) -> Result<u64, Refusal>
     ensures { Wrote (digits_text table.now) page.old page.new result }
 {
@@ -62,7 +58,7 @@ pub fn dd_table_to_pbn(table: &[u8; 20], page: &mut [u8]) -> Result<u64, Refusal
     put.finish()
 }
 
-// The digits of a text of twenty characters.
+// The digits of a text of twenty characters. The byte i is the character i: each before it was a digit, one byte.
 fn digits_read(value: &[u8]) -> Result<[u8; 20], Refusal>
     requires { length (characters value.now) ≡ 20 }
     ensures { result ≡ digits_reading (characters value.now) }
@@ -90,26 +86,18 @@ pub fn dd_table_from_pbn(value: &[u8]) -> Result<[u8; 20], Refusal>
     Err(Refusal::Length(n as u64))
 }
 
-// Whether a cell reaches ten tricks.
-fn has_ten(table: &[u8]) -> bool
+// Whether the result column is two wide and not one: a cell reaches ten tricks.
+fn is_wide(table: &[u8]) -> bool
     ensures { result ≡ list_any (λ t. ltb 9 t) table.now }
 {
     table.iter().any(|tricks| *tricks > 9)
-}
-
-// The width of the result column: 2 once a cell reaches ten tricks.
-#[tactic(auto, using(crate::proofs::TableLaws::width_any))]
-fn result_width(table: &[u8]) -> usize
-    ensures { (result ≡ width_of table.now) × (result ≤ 2) }
-{
-    if has_ten(table) { 2 } else { 1 }
 }
 
 fn put_header(page: &mut Page, table: &[u8])
     ensures { Puts page.old (header_text table.now) page.new }
 {
     page.put_text(b"Declarer;Denomination\\2R;Result\\");
-    page.put_byte(b'0' + result_width(table) as u8);
+    page.put_byte(if is_wide(table) { b'2' } else { b'1' });
     page.put_byte(b'R');
 }
 
@@ -146,34 +134,32 @@ fn put_column(page: &mut Page, c: Conventions, k: u8)
     }
 }
 
-// Puts a number to the right in w places.
-fn put_right(page: &mut Page, w: usize, tricks: u8)
-    requires { w ≤ 2 }
-    ensures { Puts page.old (right w (decimal tricks)) page.new }
+// Puts a number to the right in two places, or in one.
+fn put_right(page: &mut Page, wide: bool, tricks: u8)
+    ensures { Puts page.old (right (cond wide 2 1) (decimal tricks)) page.new }
 {
-    if (tricks < 10) & (w == 2) {
+    if (tricks < 10) & wide {
         page.put_byte(b' ');
     }
     page.put_decimal(u32::from(tricks));
 }
 
-fn put_row(page: &mut Page, c: Conventions, w: usize, cell: u8, tricks: u8)
-    requires { w ≤ 2 }
-    ensures { Puts page.old (row_text c w cell tricks) page.new }
+fn put_row(page: &mut Page, c: Conventions, wide: bool, cell: u8, tricks: u8)
+    ensures { Puts page.old (row_text c (cond wide 2 1) cell tricks) page.new }
 {
     page.put_byte(seat_letter(c, row_order(cell / 5)));
     page.put_byte(b' ');
     put_column(page, c, cell % 5);
     page.put_byte(b' ');
-    put_right(page, w, tricks);
+    put_right(page, wide, tricks);
 }
 
 fn put_rows(page: &mut Page, c: Conventions, table: &[u8; 20])
     ensures { Puts page.old (rows_text c table.now) page.new }
 {
-    let w = result_width(table);
+    let wide = is_wide(table);
     for (i, tricks) in table.iter().enumerate() {
-        put_row(page, c, w, i as u8, *tricks);
+        put_row(page, c, wide, i as u8, *tricks);
         page.put_byte(b'\n');
     }
 }
@@ -247,7 +233,8 @@ pub fn read_row(c: Conventions, row: &[u8], n: u64) -> Result<Option<Cell>, Refu
     )
 }
 
-// The cells before any row: 255 for one that none has given. With Options the table would have to be built from them.
+// The cells before any row: 255 for one that none has given, as the definitions say. With Options the table would have to be built from
+// them.
 pub fn no_cells() -> [u8; 20]
     ensures { result ≡ replicate 20 255 }
 {

@@ -1,4 +1,5 @@
-// The letters of seats, suits, strains and ranks, by conventions that a caller passes by value.
+// The letters of seats, suits, strains and ranks, by conventions that a caller passes by value. Seats, suits, strains and ranks are
+// numbers, as in a card's words, which C reads; specs/Letters.antt counts with them.
 //
 // Each reading answers an Option, and its contract turns none into the number that specs/Letters.antt has for it (4 of a seat or a suit, 5
 // of a strain, 13 of a rank): the definitions of the layers above compare these numbers, and a card's words in C hold the 4.
@@ -37,11 +38,11 @@ pub fn seat_of(c: Conventions, b: u8) -> Option<u8>
     ensures { (unwrap_or result 4 ≡ seat_of c b) × IfSome result (λ s. s < 4) }
 {
     let seat = index_of(&c.letters[..4], to_capital(b));
-    if seat < 4 { Some(seat as u8) } else { None }
+    (seat < 4).then_some(seat as u8)
 }
 
 // x or y. Which letter comes next cannot be foreseen, so that a branch on one costs more than a comparison with all of them:
-// `position` or a branch for each letter takes five times as long.
+// `position` or a branch for each letter takes five times as long (docs/SPEED.md).
 fn choose(test: bool, x: u8, y: Option<u8>) -> Option<u8>
     ensures { result ≡ cond test (Some x) y }
 {
@@ -76,6 +77,7 @@ fn honour_of(c: Conventions, b: u8) -> Option<u8>
 pub fn rank_of(c: Conventions, b: u8) -> Option<u8>
     ensures { (unwrap_or result 13 ≡ rank_of c b) × IfSome result (λ r. r < 13) }
 {
+    // Before the match, so that no branch on the letter stands in front of it (see `choose`).
     let honour = honour_of(c, b);
     match b {
         b'2'..=b'9' => Some(b - b'2'),

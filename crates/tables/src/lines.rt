@@ -5,7 +5,7 @@ ghost use Rattle.tables.specs.LineWalk.{line_at, lines_of, at_end, NextLine, lin
 use crate::text::{from, index_of, upto};
 
 // The line that starts at `start`, with its LF, or up to the text's end; nothing past the end.
-pub fn line_at(text: &[u8], start: usize) -> &[u8]
+fn line_at(text: &[u8], start: usize) -> &[u8]
     ensures { result.now ≡ line_at text.now start }
 {
     let rest = from(text, start);
@@ -13,6 +13,8 @@ pub fn line_at(text: &[u8], start: usize) -> &[u8]
 }
 
 // The lines of a text that are left, each with its LF, so that their lengths say where they start: the text, and the start of the next.
+// `split_inclusive` gives the same lines and looks at one byte a turn, where index_of looks at four. Where a line starts is not given with
+// it: lin and the rows of a table want no place, and record_end of the reader wants the end, so that a pair would be taken apart there.
 #[derive(Clone, Copy)]
 pub struct Lines<'a> {
     pub text: &'a [u8],
@@ -34,7 +36,7 @@ pub fn lines_from(text: &[u8], start: usize) -> Lines<'_>
 }
 
 impl<'a> Lines<'a> {
-    // Whether no line is left.
+    // Whether no line is left. Public with the walk, whose form docs/DECISIONS.md names.
     pub fn is_at_end(&self) -> bool
         ensures { result ≡ at_end self.now }
     {

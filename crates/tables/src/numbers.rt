@@ -1,7 +1,8 @@
-// Decimal numbers in a text. The library's `parse` takes a `&str`, which these bytes need not be, and knows the limits of its types alone,
-// where the limit here is the caller's, 255 of a result.
+// Decimal numbers in a text. By `parse` of a &str a number is one line, `str::from_utf8(s).ok()?.parse::<u32>().ok().filter(..)`, but it
+// would have to be shown beside it that bytes that are no UTF-8, and numbers above 32 bits, are none of `number_of`, for a loop of eight
+// lines; and `-0`, which parse_signed takes, is none of `parse`'s either.
 ghost use Rattle.std.specs.Prelude.{◌≡◌, ◌<◌, ◌≤◌};
-ghost use Rattle.tables.specs.Numbers.{digits_from, some_digits, number_of, signed_of};
+ghost use Rattle.tables.specs.Numbers.{some_digits, number_of, signed_of};
 ghost use Rattle.tables.specs.NumberSteps.{IsWithin};
 
 // One or more digits.

@@ -6,7 +6,8 @@ ghost use Rattle.tables.specs.PageSteps.{PageEnded};
 
 use crate::refusal::Refusal;
 
-// A lent page, and the place behind the text that was put on it. Text is counted past the page's end, and put as far as the page reaches.
+// A lent page, and the place behind the text that was put on it. Text is counted past the page's end, which a Vec (no heap) and a Cursor
+// (it stops at the end) do not, and put as far as the page reaches.
 // Conventions go beside it and not into it: most of what is put has no letters of theirs, and `new` would ask the listing for some.
 #[derive(Drop)]
 pub struct Page<'a> {

@@ -1,4 +1,5 @@
-// This layer's refusals, each with its carried number; specs/Refusals.antt gives the numbers 7 to 15.
+// This layer's refusals, each with its carried number; specs/Refusals.antt gives the numbers 7 to 15, which are C's. Each refusal is an arm
+// of its own there and here: a struct of a kind and a number would be taken apart again wherever a definition tells them apart.
 ghost use Rattle.tables.specs.Refusals.{refusal_number, refusal_carries};
 
 use crate::refused::{Edition, Refused};

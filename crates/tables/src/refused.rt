@@ -10,7 +10,7 @@ pub enum Edition {
 }
 
 impl Edition {
-    // 1 old, 2 new.
+    // 1 old, 2 new, C's numbers, of which 0 is neither: an arm each, as `edition_number` of the specs has them.
     pub fn number(self) -> u64
         ensures { result ≡ edition_number self }
     {

@@ -1,5 +1,5 @@
 // White space, trimming, fields, lines and characters.
-ghost use Rattle.std.specs.Prelude.{◌≡◌, cond, ◌+◌, ◌≤◌, ◌<◌, ◌^◌, length, get_or, take, drop};
+ghost use Rattle.std.specs.Prelude.{◌≡◌, ◌+◌, ◌≤◌, ◌<◌, length, get_or, take, drop};
 ghost use Rattle.tables.specs.Text.{is_white, lead, trim_start, trim_end, trimmed, word, past_word, before, is_inside, characters, starts, first_character};
 
 // The byte at `i`, and 0 past the end, as `get_or` of the specs: callers compare it with signs and letters, none of which is 0.
@@ -93,7 +93,7 @@ fn bytes_before(s: &[u8], x: u8) -> usize
 
 // The number of bytes before the first `x`, all of them where there is none: a line, a field or a value is just these bytes
 // (`upto(s, index_of(s, x))`), whether an `x` ends it or not, and an Option would have to be turned back there. Four bytes a turn: one a
-// turn, as `position` takes, is a quarter slower.
+// turn, as `position` takes, is a quarter slower (3.00 times the Rust is the bar of reading).
 pub fn index_of(s: &[u8], x: u8) -> usize
     ensures { (result ≡ length (before x s.now)) × (result ≤ length s.now) }
 {

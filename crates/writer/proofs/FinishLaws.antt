@@ -9,6 +9,7 @@ use lib.ListN.{length, get_or, take, drop, replicate, length-append, length-map,
 use lib.Seq.{drop_at, get_or-take, get_or-drop, get_or-append-add, drop-append-add, length-take-le}
 use borrow.Author.Tests.{lt-ltb}
 use Rattle.std.specs.Prelude.{Result, Ok, Err, is_ok}
+use Rattle.std.specs.Result.{is_err}
 use Rattle.tables.specs.declared.letters.Conventions.{Conventions}
 use Rattle.tables.proofs.Laws.{clash}
 use Rattle.reader.specs.declared.board.TableCard.{TableCard}
@@ -27,13 +28,14 @@ use Rattle.planning.specs.declared.editions.Both.{Both}
 use Rattle.planning.specs.Plans.{Boxes, old_reading, new_reading, both_after, editions_of, plans_of, BoxesAfter, BothRead, Editions}
 use Rattle.planning.specs.PlanSteps.{BoxesKept}
 use Rattle.planning.proofs.BothLaws.{both_are_taken}
-use Rattle.planning.proofs.AnswerLaws.{SameRoom, boxes_kept, there, boards_are}
+use Rattle.planning.proofs.AnswerLaws.{SameRoom, there, boards_are}
 use Rattle.writer.specs.declared.finish.FinishRefusal.TheVariants.{Edition}
 use Rattle.writer.specs.declared.finish.FinishRefusal.{FinishRefusal}
 use Rattle.writer.specs.Held.{card_word}
 use Rattle.writer.specs.Given.{tables_of, finished_boards, finished_text}
 use Rattle.writer.specs.GivenCards.{given_cards, marked, given_cleared, changed_all, given_box, tabled_page, BoardsFinished}
 use Rattle.writer.specs.Finishings.{finishing_of, IsFinished}
+use Rattle.writer.proofs.WriteLaws.{no_answer}
 use Rattle.writer.proofs.HeldBoards.{Holds, taken_holds}
 use Rattle.writer.proofs.ChangedCards.{marked_long, changed_flat, changed_whole}
 use Rattle.writer.proofs.GiveCells.{part_here_lem}
@@ -274,29 +276,46 @@ module _ {c : Conventions} {old new : List ℕ} {boxes boxes₁ : Boxes} {q : Ed
         rw (box_marked, count_is) (PageWith c new boxes₁.new_cards tabled boxes₁.new_entries ts new_holds other count)
 
   -- Both editions were read, and the new one finished.
-  pub finish_done : {answers page page' : List ℕ} {r : Result ℕ FinishRefusal} {boxes' : Boxes} → SameRoom boxes boxes₁
-      → BoardsFinished c new both.old.boards both.new.boards boxes₁ answers page r boxes' page'
-      → IsFinished c old new boxes answers page r boxes' page'
-  unfolding finishing_of
-  finish_done {answers} {page} {page'} {r} {boxes'} room d =
-      let text = finished_text c old new answers in
-      let same = page_is answers in
-      let few : length (tabled_page c new both.old.boards both.new.boards boxes₁ answers) ≤ 549755813888 =
-      rw same (omega (arith, FinishedFew c old new answers new_holds.short)) in
-      let a : editions_of c old new boxes ≡ Ok both = sym b.answer ∙ e in
-      let kept : BoxesKept (is_ok r) boxes₁ boxes' = rw (box_back answers) at d.boxes_left in
-      record {
-        answer = d.answer few ∙ rw (a, same, boards_are b e);
-        boxes_left = boxes_kept (is_ok r) filled room kept;
-        page_left = d.page_left few ∙ rw same;
-      }
+  module _ {answers page page' : List ℕ} {r : Result ℕ FinishRefusal} {boxes' : Boxes}
+      (d : BoardsFinished c new both.old.boards both.new.boards boxes₁ answers page r boxes' page') where
+    few : length (tabled_page c new both.old.boards both.new.boards boxes₁ answers) ≤ 549755813888
+    few = rw (page_is answers) (omega (arith, FinishedFew c old new answers new_holds.short))
+
+    pub finish_told : r ≡ finishing_of c old new boxes answers (length page)
+    unfolding finishing_of
+    finish_told =
+        let a : editions_of c old new boxes ≡ Ok both = sym b.answer ∙ e in
+        d.answer few ∙ rw (a, page_is answers, boards_are b e)
+
+    pub finish_done : is_ok r ≡ true → IsFinished c old new boxes answers page r boxes' page'
+    finish_done h =
+        record {
+          answer = finish_told;
+          boxes_left = rw (h, d.boxes_left h, box_back answers) filled;
+          page_left = d.page_left few h ∙ rw (page_is answers, h);
+        }
 
 -- An edition was refused.
-pub finish_refused : {c : Conventions} {old new : List ℕ} {boxes boxes' : Boxes} {q : Editions} {f : EditionsRefusal}
-    {answers page page' : List ℕ} → BothRead c old new boxes boxes' q → q ≡ Err f → page' ≡ zeros page
-    → IsFinished c old new boxes answers page (Err (Edition f)) boxes' page'
+pub finish_refused : {c : Conventions} {old new : List ℕ} {boxes boxes' : Boxes} {q : Editions} {f : EditionsRefusal} {g : FinishRefusal}
+    (answers : List ℕ) (m : ℕ) → BothRead c old new boxes boxes' q → q ≡ Err f → g ≡ Edition f → Err g ≡ finishing_of c old new boxes answers m
 unfolding finishing_of
-finish_refused {c} {old} {new} {boxes} {q = q} {f = f} b e z =
-    let well : is_ok q ≡ false = ap is_ok e in
+finish_refused {c} {old} {new} {boxes} {f = f} answers m b e h =
     let a : editions_of c old new boxes ≡ Err f = sym b.answer ∙ e in
-    record { answer = rw a; boxes_left = rw well at b.boxes_left; page_left = z }
+    rw (a, h)
+
+-- All that was lent is set to 0 after a refusal.
+pub finish_zero : {c : Conventions} {old new : List ℕ} {boxes boxes₁ boxes₂ : Boxes} {answers page : List ℕ} (page₁ : List ℕ) {page₂ : List ℕ} {r : Result ℕ FinishRefusal}
+    → r ≡ finishing_of c old new boxes answers (length page) → is_err r ≡ true → SameRoom boxes boxes₁ → BoxesKept false boxes₁ boxes₂
+    → length page₁ ≡ length page → page₂ ≡ zeros page₁ → IsFinished c old new boxes answers page r boxes₂ page₂
+finish_zero page₁ {r = r} a err s z kp y =
+    let h = no_answer r err in
+    record {
+      answer = a;
+      boxes_left = rw h (record {
+        old_cards = z.old_cards ∙ rw s.old_cards;
+        old_entries = z.old_entries ∙ rw s.old_entries;
+        new_cards = z.new_cards ∙ rw s.new_cards;
+        new_entries = z.new_entries ∙ rw s.new_entries;
+      });
+      page_left = y ∙ rw (h, kp);
+    }

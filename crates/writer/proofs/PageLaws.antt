@@ -44,9 +44,9 @@ header_built {p} {lead} {q} {r} a e b =
       same = b.same ∙ a.same;
     }))
   where
-    too_long : p.at + length (lead ++ 10 ∷ []) ≤ 549755813888 → eqb (length lead) 0 ≡ false → ⊥
+    too_long : p.at + length (lead ++ 10 ∷ []) ≤ 1099511627776 → eqb (length lead) 0 ≡ false → ⊥
     too_long h t =
-        let n : p.at + (length lead + 1) ≤ 549755813888 = rw length-append at h in
+        let n : p.at + (length lead + 1) ≤ 1099511627776 = rw length-append at h in
         let x = a.put (omega arith) in
         eqb-false (length lead) 0 t (omega (arith, x.next, e))
 
@@ -62,7 +62,7 @@ header_own {p} {lead} {q} {r} a e b =
     }))
     (λ t. rw t (puts_then a b))
   where
-    none_put : p.at + length built_in_header ≤ 549755813888 → length lead ≡ 0 → ⊥
+    none_put : p.at + length built_in_header ≤ 1099511627776 → length lead ≡ 0 → ⊥
     none_put h z =
         let x = a.put (omega arith) in
         e (omega (arith, x.next))

@@ -1,16 +1,13 @@
 -- Laws of the entries of a board in a row, and of its remarks.
-use Prim.Native.Nat.{ℕ, zero, suc, ◌+◌, ◌-◌, ◌≤◌, ◌<◌}
+use Prim.Native.Nat.{ℕ, suc, ◌+◌, ◌-◌, ◌≤◌, ◌<◌}
 use mathlib.Core.Path.{◌≡◌, refl, sym, ◌∙◌}
-use mathlib.Core.Bool.{Bool, true, false, cond, ◌&&◌}
+use mathlib.Core.Bool.{Bool, true, false, ◌&&◌}
 use mathlib.Core.List.{List, [], ◌∷◌, ◌++◌}
-use native.Mathlib.Numerals.{add-one}
 use native.Mathlib.Omega.{arith}
 use lib.Dec.{eqb}
-use lib.ListN.{length, drop, get_or}
-use lib.Seq.{drop-cons}
 use borrow.Author.Tests.{eqb-true, ne_eqb}
 use Rattle.tables.proofs.Laws.{both}
-use Rattle.reader.specs.Plain.{TagPair, first_bytes, starts_line, without_returns}
+use Rattle.reader.specs.Plain.{TagPair, first_bytes}
 use Rattle.writer.specs.declared.items.Items.{Items}
 use Rattle.writer.specs.Held.{entry_word, place_bytes, item_at, items_at}
 use Rattle.writer.specs.Items.{items_of, item_of, tag_of, ItemsFrom, IsNextEntry, remark_text, remarks_text}
@@ -65,24 +62,6 @@ unfolding item_at
 second_value is h q =
     let z : is.count - 1 ≡ suc (is.count - 2) = omega arith in
     rw (z, ne_eqb (entry_word is.entries.now (is.first + 1) 0) 8 q)
-
--- ---- a block's value
-
-starts_at : (s : List ℕ) (k : ℕ) → starts_line (drop k s) ≡ eqb (get_or s k 0) 10
-starts_at [] zero = refl
-starts_at [] (suc k) = refl
-starts_at (b ∷ bs) zero = refl
-starts_at (b ∷ bs) (suc k) = starts_at bs k
-
-returns_step : (s : List ℕ) (i : ℕ) → i < length s
-    → without_returns (drop i s) ≡ cond (eqb (get_or s i 0) 13 && eqb (get_or s (i + 1) 0) 10) (without_returns (drop (i + 1) s)) (get_or s i 0 ∷ without_returns (drop (i + 1) s))
-returns_step s i h = rw (add-one i, drop-cons s i 0 h, starts_at s (suc i))
-
-pub returns_dropped : (s : List ℕ) (i : ℕ) → i < length s → (eqb (get_or s i 0) 13 && eqb (get_or s (i + 1) 0) 10) ≡ true → without_returns (drop i s) ≡ without_returns (drop (i + 1) s)
-returns_dropped s i h e = returns_step s i h ∙ rw e
-
-pub returns_kept : (s : List ℕ) (i : ℕ) → i < length s → (eqb (get_or s i 0) 13 && eqb (get_or s (i + 1) 0) 10) ≡ false → without_returns (drop i s) ≡ (get_or s i 0 ∷ []) ++ without_returns (drop (i + 1) s)
-returns_kept s i h e = returns_step s i h ∙ rw e
 
 -- ---- remarks
 

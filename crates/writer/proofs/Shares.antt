@@ -17,7 +17,7 @@ use Rattle.tables.proofs.Laws.{by_cases, clash}
 use Rattle.reader.specs.declared.store.Entry.{Entry}
 use Rattle.reader.specs.declared.tag.Span.{Span}
 use Rattle.reader.specs.declared.tag.Tag.{Tag as TagPlaces}
-use Rattle.std.specs.Prelude.{Some, None}
+use Rattle.std.specs.Prelude.{Option as Maybe, Some, None}
 use Rattle.reader.specs.declared.line.Line.{Line}
 use Rattle.reader.specs.declared.line.Line.TheVariants.{Blank, Brace, Directive, Tag as TagOn, Bracket, Data}
 use Rattle.reader.specs.declared.line.TagReading.{TagReading}
@@ -323,7 +323,7 @@ commentary_shared r p s l i e =
 data_share : (s : State) (p : ℕ) (d : Span) → shares (data_added s p d).entries ≡ 0
 data_share s p d = chosen (λ es. shares es ≡ 0) (eqb (kind_of s.section) 0) [] (entry 5 (p + d.start) d.len (kind_of s.section) ∷ []) (λ e. refl) (λ e. refl)
 
-tagged_share : (c : Conventions) (s : State) (p : ℕ) (l : List ℕ) (q : ℕ) (t : TagPlaces) (split : Span) → shares (tagged c s p l q t split).entries ≡ t.name.len + t.value.len + 4
+tagged_share : (c : Conventions) (s : State) (p : ℕ) (l : List ℕ) (q : ℕ) (t : TagPlaces) (split : Maybe Span) → shares (tagged c s p l q t split).entries ≡ t.name.len + t.value.len + 4
 unfolding tagged
 tagged_share c s p l q t split = omega arith
 
@@ -338,9 +338,9 @@ reading_shared c r p s l (WithComment t d) i h =
     (rw shares_append (omega (arith, tagged_share c s p l q t no_span)))
 reading_shared c r p s l (WithData t d) i h =
     let q = p + length l in
-    let o = tagged c s p l q t (at p d) in
-    flat_shared r p s l (read_by c s p l q (WithData t d)) i (tagged_commentary c s p l q t (at p d))
-    (rw shares_append (omega (arith, tagged_share c s p l q t (at p d), data_share o.state p d)))
+    let o = tagged c s p l q t (Some (at p d)) in
+    flat_shared r p s l (read_by c s p l q (WithData t d)) i (tagged_commentary c s p l q t (Some (at p d)))
+    (rw shares_append (omega (arith, tagged_share c s p l q t (Some (at p d)), data_share o.state p d)))
 
 kind_fits : (l : List ℕ) (t : TagReading) → line_kind l ≡ TagOn t → ReadingFits t (length l)
 kind_fits l t e = rw e at (line_fits l)

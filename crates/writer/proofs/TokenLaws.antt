@@ -8,7 +8,7 @@ use native.Mathlib.Omega.{arith}
 use lib.Dec.{eqb, ltb}
 use lib.ListN.{length, drop, get_or, replicate}
 use lib.Seq.{drop-cons}
-use borrow.Author.Tests.{eqb-true, ne_eqb, le-ltb, ltb-true, ltb-false}
+use borrow.Author.Tests.{eqb-true, le-ltb, lt-ltb, ltb-false, ltb-true, ne_eqb}
 use Rattle.tables.specs.declared.letters.Conventions.{Conventions}
 use Rattle.tables.specs.Letters.{rank_letter}
 use Rattle.tables.specs.Tables.{digit_byte, digits_text}
@@ -67,9 +67,17 @@ digits_none cards k i n h =
 
 -- ---- slots of a trick
 
-pub slots_step : (c : Conventions) (n : ℕ) (ks : List ℕ) (i : ℕ) → i < length ks
+slots_step : (c : Conventions) (n : ℕ) (ks : List ℕ) (i : ℕ) → i < length ks
     → slots_text c n (drop i ks) ≡ slot_text c n (get_or ks i 0) ++ slots_text c (one_more_card n (get_or ks i 0)) (drop (i + 1) ks)
 slots_step c n ks i h = rw (add-one i, drop-cons ks i 0 h)
+
+pub slots_put : (c : Conventions) (n : ℕ) (ks : List ℕ) (i : ℕ) → i < length ks → get_or ks i 0 < 52
+    → slots_text c n (drop i ks) ≡ slot_text c n (get_or ks i 0) ++ slots_text c (n + 1) (drop (i + 1) ks)
+slots_put c n ks i h q = slots_step c n ks i h ∙ rw (lt-ltb _ _ q)
+
+pub slots_pass : (c : Conventions) (n : ℕ) (ks : List ℕ) (i : ℕ) → i < length ks → 52 ≤ get_or ks i 0
+    → slots_text c n (drop i ks) ≡ slots_text c n (drop (i + 1) ks)
+slots_pass c n ks i h q = slots_step c n ks i h ∙ rw (le-ltb _ _ q)
 
 -- ---- ranks of a suit
 

@@ -1,30 +1,32 @@
 -- Laws of writing a whole edition.
 use Prim.Native.Nat.{ℕ, ◌/◌}
 use mathlib.Core.Path.{◌≡◌, refl, sym, ap, ◌∙◌}
-use mathlib.Core.Bool.{cond}
+use mathlib.Core.Bool.{true, false, cond}
 use mathlib.Core.List.{List}
 use native.Mathlib.Omega.{arith}
 use lib.Dec.{ltb, leb}
 use lib.ListN.{length}
 use Rattle.std.specs.Prelude.{Ok, Err, is_ok, Result}
+use Rattle.std.specs.Result.{MatchResult, IsErrAnd, is_err}
 use Rattle.tables.specs.declared.letters.Conventions.{Conventions}
 use Rattle.tables.specs.declared.page.Page.{Page}
 use Rattle.tables.specs.declared.refusal.Refusal.TheVariants as refusal
 use Rattle.tables.specs.Page.{page_of}
-use Rattle.tables.specs.PageSteps.{PageEnded}
+use Rattle.tables.specs.PageSteps.{Put, PageEnded}
 use Rattle.tables.specs.Puts.{Puts}
 use Rattle.tables.proofs.PageLaws.{finished}
 use Rattle.tables.proofs.Laws.{by_cases, clash}
 use Rattle.reader.specs.declared.edition.Counts.{Counts}
 use Rattle.reader.specs.declared.edition.ReadRefusal.{ReadRefusal}
 use Rattle.reader.specs.Store.{zeros}
+use Rattle.planning.proofs.AnswerLaws.{passed_on}
 use Rattle.reader.specs.Editions.{reading_of, cards_of, entries_of, IsRead}
 use Rattle.writer.specs.declared.write.WriteRefusal.{WriteRefusal}
-use Rattle.writer.specs.declared.write.WriteRefusal.TheVariants.{Edition, PageFull}
+use Rattle.writer.specs.declared.write.WriteRefusal.TheVariants.{Edition}
 use Rattle.writer.specs.Pages.{written_text}
 use Rattle.writer.specs.BoardTexts.{page_held}
 use Rattle.writer.specs.Writings.{page_answer, written_by, writing_of, page_after, IsWritten}
-use Rattle.writer.specs.WritingSteps.{PagePut, WritingEnded}
+use Rattle.writer.specs.WritingSteps.{PagePut}
 use Rattle.writer.proofs.HeldBoards.{taken_holds}
 use Rattle.writer.proofs.HeldPages.{PageHeld}
 use Rattle.writer.proofs.Sizes.{BytesFew}
@@ -61,62 +63,59 @@ page_out bs m = by_cases (leb (length bs) m) (λ q. rw q) (λ q. rw q)
 out_is : (n m : ℕ) → is_ok (page_answer n m) ≡ leb n m
 out_is n m = by_cases (leb n m) (λ q. rw q) (λ q. rw q)
 
+-- The end of a page, its refusal told as another.
+pub told_on : {E : Type 0} (full : ℕ → E) (n m : ℕ) (f : Result ℕ Refusal) {r : Result ℕ E} → MatchResult f (λ x. r ≡ Ok x) (λ e. IsErrAnd r (λ g. g ≡ full (refusal_carries e)))
+    → f ≡ cond (leb n m) (Ok n) (Err (refusal.PageFull n)) → r ≡ cond (leb n m) (Ok n) (Err (full n))
+told_on full n m f {r} h e = by_cases (leb n m) (λ q. rw q (rw (rw q at e) at h)) (λ q. rw q (passed_on r (rw (rw q at e) at h)))
+
 -- The edition was taken, its text put and the page ended.
-pub written_taken : {c : Conventions} {text cards entries page cards₁ entries₁ page₁ cards₂ entries₂ page₂ page' : List ℕ} {k : Counts} {n : ℕ} {r : Result ℕ WriteRefusal}
-    → IsRead c text cards entries (Ok k) cards₁ entries₁
-    → PagePut page (page_held c text cards₁ entries₁ k.boards) page₁ n
-    → WritingEnded n cards₁ entries₁ page₁ r cards₂ entries₂ page₂
-    → length cards₁ ≡ length cards → length entries₁ ≡ length entries → page₂ ≡ page'
-    → IsWritten c text cards entries page r cards₂ entries₂ page'
-unfolding writing_of
-written_taken {c} {text} {cards} {entries} {page} {cards₁} {entries₁} {page₁} {cards₂} {entries₂} {page₂} {page'} {k} {n} {r} i p d kc ke same =
-    let t = taken_holds i in
-    let nb = taken_boards c text (length cards) (length entries) k i.answer in
-    let w = rw nb at p in
-    let text_put : PagePut page (written_text c text) page₁ n = rw (PageHeld c text cards₁ entries₁ t) at w in
-    let few = BytesFew c text t.short in
-    let put = text_put.put (omega arith) in
-    let en : n ≡ length (written_text c text) = omega (arith, put.next) in
-    let el = text_put.kept in
-    let ended : PageEnded n page₁ page₂ (cond (leb n (length page₁)) (Ok n) (Err (refusal.PageFull n))) = record { told = refl; page_left = d.page_left } in
-    let out : r ≡ page_answer (length (written_text c text)) (length page) = rw (← en, ← el) d.answer in
-    let lent : is_ok r ≡ leb n (length page₁) = ap is_ok d.answer ∙ out_is n (length page₁) in
-    record {
-      answer = out ∙ ap (written_by (written_text c text) (length page)) i.answer;
-      page_left = sym same ∙ (finished put ended).page_left ∙ (page_out (written_text c text) (length page) ∙ rw out);
-      cards_after = rw (lent, ← i.cards_after, ← kc) d.cards_after;
-      entries_after = rw (lent, ← i.entries_after, ← ke) d.entries_after;
-    }
+module _ {c : Conventions} {text cards entries page cards₁ entries₁ page₁ page₂ : List ℕ} {k : Counts} {n : ℕ} {f : Result ℕ Refusal} {r : Result ℕ WriteRefusal}
+    (i : IsRead c text cards entries (Ok k) cards₁ entries₁) (p : PagePut page (page_held c text cards₁ entries₁ k.boards) page₁ n)
+    (e : PageEnded n page₁ page₂ f) (told : r ≡ page_answer n (length page₁)) where
+  text_put : PagePut page (written_text c text) page₁ n
+  text_put =
+      let t = taken_holds i in
+      let w = rw (taken_boards c text (length cards) (length entries) k i.answer) at p in
+      rw (PageHeld c text cards₁ entries₁ t) at w
+
+  put_there : Put page 0 (written_text c text) page₁ n
+  put_there = let few = BytesFew c text (taken_holds i).short in text_put.put (omega arith)
+
+  out : r ≡ page_answer (length (written_text c text)) (length page)
+  out =
+      let en : n ≡ length (written_text c text) = omega (arith, put_there.next) in
+      let el = text_put.kept in
+      rw (← en, ← el) told
+
+  pub written_taken : r ≡ writing_of c text (length cards) (length entries) (length page)
+  unfolding writing_of
+  written_taken = out ∙ ap (written_by (written_text c text) (length page)) i.answer
+
+  pub written_whole : is_ok r ≡ true → {page' : List ℕ} → page₂ ≡ page' → IsWritten c text cards entries page r cards₁ entries₁ page'
+  written_whole h same =
+      record {
+        answer = written_taken;
+        page_left = sym same ∙ (finished put_there e).page_left ∙ (page_out (written_text c text) (length page) ∙ rw out);
+        cards_after = rw h i.cards_after;
+        entries_after = rw h i.entries_after;
+      }
 
 -- The edition was refused.
-pub written_refused : {c : Conventions} {text cards entries page cards₁ entries₁ page₁ : List ℕ} {f : ReadRefusal}
-    → IsRead c text cards entries (Err f) cards₁ entries₁
-    → page₁ ≡ zeros page
-    → IsWritten c text cards entries page (Err (Edition f)) cards₁ entries₁ page₁
+pub written_refused : {c : Conventions} {text cards entries cards₁ entries₁ : List ℕ} (m : ℕ) {f : ReadRefusal} {g : WriteRefusal}
+    → IsRead c text cards entries (Err f) cards₁ entries₁ → g ≡ Edition f → Err g ≡ writing_of c text (length cards) (length entries) m
 unfolding writing_of
-written_refused {c} {text} {cards} {entries} {page} i z =
-    record {
-      answer = ap (written_by (written_text c text) (length page)) i.answer;
-      page_left = z;
-      cards_after = i.cards_after;
-      entries_after = i.entries_after;
-    }
+written_refused {c} {text} m i h = ap Err h ∙ ap (written_by (written_text c text) m) i.answer
 
--- The answer for bytes that fit, and for more.
--- The number that is told.
-abbrev pub told_by : Result ℕ Refusal → ℕ
-told_by (Ok n) = n
-told_by (Err f) = refusal_carries f
+pub no_answer : {T E : Type 0} (r : Result T E) → is_err r ≡ true → is_ok r ≡ false
+no_answer (Ok t) h = sym h
+no_answer (Err g) h = refl
 
-pub ended_in : {n k : ℕ} {cards entries page page' : List ℕ} → PageEnded n page page' (Ok k) → WritingEnded n cards entries page (Ok k) cards entries page'
-ended_in {n} {k} {page = page} e =
-    by_cases (leb n (length page))
-    (λ q. record { answer = rw q (ap (λ (x : ℕ). Ok x) (ap told_by (rw q at e.told))); page_left = e.page_left; cards_after = rw q; entries_after = rw q })
-    (λ q. clash (sym (ap is_ok (rw q at e.told))))
-
-pub ended_out : {n k : ℕ} {f : Refusal} {cards entries page cards' entries' page' : List ℕ} → PageEnded n page page' (Err f) → k ≡ refusal_carries f → cards' ≡ zeros cards → entries' ≡ zeros entries
-    → WritingEnded n cards entries page (Err (PageFull k)) cards' entries' page'
-ended_out {n} {k} {page = page} e c y z =
-    by_cases (leb n (length page))
-    (λ q. clash (ap is_ok (rw q at e.told)))
-    (λ q. record { answer = rw q (ap (λ (x : ℕ). Err (PageFull x)) (c ∙ ap told_by (rw q at e.told))); page_left = e.page_left; cards_after = rw q y; entries_after = rw q z })
+-- All that was lent is set to 0 after a refusal.
+pub written_zero : {c : Conventions} {text cards entries page : List ℕ} (cards₁ entries₁ page₁ : List ℕ) {cards₂ entries₂ page₂ : List ℕ} {r : Result ℕ WriteRefusal}
+    → r ≡ writing_of c text (length cards) (length entries) (length page) → is_err r ≡ true
+    → length cards₁ ≡ length cards → length entries₁ ≡ length entries → length page₁ ≡ length page
+    → cards₂ ≡ zeros cards₁ → entries₂ ≡ zeros entries₁ → page₂ ≡ zeros page₁
+    → IsWritten c text cards entries page r cards₂ entries₂ page₂
+written_zero cards₁ entries₁ page₁ {r = r} a err kc ke kp x y z =
+    let h = no_answer r err in
+    record { answer = a; page_left = z ∙ rw (h, kp); cards_after = x ∙ rw (h, kc); entries_after = y ∙ rw (h, ke) }

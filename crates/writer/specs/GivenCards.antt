@@ -4,13 +4,11 @@ use Rattle.std.specs.Prelude.{ℕ, ◌+◌, ◌-◌, ◌*◌, ◌≤◌, ◌≡�
 use Rattle.tables.specs.declared.letters.Conventions.{Conventions}
 use Rattle.tables.specs.declared.page.Page.{Page}
 use Rattle.tables.specs.Puts.{Puts}
-use Rattle.tables.specs.PageSteps.{cleared as ended}
-use Rattle.std.specs.Result.{result_and}
-use Rattle.reader.specs.Store.{flat, zeros}
+use Rattle.reader.specs.Store.{flat}
 use Rattle.planning.specs.declared.state.BoardState.{BoardState}
 use Rattle.planning.specs.declared.state.BoardState.TheVariants.{Blank, Own, Old, Near, Twin, Solve}
 use Rattle.planning.specs.Cards.{is_whole, has_table, card_here}
-use Rattle.planning.specs.PlanSteps.{cards_in, BoxesKept}
+use Rattle.planning.specs.PlanSteps.{cards_in}
 use Rattle.planning.specs.States.{BoardPlan, board_plans}
 use Rattle.planning.specs.Slips.{totals_of}
 use Rattle.planning.specs.Plans.{Boxes}
@@ -81,19 +79,9 @@ pub record BoardsPut (c : Conventions) (new : List ℕ) (m n : ℕ) (olds cards 
   pub solve : ℕ
   pub given : List ℕ
   pub gave : Gave (cards_in m olds) (cards_in n cards) cards n answers solve given
-  pub room : 64 * n ≤ length given
   pub answer : put ≡ checked_of solve answers
   pub page_put : is_ok put ≡ true → Puts p (page_held c new (changed_all marked n given) entries n) q
-  pub cards_after : cards' ≡ cond (is_ok put) (changed_all given_cleared n (changed_all marked n given)) given
-  pub kept : length q.bytes.now ≡ length p.bytes.now
-
--- The end of a page on which n bytes were put, or nothing for a refusal: zeros behind them; nothing but zeros, in the boxes too, where they did
--- not fit or nothing was put.
-pub record FinishEnded (put : Result (Unit {0}) FinishRefusal) (n : ℕ) (boxes : Boxes) (page : List ℕ) (r : Result ℕ FinishRefusal)
-    (boxes' : Boxes) (page' : List ℕ) : Type 0 where
-  pub answer : r ≡ result_and put (finished_on n (length page))
-  pub boxes_left : BoxesKept (is_ok r) boxes boxes'
-  pub page_left : page' ≡ cond (is_ok r) (ended page n) (zeros page)
+  pub cards_after : is_ok put ≡ true → cards' ≡ changed_all given_cleared n (changed_all marked n given)
 
 -- The boards of the new edition, of n cards, the old one having m.
 abbrev pub plans_in : ℕ → ℕ → Boxes → List BoardPlan
@@ -126,6 +114,6 @@ pub record BoardsFinished (c : Conventions) (new : List ℕ) (m n : ℕ) (boxes 
   pub answer : length (tabled_page c new m n boxes answers) ≤ 549755813888
       → r ≡ answered_by (totals_of (plans_in m n boxes)).solve answers
       (finished_on (length (tabled_page c new m n boxes answers)) (length page))
-  pub boxes_left : BoxesKept (is_ok r) (cleared_boxes m n boxes answers) boxes'
-  pub page_left : length (tabled_page c new m n boxes answers) ≤ 549755813888
-      → page' ≡ page_after (is_ok r) (tabled_page c new m n boxes answers) (length page)
+  pub boxes_left : is_ok r ≡ true → boxes' ≡ cleared_boxes m n boxes answers
+  pub page_left : length (tabled_page c new m n boxes answers) ≤ 549755813888 → is_ok r ≡ true
+      → page' ≡ page_after true (tabled_page c new m n boxes answers) (length page)

@@ -6,6 +6,7 @@ ghost use Rattle.writer.specs.Items.{items_of, before_call, calls_text, last_cod
 use crate::items::Items;
 use crate::tokens::put_call;
 use reader::store::{ANNOTATION, CALL};
+use reader::words::PLUS;
 use tables::letters::Conventions;
 use tables::page::Page;
 
@@ -56,20 +57,20 @@ fn put_calls(page: &mut Page, c: Conventions, items: &Items)
     put_last(page, n);
 }
 
-// Whether the last call is `+`, 38 (PLUS of reader::words, a byte).
+// Whether the last call is `+`.
 fn ends_with_plus(items: &Items) -> bool
     ensures { result ≡ eqb (last_code 47 (items_of items.now)) 38 }
 {
     let mut plus = false;
     for entry in *items {
         if entry.kind() == CALL {
-            plus = entry.mark() == 38;
+            plus = entry.mark() == PLUS as usize;
         }
     }
     plus
 }
 
-// The end's line.
+// The end's line, by the word of a card, which may be any number: 1 and 2 are what Section.end of reader::board has.
 pub(crate) fn put_end(page: &mut Page, end: usize)
     ensures { Puts page.old (end_text end) page.new }
 {

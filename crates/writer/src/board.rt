@@ -1,5 +1,5 @@
 // A board's tags in the order of writer.rs, each with its data lines and what follows it.
-ghost use Rattle.std.specs.Prelude.{◌≡◌, [], ◌<◌};
+ghost use Rattle.std.specs.Prelude.{◌≡◌, ◌<◌};
 ghost use Rattle.tables.specs.Text.{ascii};
 ghost use Rattle.tables.specs.Puts.{Puts};
 ghost use Rattle.reader.specs.Words.{vulnerability_token};
@@ -16,6 +16,7 @@ use crate::play::put_play;
 use crate::remarks::put_after;
 use crate::tags::{put_close, put_open, put_tagged, put_tagged_by};
 use crate::tokens::{put_digits, put_result, put_seat, put_vulnerability};
+use reader::board::NO_TABLE;
 use tables::letters::Conventions;
 use tables::page::Page;
 
@@ -184,7 +185,7 @@ pub(crate) fn put_contract(page: &mut Page, board: &Board, c: Conventions)
 fn put_table(page: &mut Page, board: &Board)
     ensures { Puts page.old (table_text board.now.cards.now board.now.index (items_of board.now.remarks)) page.new }
 {
-    if board.word(38) == 0 {
+    if board.word(38) == NO_TABLE {
         return;
     }
     put_open(page, b"DoubleDummyTricks");

@@ -34,7 +34,8 @@ pub(crate) fn hands_at(board: &Board) -> Hands
     }
 }
 
-// Every hand goes one seat back: the other way than that in which reading turns hands.
+// Every hand goes one seat back: the other way than that in which reading turns hands. By `turn` of reader, from_seat would go round 4 less the
+// seat, and its proof would have to show that four turns are none.
 fn turned_back(h: Hands) -> Hands
     ensures { result ≡ back h }
 {
@@ -52,7 +53,7 @@ fn from_seat(h: Hands, seat: usize) -> Hands
     ensures { result ≡ clockwise seat h }
 {
     let mut turned = h;
-    for k in 0..seat {
+    for _k in 0..seat {
         turned = turned_back(turned);
     }
     turned
@@ -63,8 +64,7 @@ fn put_suit(page: &mut Page, c: Conventions, s: u8, x: u64)
     requires { s < 4 }
     ensures { Puts page.old (suit_text c s x) page.new }
 {
-    for k in 0..13u8 {
-        let rank = 12 - k;
+    for rank in (0..13u8).rev() {
         if holds(x, 13 * s + rank) {
             page.put_byte(rank_letter(c, rank));
         }

@@ -1,9 +1,11 @@
 // The finished edition: the new one, every whole board with a table (finish).
-ghost use Rattle.std.specs.Prelude.{◌≡◌, ◌+◌, ◌*◌, ◌≤◌, length};
+ghost use Rattle.std.specs.Prelude.{◌≡◌, ◌+◌, ◌*◌, ◌≤◌, true, is_ok, length};
 ghost use Rattle.tables.specs.Letters.{built_in};
+ghost use Rattle.tables.specs.Refusals.{refusal_carries};
 ghost use Rattle.planning.specs.Plans.{words_of, SameLent};
-ghost use Rattle.writer.specs.GivenCards.{marked, given_cleared, changed_at, changed_all, FinishEnded, BoardsPut};
-ghost use Rattle.writer.specs.Finishings.{finish_number, finish_carries, finish_edition, checked_of, IsFinished};
+ghost use Rattle.writer.specs.declared.finish.FinishRefusal.TheVariants.{PageFull};
+ghost use Rattle.writer.specs.GivenCards.{marked, given_cleared, changed_at, changed_all, BoardsPut};
+ghost use Rattle.writer.specs.Finishings.{finish_number, finish_carries, finish_edition, checked_of, finishing_of, IsFinished};
 
 use crate::give::give_tables;
 use crate::held::ReadEdition;
@@ -13,16 +15,28 @@ use planning::editions::{EditionsRefusal, LentBoxes, read_both};
 use reader::store::copy_in;
 use tables::letters::{Conventions, built_in};
 use tables::page::Page;
+use tables::refusal::Refusal;
 use tables::refused::{Edition, Refused};
 
 // Refusals 1 to 3 of an edition; 5 answers of another number of bytes than 20 a slip, 6 a byte above 13, 7 the page is too short;
 // specs/Finishings.antt gives the numbers.
-#[derive(Clone, Copy)]
+#[derive(Clone, Copy, Debug, PartialEq, Eq)]
 pub enum FinishRefusal {
     Edition(EditionsRefusal),
     Answers(u64),
     Impossible(u64),
     PageFull(u64),
+}
+
+impl From<EditionsRefusal> for FinishRefusal {
+    ghost use Rattle.std.specs.Prelude.{◌≡◌};
+    ghost use Rattle.writer.specs.declared.finish.FinishRefusal.TheVariants.{Edition};
+
+    ghost from_gives = { λ f g. g ≡ Edition f };
+
+    fn from(f: EditionsRefusal) -> FinishRefusal {
+        FinishRefusal::Edition(f)
+    }
 }
 
 impl Refused for FinishRefusal {
@@ -78,7 +92,8 @@ fn mark_card(cards: &mut [u32], k: usize)
     }
 }
 
-// Marks the tables that were given: a whole board without a table. This loop and that of clear_given are two, since one that is given what is
+// Marks the tables that were given: a whole board without a table. The cards are words with an index: of what as_chunks_mut cuts nothing is known
+// once a card is changed, and a part that chunks_exact_mut gives is a slice, which mark_card would have to make a card again. This loop and that of clear_given are two, since one that is given what is
 // done to a card would have to ask of it where the card lies and that the number of words stays.
 fn mark_given(cards: &mut [u32], boards: usize)
     requires { 64 * boards ≤ length cards.old }
@@ -110,7 +125,7 @@ fn clear_given(cards: &mut [u32], boards: usize)
     }
 }
 
-// Lets answers through that are 20 bytes for each board to solve, none above 13.
+// Refuses answers that are not 20 bytes for each board to solve, or that have a byte above 13.
 fn check_answers(answers: &[u8], solve: usize) -> Result<(), FinishRefusal>
     ensures { result ≡ checked_of solve answers.now }
 {
@@ -127,8 +142,9 @@ fn check_answers(answers: &[u8], solve: usize) -> Result<(), FinishRefusal>
 }
 
 // Gives the boards of the new edition their tables and puts its page, where the answers are let through. The boxes are passed one by one, each
-// to be written: the check follows no call that reads two of them out of LentBoxes, nor a function that reads the cards of one edition in it
-// while it changes those of the other.
+// as `&mut`, though only the new cards change: the check follows no call that reads two of them out of LentBoxes, nor a function that reads the
+// cards of one edition in it while it changes those of the other. That the page's bytes are the same lent ones is no part of Puts, whose
+// functions never end a page.
 fn put_finished(
     page: &mut Page,
     c: Conventions,
@@ -146,10 +162,7 @@ fn put_finished(
     ensures same { page.new.bytes.ghost_name ≡ page.old.bytes.ghost_name }
 {
     let solve = give_tables(old_cards, olds, cards, news, answers);
-    let checked = check_answers(answers, solve);
-    if !checked.is_ok() {
-        return checked;
-    }
+    check_answers(answers, solve)?;
     mark_given(cards, news);
     put_page(
         page,
@@ -162,34 +175,47 @@ fn put_finished(
         c,
     );
     clear_given(cards, news);
-    checked
+    Ok(())
 }
 
-// The end of a page that was put; all that was lent is set to 0 where the text does not fit, and where nothing was put.
-fn end_finishing(
-    put: Result<(), FinishRefusal>,
-    boxes: &mut LentBoxes,
-    page: &mut Page,
-) -> Result<u64, FinishRefusal>
-    ensures ended { FinishEnded put page.old.at (words_of boxes.old) page.old.bytes.now result (words_of boxes.new) page.new.bytes.now }
-    ensures same { SameLent boxes.old boxes.new × (page.new.bytes.ghost_name ≡ page.old.bytes.ghost_name) }
+// Where a page was too short: the bytes needed.
+fn page_full(f: Refusal) -> FinishRefusal
+    ensures { result ≡ PageFull (refusal_carries f) }
 {
-    if let Err(f) = put {
-        boxes.zero();
-        page.bytes.fill(0);
-        return Err(f);
-    }
-    match page.finish() {
-        Ok(n) => Ok(n),
-        Err(f) => {
-            boxes.zero();
-            Err(FinishRefusal::PageFull(f.carried()))
-        }
-    }
+    FinishRefusal::PageFull(f.carried())
 }
 
-// Finishes by the given conventions; finish stands beside it for the boundary, which passes none, since there are no default arguments. A refusal
-// is put into another by a match, as the page is set to 0 beside it. How many bytes; a refusal leaves all that was lent zero.
+// Finishes the new edition on the page. What a refusal leaves is not said: finish_with sets it to 0.
+fn finished(
+    c: Conventions,
+    old: &[u8],
+    new: &[u8],
+    boxes: &mut LentBoxes,
+    answers: &[u8],
+    page: &mut [u8],
+) -> Result<u64, FinishRefusal>
+    ensures answer { result ≡ finishing_of c old.now new.now (words_of boxes.old) answers.now (length page.old) }
+    ensures well { is_ok result ≡ true → IsFinished c old.now new.now (words_of boxes.old) answers.now page.old result (words_of boxes.new) page.new }
+    ensures same { SameLent boxes.old boxes.new }
+{
+    let both = read_both(c, old, new, boxes)?;
+    let mut page = Page::new(page);
+    put_finished(
+        &mut page,
+        c,
+        new,
+        boxes.old_cards,
+        both.old.boards,
+        boxes.new_cards,
+        boxes.new_entries,
+        both.new.boards,
+        answers,
+    )?;
+    page.finish().map_err(page_full)
+}
+
+// Finishes by the given conventions: how many bytes; a refusal leaves all that was lent zero. finish stands beside it for the boundary, which
+// passes none, since there are no default arguments.
 pub fn finish_with(
     c: Conventions,
     old: &[u8],
@@ -201,27 +227,12 @@ pub fn finish_with(
     ensures finished { IsFinished c old.now new.now (words_of boxes.old) answers.now page.old result (words_of boxes.new) page.new }
     ensures same { SameLent boxes.old boxes.new }
 {
-    match read_both(c, old, new, boxes) {
-        Err(f) => {
-            page.fill(0);
-            Err(FinishRefusal::Edition(f))
-        }
-        Ok(both) => {
-            let mut page = Page::new(page);
-            let put = put_finished(
-                &mut page,
-                c,
-                new,
-                boxes.old_cards,
-                both.old.boards,
-                boxes.new_cards,
-                boxes.new_entries,
-                both.new.boards,
-                answers,
-            );
-            end_finishing(put, boxes, &mut page)
-        }
+    let done = finished(c, old, new, boxes, answers, page);
+    if done.is_err() {
+        boxes.zero();
+        page.fill(0);
     }
+    done
 }
 
 // Finishes the new edition on a page, given an old one and the answers: every whole board has a table.

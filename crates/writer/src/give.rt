@@ -11,7 +11,7 @@ use planning::cards::cards_in;
 use planning::state::{BoardState, state_of};
 use reader::store::copy_in;
 
-// The cells of the card at index k of lent words, which are changed while they are read, and so are no cards of their own (see Board); zeros
+// The cells of the card at index k of lent words, which are changed while they are read, and so are no cards of their own (see mark_given); zeros
 // where there is no such card, since the definition speaks of every state.
 fn cells_at(cards: &[u32], k: usize) -> [u32; 20]
     ensures { result ≡ cells_at cards.now k }
@@ -35,8 +35,8 @@ fn answer_cells(answers: &[u8], slip: usize) -> [u32; 20]
         return cells;
     }
     let at = 20 * slip;
-    for i in 0..20 {
-        cells[i] = answers[at + i] as u32;
+    for (i, cell) in cells.iter_mut().enumerate() {
+        *cell = u32::from(answers[at + i]);
     }
     cells
 }
@@ -53,11 +53,11 @@ fn source_cells(
     ensures { result ≡ source_cells old_cards.now new_cards.now k s answers.now slip }
 {
     match s {
-        BoardState::Blank => cells_at(new_cards, k),
-        BoardState::Own => cells_at(new_cards, k),
+        BoardState::Blank | BoardState::Own => cells_at(new_cards, k),
         BoardState::Old(j) => cells_at(old_cards, (j as usize).saturating_sub(1)),
-        BoardState::Near(j) => cells_at(new_cards, (j as usize).saturating_sub(1)),
-        BoardState::Twin(j) => cells_at(new_cards, (j as usize).saturating_sub(1)),
+        BoardState::Near(j) | BoardState::Twin(j) => {
+            cells_at(new_cards, (j as usize).saturating_sub(1))
+        }
         BoardState::Solve => answer_cells(answers, slip),
     }
 }
@@ -96,7 +96,8 @@ fn state_here(
 }
 
 // Gives every board of the new edition its cells, and answers how many are to be solved. The states are found one by one, since an iterator of
-// them would hold the cards that each turn changes.
+// them would hold the cards that each turn changes. The old cards are words with their number too: whichever edition a state's source is of, one
+// cells_at reads it, of words as its definition is.
 pub(crate) fn give_tables(
     old_cards: &[u32],
     olds: usize,

@@ -18,8 +18,8 @@ pub struct ReadEdition<'a> {
 }
 
 // The board whose card stands at an index; its remarks are among its entries, or among none of them where there is no remark. The card is named
-// by its index among lent words, since give and finish change these card by card: of words that as_chunks_mut cuts into cards nothing is known
-// once a card is changed. The letters of cards and calls are no part of a board, nor of a page: tables and listing_text put pages without any,
+// by its index among lent words: the definitions page_held, next_held, of_board and word_of, and the theorems over them, are of lent words and an
+// index, 0 past the last. So put_parts goes by its index, and put_digits by its words' numbers. The letters of cards and calls are no part of a board, nor of a page: tables and listing_text put pages without any,
 // and of the functions here that take a page more than half take none.
 #[derive(Clone, Copy)]
 pub struct Board<'a> {

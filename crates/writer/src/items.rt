@@ -4,7 +4,8 @@ ghost use Rattle.std.specs.Prelude.{◌+◌, ◌≤◌};
 use reader::store::TRICK;
 use reader::tag::Span;
 
-// The entries from first on, count of them, as they were just read from a text.
+// The entries from first on, count of them, as they were just read from a text. Not a part of the entries: is_extra looks back to the board's
+// first entry, a note is named by the place of its value, and the definitions give an entry past the lent words zeros.
 #[derive(Clone, Copy)]
 pub struct Items<'a> {
     pub text: &'a [u8],
@@ -60,7 +61,8 @@ impl<'a> Items<'a> {
         self.bytes_at(self.first)
     }
 
-    // The value of the tag that the first of them is: the bytes of the next entry, none behind the last one or where a trick stands.
+    // The value of the tag that the first of them is: the bytes of the next entry, none behind the last one or where a trick stands,
+    // told as the empty part, since first_bytes of the definitions has no none.
     pub(crate) fn value(&self) -> &'a [u8]
         ensures { result.now ≡ (tag_of self.now).value }
     {

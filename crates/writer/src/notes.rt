@@ -1,5 +1,5 @@
 // The notes of an auction, by number.
-ghost use Rattle.std.specs.Prelude.{◌≡◌, false, [], ◌+◌, ◌-◌, ◌≤◌, ◌<◌, get_or, MatchOption};
+ghost use Rattle.std.specs.Prelude.{◌≡◌, false, [], ◌+◌, ◌-◌, ◌<◌, MatchOption};
 ghost use Rattle.tables.specs.Text.{ascii};
 ghost use Rattle.tables.specs.Numbers.{decimal};
 ghost use Rattle.tables.specs.Puts.{Puts};
@@ -13,7 +13,6 @@ use crate::remarks::{put_remarks, put_under};
 use crate::tags::{put_close, put_open};
 use reader::names::{TagName, tag_name};
 use reader::store::{COMMENTARY, DIRECTIVE, NAME};
-use reader::words::same;
 use tables::numbers::parse_number;
 use tables::page::Page;
 use tables::text::{from, index_of, trim, upto};
@@ -96,7 +95,7 @@ fn is_decimal(s: &[u8], n: u8) -> bool
     let mut page = Page::new(&mut digits);
     page.put_decimal(n as u32);
     let k = page.at;
-    same(s, upto(&digits, k))
+    s == upto(&digits, k)
 }
 
 // Whether the note n, whose value has a place, is written with this value.
@@ -107,7 +106,7 @@ fn is_note(items: &Items, n: u8, place: usize, value: &[u8]) -> bool
     let behind = from(own, index_of(own, 58) + 1);
     let k = index_of(value, 58);
     if k < value.len() {
-        return is_decimal(upto(value, k), n) & same(from(value, k + 1), behind);
+        return is_decimal(upto(value, k), n) & (from(value, k + 1) == behind);
     }
     false
 }
@@ -124,7 +123,7 @@ fn is_written_as(notes: &Notes, n: u8, value: &[u8]) -> bool
 }
 
 // Whether the note n takes the directives of a Note of this value; fresh says that it is the first. Notes, n and fresh are passed as they stand:
-// a struct of them would be made by put_placed alone, for two calls, and taken apart in each function.
+// a struct of them would be made by put_placed alone and taken apart in each function.
 fn takes_value(notes: &Notes, n: u8, fresh: bool, value: &[u8]) -> bool
     ensures { result ≡ of_notes takes_value notes.now n fresh value.now }
 {
@@ -138,10 +137,11 @@ fn takes_value(notes: &Notes, n: u8, fresh: bool, value: &[u8]) -> bool
 }
 
 // Whether the note n takes the directives of the tag that an entry is.
+#[tactic(auto)]
 fn takes_tag(notes: &Notes, n: u8, fresh: bool, entry: &Items) -> bool
     ensures { result ≡ of_notes takes_tag notes.now n fresh (tag_of entry.now) }
 {
-    same(b"Note", entry.bytes()) && takes_value(notes, n, fresh, entry.value())
+    matches!(entry.bytes(), b"Note") && takes_value(notes, n, fresh, entry.value())
 }
 
 // The directives that the note n takes.
@@ -168,13 +168,13 @@ fn put_full_note(page: &mut Page, notes: &Notes, n: u8, fresh: bool, remarks: &I
     }
 }
 
-// The notes that have a place, by rising number, each with what follows it; put_full_note looks the place up by the number.
+// The notes that have a place, by rising number, each with what follows it.
 fn put_placed(page: &mut Page, notes: &Notes, remarks: &Items)
     ensures { Puts page.old (of_notes all_notes notes.now (items_of remarks.now)) page.new }
 {
     let mut fresh = true;
-    for n in 0..256 {
-        if notes.places[n] != 0 {
+    for (n, place) in notes.places.iter().enumerate() {
+        if *place != 0 {
             put_full_note(page, notes, n as u8, fresh, remarks);
             fresh = false;
         }

@@ -1,5 +1,5 @@
 // A board's lines, and the page of an edition: its boards' parts in a row.
-ghost use Rattle.std.specs.Prelude.{◌≡◌, ◌∷◌, [], ◌++◌, ◌-◌, ◌≤◌, ◌<◌};
+ghost use Rattle.std.specs.Prelude.{◌≡◌, [], ◌++◌, ◌-◌, ◌≤◌, ◌<◌};
 ghost use Rattle.tables.specs.Puts.{Puts};
 ghost use Rattle.writer.specs.Pages.{built_in_header};
 ghost use Rattle.writer.specs.Items.{Leading, items_of, sought_text, deal_place};
@@ -13,6 +13,7 @@ use crate::notes::has_notes;
 use crate::present::Present;
 use crate::remarks::{put_leading, put_lost};
 use crate::tags::put_extras;
+use reader::board::NO_TABLE;
 use reader::store::{COMMENTARY, DIRECTIVE};
 use tables::letters::Conventions;
 use tables::page::Page;
@@ -35,7 +36,7 @@ fn present_at(board: &Board) -> Present
     Present {
         board: board.word(39) != 0,
         dealer: board.word(4) < 4,
-        table: board.word(38) != 0,
+        table: board.word(38) != NO_TABLE,
         score: board.word(49) != 0,
         par: board.word(50) != 0,
         auction: board.word(51) != 0,

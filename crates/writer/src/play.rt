@@ -1,7 +1,7 @@
 // The data lines of a play (PBN 2.1 section 3.6): each trick from its own leader, without gaps.
 ghost use Rattle.std.specs.Prelude.{◌≡◌, ◌+◌, ◌≤◌, ◌<◌};
 ghost use Rattle.tables.specs.Puts.{Puts};
-ghost use Rattle.writer.specs.Items.{items_of, slot_text, one_more_card, slots_text, four_slots, tricks_text, play_text};
+ghost use Rattle.writer.specs.Items.{items_of, slot_text, slots_text, four_slots, tricks_text, play_text};
 
 use crate::auction::{put_end, put_last};
 use crate::items::Items;
@@ -10,40 +10,27 @@ use reader::store::TRICK;
 use tables::letters::Conventions;
 use tables::page::Page;
 
-// The card of a slot behind n others, where it has one.
+// The card of a slot behind n others.
 fn put_slot(page: &mut Page, c: Conventions, n: usize, k: usize)
+    requires { k < 52 }
     ensures { Puts page.old (slot_text c n k) page.new }
 {
-    if k >= 52 {
-        return;
+    if n != 0 {
+        page.put_byte(32);
     }
-    if n == 0 {
-        put_card(page, c, k);
-        return;
-    }
-    page.put_byte(32);
     put_card(page, c, k);
 }
 
-// One more where a slot has a card.
-fn one_more(n: usize, k: usize) -> usize
-    requires { n < 4 }
-    ensures { (result ≡ one_more_card n k) × (result ≤ n + 1) }
-{
-    if k < 52 {
-        return n + 1;
-    }
-    n
-}
-
-// A trick's line.
+// A trick's line: four bytes of a word, by quotients as four_slots of the definitions has them.
 fn put_trick(page: &mut Page, c: Conventions, z: usize)
     ensures { Puts page.old (slots_text c 0 (four_slots z)) page.new }
 {
     let mut cards: usize = 0;
     for k in [z % 256, z / 256 % 256, z / 65536 % 256, z / 16777216 % 256] {
-        put_slot(page, c, cards, k);
-        cards = one_more(cards, k);
+        if k < 52 {
+            put_slot(page, c, cards, k);
+            cards += 1;
+        }
     }
     put_last(page, cards);
 }

@@ -1,5 +1,5 @@
 // Directives and commentary blocks, put back after the tag that they followed.
-ghost use Rattle.std.specs.Prelude.{◌≡◌, ◌&&◌, ◌+◌, ◌≤◌, ◌<◌, ℕ, Bool, [], eqb, length, get_or};
+ghost use Rattle.std.specs.Prelude.{◌≡◌, ◌≤◌, Bool, []};
 ghost use Rattle.reader.specs.Plain.{TagPair, without_returns};
 ghost use Rattle.tables.specs.Puts.{Puts};
 ghost use Rattle.writer.specs.declared.items.Items.{Items};
@@ -9,32 +9,24 @@ use crate::items::Items;
 use crate::present::{Present, is_written};
 use reader::names::tag_name;
 use reader::store::{COMMENTARY, DIRECTIVE, NAME};
-use reader::words::same;
 use tables::page::Page;
 use tables::text::byte_at;
 
-// Whether the byte at i is a CR before an LF.
-fn is_dropped(s: &[u8], i: usize) -> bool
-    requires { i < length s.now }
-    ensures { result ≡ (eqb (get_or s.now i 0) 13 && eqb (get_or s.now (i + 1) 0) 10) }
-{
-    (byte_at(s, i) == 13) & (byte_at(s, i + 1) == 10)
-}
-
-// A block's value: a CR before each LF is dropped. The loop goes by index, since the byte behind a CR decides.
+// A block's value: a CR before each LF is dropped.
 fn put_block(page: &mut Page, s: &[u8])
     ensures { Puts page.old (without_returns s.now) page.new }
 {
-    for i in 0..s.len() {
-        if is_dropped(s, i) {
-            continue;
+    let mut rest = s;
+    while let [b, behind @ ..] = rest {
+        if *b != 13 || byte_at(behind, 0) != 10 {
+            page.put_byte(*b);
         }
-        page.put_byte(s[i]);
+        rest = behind;
     }
 }
 
-// A directive on its line, a block in braces. The kind is DIRECTIVE or COMMENTARY: an enum of the two would be made a number again wherever the kind
-// of an entry is compared with it, as the definitions do.
+// A directive on its line, a block in braces. The kind is DIRECTIVE or COMMENTARY: an enum of the two would be made a number again where put_remarks
+// compares it with an entry's kind, and in five contracts, whose definitions take the number.
 pub(crate) fn put_remark(page: &mut Page, kind: usize, s: &[u8])
     ensures { Puts page.old (remark_text kind s.now) page.new }
 {
@@ -87,7 +79,7 @@ pub(crate) fn put_under(page: &mut Page, items: &Items, kind: usize, name: &[u8]
     requires { kind ≤ 4 }
     ensures { Puts page.old (sought_text Under name.now kind (items_of items.now)) page.new }
 {
-    put_remarks(page, items, false, kind, |entry| same(name, entry.bytes()));
+    put_remarks(page, items, false, kind, |entry| name == entry.bytes());
 }
 
 // Those whose tag is not written.

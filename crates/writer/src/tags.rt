@@ -3,14 +3,13 @@ ghost use Rattle.std.specs.Prelude.{◌≡◌, ℕ, List, ◌∷◌, [], ◌++�
 ghost use Rattle.std.specs.Fn.{FnOnceReturnsAtMut};
 ghost use Rattle.tables.specs.declared.page.Page.{Page};
 ghost use Rattle.tables.specs.Puts.{Puts};
-ghost use Rattle.writer.specs.Items.{items_of, tag_line_text, tagged_text, is_extra_at, extras_text};
+ghost use Rattle.writer.specs.Items.{items_of, tagged_text, is_extra_at, extras_text};
 
 use crate::items::Items;
 use crate::names::find_name;
 use crate::remarks::put_after;
 use reader::names::tag_name;
 use reader::store::NAME;
-use reader::words::same;
 use tables::page::Page;
 
 // `[`, the name, a blank and a quote.
@@ -29,21 +28,11 @@ pub(crate) fn put_close(page: &mut Page)
     page.put_text(b"\"]\n");
 }
 
-// A tag on its line.
-fn put_tag(page: &mut Page, name: &[u8], value: &[u8])
-    ensures { Puts page.old (tag_line_text name.now value.now) page.new }
-{
-    put_open(page, name);
-    page.put_text(value);
-    put_close(page);
-}
-
 // A tag without data lines, the directives and the blocks after it.
 pub(crate) fn put_tagged(page: &mut Page, remarks: &Items, name: &[u8], value: &[u8])
     ensures { Puts page.old (tagged_text name.now value.now (items_of remarks.now)) page.new }
 {
-    put_tag(page, name, value);
-    put_after(page, remarks, name);
+    put_tagged_by(page, remarks, name, |page| page.put_text(value));
 }
 
 // The same of a value that put puts. The table, the auction and the play are put by hand: of a closure that takes a board or its entries the
@@ -76,7 +65,7 @@ fn is_extra(first: usize, entry: &Items) -> bool
     if tag_name(name).is_some() {
         return false;
     }
-    if same(b"Scoring", name) {
+    if matches!(name, b"Scoring") {
         return false;
     }
     let before = entry.part(first, entry.first - first);

@@ -28,7 +28,7 @@ fn put_bid(page: &mut Page, c: Conventions, n: usize)
 fn put_underscores(page: &mut Page, n: usize)
     ensures { Puts page.old (replicate n 95) page.new }
 {
-    for i in 0..n {
+    for _i in 0..n {
         page.put_byte(95);
     }
 }
@@ -57,7 +57,7 @@ pub fn put_card(page: &mut Page, c: Conventions, k: usize)
     page.put_byte(rank_letter(c, (k % 13) as u8));
 }
 
-// A seat's letter, nothing for none.
+// A seat's letter, nothing for none: a card's word, 4 or more for none, since the definitions seat_text, dealer_text and first_seat take the number.
 pub fn put_seat(page: &mut Page, c: Conventions, seat: usize)
     ensures { Puts page.old (seat_text c seat) page.new }
 {
@@ -66,6 +66,7 @@ pub fn put_seat(page: &mut Page, c: Conventions, seat: usize)
     }
 }
 
+// The word of a card, any number: those that reading stores are 0 to 3.
 pub fn put_vulnerability(page: &mut Page, v: usize)
     ensures { Puts page.old (vulnerability_token v) page.new }
 {

@@ -1,14 +1,16 @@
 // An edition read and written (write_pbn).
-ghost use Rattle.std.specs.Prelude.{◌≡◌};
+ghost use Rattle.std.specs.Prelude.{◌≡◌, true, is_ok, length};
 ghost use Rattle.tables.specs.Letters.{built_in};
-ghost use Rattle.writer.specs.Writings.{write_number, write_carries, IsWritten};
-ghost use Rattle.writer.specs.WritingSteps.{WritingEnded};
+ghost use Rattle.tables.specs.Refusals.{refusal_carries};
+ghost use Rattle.writer.specs.declared.write.WriteRefusal.TheVariants.{PageFull};
+ghost use Rattle.writer.specs.Writings.{write_number, write_carries, writing_of, IsWritten};
 
 use crate::held::ReadEdition;
 use crate::page::put_page;
 use reader::edition::{ReadRefusal, read_pbn_with};
 use tables::letters::{Conventions, built_in};
 use tables::page::Page;
+use tables::refusal::Refusal;
 use tables::refused::{Edition, Refused};
 
 // Refusals 1 to 3 of the edition, and 7 with the bytes needed; specs/Writings.antt gives the numbers.
@@ -16,6 +18,17 @@ use tables::refused::{Edition, Refused};
 pub enum WriteRefusal {
     Edition(ReadRefusal),
     PageFull(u64),
+}
+
+impl From<ReadRefusal> for WriteRefusal {
+    ghost use Rattle.std.specs.Prelude.{◌≡◌};
+    ghost use Rattle.writer.specs.declared.write.WriteRefusal.TheVariants.{Edition};
+
+    ghost from_gives = { λ f g. g ≡ Edition f };
+
+    fn from(f: ReadRefusal) -> WriteRefusal {
+        WriteRefusal::Edition(f)
+    }
 }
 
 impl Refused for WriteRefusal {
@@ -44,25 +57,43 @@ impl Refused for WriteRefusal {
     }
 }
 
-// The end of a page; the lent words are set to 0 where the text does not fit.
-fn end_writing(page: &mut Page, cards: &mut [u32], entries: &mut [u32]) -> Result<u64, WriteRefusal>
-    ensures ended { WritingEnded page.old.at cards.old entries.old page.old.bytes.now result cards.new entries.new page.new.bytes.now }
-    ensures same { page.new.bytes.ghost_name ≡ page.old.bytes.ghost_name }
+// Where a page was too short: the bytes needed.
+fn page_full(f: Refusal) -> WriteRefusal
+    ensures { result ≡ PageFull (refusal_carries f) }
 {
-    match page.finish() {
-        Ok(n) => Ok(n),
-        Err(f) => {
-            cards.fill(0);
-            entries.fill(0);
-            Err(WriteRefusal::PageFull(f.carried()))
-        }
-    }
+    WriteRefusal::PageFull(f.carried())
 }
 
-// Reads a text into the lent words and writes it on the page, by the given conventions; write_pbn stands beside it for the boundary, which passes
-// none, since there are no default arguments. Cards, entries and page are passed as the boundary is lent them. A
-// refusal is put into another by a match, as the page is set to 0 beside it. How many bytes; a refusal leaves all that was lent
-// zero.
+// Reads a text into the lent words and writes it on the page. What a refusal leaves is not said: write_pbn_with sets it to 0.
+fn written(
+    c: Conventions,
+    text: &[u8],
+    cards: &mut [u32],
+    entries: &mut [u32],
+    page: &mut [u8],
+) -> Result<u64, WriteRefusal>
+    ensures answer { result ≡ writing_of c text.now (length cards.old) (length entries.old) (length page.old) }
+    ensures well { is_ok result ≡ true → IsWritten c text.now cards.old entries.old page.old result cards.new entries.new page.new }
+{
+    let counts = read_pbn_with(c, text, cards, entries)?;
+    let boards = counts.boards;
+    let mut page = Page::new(page);
+    put_page(
+        &mut page,
+        &ReadEdition {
+            text,
+            cards,
+            entries,
+            boards,
+        },
+        c,
+    );
+    page.finish().map_err(page_full)
+}
+
+// Reads a text into the lent words and writes it on the page, by the given conventions: how many bytes; a refusal leaves all that was lent
+// zero. write_pbn stands beside it for the boundary, which passes none, since there are no default arguments. Cards, entries and page are
+// passed as the boundary is lent them.
 pub fn write_pbn_with(
     c: Conventions,
     text: &[u8],
@@ -72,27 +103,13 @@ pub fn write_pbn_with(
 ) -> Result<u64, WriteRefusal>
     ensures { IsWritten c text.now cards.old entries.old page.old result cards.new entries.new page.new }
 {
-    match read_pbn_with(c, text, cards, entries) {
-        Ok(counts) => {
-            let mut page = Page::new(page);
-            let boards = counts.boards;
-            put_page(
-                &mut page,
-                &ReadEdition {
-                    text,
-                    cards,
-                    entries,
-                    boards,
-                },
-                c,
-            );
-            end_writing(&mut page, cards, entries)
-        }
-        Err(f) => {
-            page.fill(0);
-            Err(WriteRefusal::Edition(f))
-        }
+    let done = written(c, text, cards, entries, page);
+    if done.is_err() {
+        cards.fill(0);
+        entries.fill(0);
+        page.fill(0);
     }
+    done
 }
 
 // Reads a text into the lent words and writes it on the page.

@@ -7,15 +7,6 @@ use Rattle.lin.proofs.GoneLaws.{going_first, going_same, going_next, going_off, 
 use Rattle.lin.proofs.SplitLaws.{line_some, line_none, line_behind, no_lines}
 use Rattle.lin.proofs.pieces.put_lines.Goals as goal
 
-pub loop-l-init : goal.loop-l-init
-loop-l-init c =
-    rw (c.into_iter-l-iterator.ensures.into_iter_gives, c.lines_of-l-items.ensures) (going_first _ _ _ _ c.no_progress-g.ensures, rw c.no_progress-g.ensures (omega arith), refl)
-
-pub put_piece-requires : goal.put_piece-requires
-put_piece-requires c =
-    let l = c.loop-l in
-    omega (arith, l.invariant.1, line_behind c.in-Some.ensures.steps, ap length l.invariant.2)
-
 pub loop-l-preserved-then-is_empty : goal.loop-l-preserved-then-is_empty
 loop-l-preserved-then-is_empty c =
     let s = c.in-Some.ensures.steps in
@@ -33,6 +24,3 @@ loop-l-preserved c =
     let some : length c.trim-line.result.now ≡ 0 → ⊥ = search rules in
     let p = c.in_ok-g.ensures in
     (going_next (going_same (line_some s c.trim-line.ensures some) c.loop-l.invariant.0) p, omega (arith, goes_more p, c.loop-l.invariant.1, line_behind s), rw s.walk_is c.loop-l.invariant.2)
-
-pub returns : goal.returns
-returns c = going_end (going_same (ap line_pieces (no_lines c.loop-l.l-iterator c.in-None.ensures.steps.0)) c.loop-l.invariant.0)

@@ -40,7 +40,7 @@ returns-in_err-g c =
     let e = same_command _ Qx (sym (c.eq-in-loop-p.ensures ∙ same_place c.in-Some.p.command Qx) ∙ t.0) in
     let y = ltb-true _ _ t.1 in
     let m = left_qx _ _ _ _ _ l.invariant.1 n e y in
-    let d = rw (c.upto.ensures, c.from.ensures, ← l.invariant.3, c.in_err-g.was) at c.put_dealt.ensures in
+    let d = rw (c.of.ensures, ← l.invariant.3, c.in_err-g.was) at c.put_dealt.ensures in
     rw c.from_residual.ensures (going_off_if _ (pieces_left r.text.now l.run r.at r.at) (going_same (ap with_deal m) l.invariant.0) d)
 
 pub loop-p-preserved-then-eq-start : goal.loop-p-preserved-then-eq-start
@@ -52,7 +52,7 @@ loop-p-preserved-then-eq-start c =
     let e = same_command _ Qx (sym (c.eq-in-loop-p.ensures ∙ same_place c.in-Some.p.command Qx) ∙ t.0) in
     let y = ltb-true _ _ t.1 in
     let m = left_qx _ _ _ _ _ l.invariant.1 n e y in
-    let d = rw (c.upto.ensures, c.from.ensures, ← l.invariant.3, c.in_ok-g.was) at c.put_dealt.ensures in
+    let d = rw (c.of.ensures, ← l.invariant.3, c.in_ok-g.was) at c.put_dealt.ensures in
     rw (← n.place)
     (going_if _ (pieces_left r.text.now l.run r.at r.at) (going_same (ap with_deal m) l.invariant.0) d, places_qx _ _ _ _ _ l.invariant.1 n, omega (arith, if_more d, l.invariant.2, y), rw n.same_text l.invariant.3)
 
@@ -72,5 +72,5 @@ pub returns : goal.returns
 returns c =
     let l = c.loop-p in
     let m = left_last _ _ _ _ l.invariant.1 c.in-None.ensures.steps in
-    let d = rw (c.from-2.ensures, ← l.invariant.3) at c.put_dealt-2.ensures in
+    let d = rw (c.from.ensures, ← l.invariant.3) at c.put_dealt-2.ensures in
     going_last _ _ (going_same (ap with_deal m) l.invariant.0) d

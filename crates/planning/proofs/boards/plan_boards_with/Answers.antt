@@ -5,4 +5,4 @@ pub cards-requires : goal.cards-requires
 cards-requires c = rooms c.read_both.ensures.read c.in_ok-both.was
 
 pub returns-clause-told : goal.returns-clause-told
-returns-clause-told c = boards_told c.read_both.ensures.read c.in_ok-both.was c.cards.ensures.0 c.cards.ensures.1 c.zero_numbers.ensures c.put_boards.ensures
+returns-clause-told c = boards_told c.read_both.ensures.read c.in_ok-both.was c.cards.ensures.0 c.cards.ensures.1 (c.fill.ensures.after (λ y e. e)) c.put_boards.ensures

@@ -11,4 +11,4 @@ put_searches-words-requires c =
     (rw (c.cards.ensures.0, cards_count) low.0, rw (c.cards.ensures.1, cards_count) low.1)
 
 pub returns-clause-told : goal.returns-clause-told
-returns-clause-told c = searches_told c.read_both.ensures.read c.in_ok-both.was c.cards.ensures.0 c.cards.ensures.1 c.zero_numbers.ensures c.put_searches-words.ensures
+returns-clause-told c = searches_told c.read_both.ensures.read c.in_ok-both.was c.cards.ensures.0 c.cards.ensures.1 (c.fill.ensures.after (λ y e. e)) c.put_searches-words.ensures

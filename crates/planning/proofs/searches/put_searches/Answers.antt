@@ -17,6 +17,3 @@ overflow_add-words-in-loop-k-2 c = omega (arith, search_rows_fit c.loop-k.invari
 
 pub loop-k-preserved : goal.loop-k-preserved
 loop-k-preserved c = search_rows_next c.loop-k.invariant c.loop-k-test.true c.search_numbers-five.ensures c.put_five.ensures c.put_five.auto.numbers
-
-pub returns : goal.returns
-returns c = (search_rows_end c.loop-k.invariant c.loop-k-test.false, rows_end c.loop-k.invariant.rows c.loop-k-test.false)

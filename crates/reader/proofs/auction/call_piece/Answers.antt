@@ -18,20 +18,6 @@ loop-t-init c =
     let z : c.into_iter-t-iterator.result.next ≡ 0 = cc in
     (rw (z, add-zero) (to_emit (called x.c) x.entries.now x.b _), cc, omega (arith, z), omega (arith, z), omega (arith, z))
 
-pub call_step-w-requires : goal.call_step-w-requires
-call_step-w-requires c =
-    let v = c.loop-t.invariant in
-    let d = token_inside _ c.in-Some.ensures.steps v.1 in (
-      omega (arith, c.requires.0, v.0.start, d.0, simp length-take at (ap length c.of.ensures)),
-      omega (arith, c.requires.0, c.requires.1, v.4, v.2),
-      omega (arith, c.requires.0, c.requires.2, v.3, v.2),
-    )
-
-pub overflow_add-at : goal.overflow_add-at
-overflow_add-at c =
-    let d = token_inside _ c.in-Some.ensures.steps c.loop-t.invariant.1 in
-    omega (arith, c.requires.0, d.0)
-
 pub loop-t-preserved : goal.loop-t-preserved
 loop-t-preserved c =
     let x = c.args in

@@ -3,9 +3,6 @@ use native.Mathlib.Omega.{arith}
 use Rattle.reader.proofs.CardSets.{add_below, bit_off}
 use Rattle.reader.proofs.deal.card_added.Goals as goal
 
-pub overflow_add-result : goal.overflow_add-result
-overflow_add-result c = omega (arith, add_below 52 c.args.k c.args.x c.requires.1 c.requires.0 (bit_off _ _ (sym c.holds.ensures ∙ c.if-holds.false)), c.power.ensures)
-
 pub returns : goal.returns
 returns c =
     (rw (← c.holds.ensures, c.if-holds.false, c.power.ensures), (omega arith, rw c.power.ensures (add_below 52 c.args.k c.args.x c.requires.1 c.requires.0 (bit_off _ _ (sym c.holds.ensures ∙ c.if-holds.false)))))

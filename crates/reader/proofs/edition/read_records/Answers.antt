@@ -7,25 +7,12 @@ loop-e-init c =
     let a = c.args in
     turn_first a.c a.text.now a.cards.now a.entries.now
 
-pub record_end-requires : goal.record_end-requires
-record_end-requires c = c.loop-e.invariant.inside
-
 pub read_record-n-requires : goal.read_record-n-requires
 read_record-n-requires c =
     let i = c.loop-e.invariant in
     let e = rw c.in-Some.is at c.record_end.ensures in
     let p = c.requires in
     (omega (arith, e.after), e.inside, p, omega (arith, turn_few i, p))
-
-pub overflow_add-boards : goal.overflow_add-boards
-overflow_add-boards c =
-    let i = c.loop-e.invariant in
-    omega (arith, i.few_boards, i.inside, c.requires)
-
-pub loop-e-smaller : goal.loop-e-smaller
-loop-e-smaller c =
-    let e = rw c.in-Some.is at c.record_end.ensures in
-    omega (arith, e.after, e.inside)
 
 pub loop-e-preserved : goal.loop-e-preserved
 loop-e-preserved c =

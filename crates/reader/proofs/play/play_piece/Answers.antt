@@ -15,11 +15,6 @@ loop-d-init c =
     let z : c.into_iter-d-iterator.result.next ≡ 0 = cc in
     (rw (z, add-zero) (to_emit (played_token x.by.c x.by.lead x.by.trump) x.entries.now x.t _), cc, omega (arith, z), omega (arith, z), c.requires.0, omega (arith, z))
 
-pub play_step-w-requires : goal.play_step-w-requires
-play_step-w-requires c =
-    let v = c.loop-d.invariant in
-    (v.4, omega (arith, c.requires.1, v.0.start), omega (arith, c.requires.1, c.requires.2, v.5, v.2), omega (arith, c.requires.1, c.requires.3, v.3, v.2))
-
 pub loop-d-preserved : goal.loop-d-preserved
 loop-d-preserved c =
     let x = c.args in

@@ -29,4 +29,4 @@ returns-in-WithComment c =
 pub returns-in-WithData : goal.returns-in-WithData
 returns-in-WithData c =
     let a = c.args in
-    read_data a.c a.s.now a.p a.l.now c.in-WithData.is c.placed_span.ensures c.tag_step-in-WithData.ensures c.data_step.ensures
+    read_data a.c a.s.now a.p a.l.now c.in-WithData.is c.moved.ensures c.tag_step-in-WithData.ensures c.data_step.ensures

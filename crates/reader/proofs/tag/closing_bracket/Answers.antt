@@ -8,9 +8,6 @@ use Rattle.reader.specs.Tag.{part, ends_quoted}
 use Rattle.reader.proofs.TagLaws.{part_none, close_found, close_turn, close_to, close_none}
 use Rattle.reader.proofs.tag.closing_bracket.Goals as goal
 
-pub loop-i-init : goal.loop-i-init
-loop-i-init c = (rw (part_none c.args.a c.args.line.now), omega arith)
-
 pub returns-then-ends_quoted : goal.returns-then-ends_quoted
 returns-then-ends_quoted c =
     let l = c.loop-i in

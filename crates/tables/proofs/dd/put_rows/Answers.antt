@@ -1,12 +1,13 @@
 use Rattle.std.proofs.Common.{◌≡◌, length, rules}
 use Rattle.tables.specs.Tables.{rows_text}
 use Rattle.tables.proofs.Laws.{step, stop}
+use Rattle.tables.proofs.TableLaws.{width_any}
 use Rattle.tables.proofs.PutsLaws.{puts_first, puts_next, puts_all, puts_then}
 use Rattle.tables.proofs.dd.put_rows.Goals as goal
 
 pub loop-i-init : goal.loop-i-init
 unfolding rows_text
-loop-i-init c = rw c.result_width-w.ensures.0 (puts_first _ _)
+loop-i-init c = rw (width_any c.args.table.now, ← c.is_wide-wide.ensures) (puts_first _ _)
 
 pub loop-i-preserved : goal.loop-i-preserved
 loop-i-preserved c =

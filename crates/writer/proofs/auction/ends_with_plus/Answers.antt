@@ -11,7 +11,7 @@ loop-entry-init c =
 
 pub loop-entry-preserved-then-kind-eq-CALL : goal.loop-entry-preserved-then-kind-eq-CALL
 loop-entry-preserved-then-kind-eq-CALL c =
-    rw c.mark-plus.ensures.0 (plus_call c.loop-entry.invariant c.in-Some.ensures.steps (sym c.kind.ensures ∙ c.if-kind-eq-CALL.true))
+    rw c.mark.ensures.0 (plus_call c.loop-entry.invariant c.in-Some.ensures.steps (sym c.kind.ensures ∙ c.if-kind-eq-CALL.true))
 
 pub loop-entry-preserved : goal.loop-entry-preserved
 loop-entry-preserved c =

@@ -10,10 +10,10 @@ loop-k-init c =
 
 pub loop-k-preserved : goal.loop-k-preserved
 loop-k-preserved c =
-    let z : c.args.seat - c.loop-k.k ≡ suc (c.args.seat - (c.loop-k.k + 1)) = omega (arith, c.loop-k-test.true) in
+    let z : c.args.seat - c.loop-k._k ≡ suc (c.args.seat - (c.loop-k._k + 1)) = omega (arith, c.loop-k-test.true) in
     rw c.turned_back-turned.ensures (rw z at c.loop-k.invariant)
 
 pub returns : goal.returns
 returns c =
-    let z : c.args.seat - c.loop-k.k ≡ 0 = omega (arith, c.loop-k-test.false) in
+    let z : c.args.seat - c.loop-k._k ≡ 0 = omega (arith, c.loop-k-test.false) in
     sym (rw z at c.loop-k.invariant)

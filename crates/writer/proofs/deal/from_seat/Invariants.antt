@@ -5,4 +5,4 @@ use Rattle.writer.proofs.deal.from_seat.Given as goal
 
 abbrev pub invariant-loop-k : goal.invariant-loop-k
 invariant-loop-k l =
-    clockwise l.seat l.fn.h ≡ clockwise (l.seat - l.k) l.turned
+    clockwise l.seat l.fn.h ≡ clockwise (l.seat - l._k) l.turned

@@ -1,33 +1,28 @@
 use Rattle.tables.proofs.Laws.{clash}
-use mathlib.Core.Path.{ap, refl, sym, ◌∙◌}
-use native.Mathlib.Omega.{arith}
+use mathlib.Core.Path.{ap, sym, ◌∙◌}
 use Rattle.writer.specs.GivenCards.{given_cleared, changed_all}
+use Rattle.planning.proofs.AnswerLaws.{passed_on}
 use Rattle.writer.proofs.finish.put_finished.Goals as goal
 
-pub returns-then-not-is_ok-clause-put : goal.returns-then-not-is_ok-clause-put
-returns-then-not-is_ok-clause-put c =
-    let w = sym c.is_ok.ensures.value ∙ c.if-not-is_ok.true in
+pub returns-in_err-check_answers-clause-put : goal.returns-in_err-check_answers-clause-put
+returns-in_err-check_answers-clause-put c =
+    let w = passed_on c.from_residual.result {f = c.in_err-check_answers.field-0.0} c.from_residual.ensures.1 in
     record {
       solve = c.give_tables-solve.result;
       given = c.give_tables-solve.new.new_cards;
       gave = c.give_tables-solve.ensures;
-      room = omega (arith, c.requires.1, c.give_tables-solve.auto);
-      answer = c.check_answers-checked.ensures;
-      page_put = λ t. clash (sym w ∙ t);
-      cards_after = rw w;
-      kept = refl;
+      answer = w ∙ sym c.in_err-check_answers.was ∙ c.check_answers.ensures;
+      page_put = λ t. clash (rw w at t);
+      cards_after = λ t. clash (rw w at t);
     }
 
 pub returns-clause-put : goal.returns-clause-put
 returns-clause-put c =
-    let w = sym c.is_ok.ensures.value ∙ c.if-not-is_ok.false in
     record {
       solve = c.give_tables-solve.result;
       given = c.give_tables-solve.new.new_cards;
       gave = c.give_tables-solve.ensures;
-      room = omega (arith, c.requires.1, c.give_tables-solve.auto);
-      answer = c.check_answers-checked.ensures;
+      answer = sym c.in_ok-check_answers.was ∙ c.check_answers.ensures;
       page_put = λ t. rw c.mark_given.ensures at c.put_page.ensures;
-      cards_after = rw w (c.clear_given.ensures ∙ ap (changed_all given_cleared c.args.news) c.mark_given.ensures);
-      kept = c.put_page.ensures.kept;
+      cards_after = λ t. c.clear_given.ensures ∙ ap (changed_all given_cleared c.args.news) c.mark_given.ensures;
     }

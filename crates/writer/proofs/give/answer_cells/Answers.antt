@@ -15,11 +15,11 @@ pub loop-i-preserved : goal.loop-i-preserved
 loop-i-preserved c =
     let l = c.loop-i in
     let a = c.args in (
-      cells_more a.answers.now l.cells a.slip l.i _ c.if-answers-slip.false c.loop-i-test.true l.invariant.1 refl l.invariant.0,
+      cells_more a.answers.now l.cell-items a.slip l.i _ c.if-answers-slip.false c.loop-i-test.true l.invariant.1 c.from.ensures l.invariant.0,
       simp length-set l.invariant.1,
     )
 
 pub returns : goal.returns
 returns c = let a = c.args in
     let l = c.loop-i in
-    cells_answered a.answers.now l.cells a.slip l.i c.if-answers-slip.false c.loop-i-test.false (omega arith) l.invariant.1 l.invariant.0
+    cells_answered a.answers.now l.cell-items a.slip l.i c.if-answers-slip.false c.loop-i-test.false (omega arith) l.invariant.1 l.invariant.0

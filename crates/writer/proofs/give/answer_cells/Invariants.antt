@@ -4,4 +4,4 @@ use lib.ListN.{length, take, drop}
 use Rattle.writer.proofs.give.answer_cells.Given as goal
 
 abbrev pub invariant-loop-i : goal.invariant-loop-i
-invariant-loop-i l = (take l.i l.cells ≡ take l.i (drop (20 * l.slip) l.answers)) × (length l.cells ≡ 20)
+invariant-loop-i l = (take l.i l.cell-items ≡ take l.i (drop (20 * l.slip) l.answers)) × (length l.cell-items ≡ 20)

@@ -7,4 +7,4 @@ use Rattle.writer.proofs.notes.is_decimal.Goals as goal
 
 pub returns : goal.returns
 returns c =
-    c.same.ensures ∙ ap (same c.args.s.now) (c.upto.ensures ∙ decimal_put c.args.n c.put_decimal.ensures c.new-page.ensures.start (ap length c.new-page.ensures.bytes) (search rules))
+    c.eq.ensures ∙ ap (same c.args.s.now) (c.upto.ensures ∙ decimal_put c.args.n c.put_decimal.ensures c.new-page.ensures.start (ap length c.new-page.ensures.bytes) (search rules))

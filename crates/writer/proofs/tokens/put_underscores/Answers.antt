@@ -12,8 +12,8 @@ loop-i-init c =
 
 pub loop-i-preserved : goal.loop-i-preserved
 loop-i-preserved c =
-    puts_next _ _ (puts_same (repeat_step c.loop-i.i c.args.n 95 c.loop-i-test.true) c.loop-i.invariant) c.put_byte.ensures
+    puts_next _ _ (puts_same (repeat_step c.loop-i._i c.args.n 95 c.loop-i-test.true) c.loop-i.invariant) c.put_byte.ensures
 
 pub returns : goal.returns
 returns c =
-    puts_all (puts_same (repeat_none c.loop-i.i c.args.n 95 c.loop-i-test.false) c.loop-i.invariant)
+    puts_all (puts_same (repeat_none c.loop-i._i c.args.n 95 c.loop-i-test.false) c.loop-i.invariant)

@@ -5,4 +5,4 @@ use Rattle.writer.proofs.tokens.put_underscores.Given as goal
 
 abbrev pub invariant-loop-i : goal.invariant-loop-i
 invariant-loop-i l =
-    PutsLeft l.fn.page (replicate l.n 95) l.page (replicate (l.n - l.i) 95)
+    PutsLeft l.fn.page (replicate l.n 95) l.page (replicate (l.n - l._i) 95)
