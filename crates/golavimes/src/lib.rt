@@ -1,8 +1,8 @@
 // The boundary: thin functions on byte and number slices over the layers. golavimes_c exports them to C.
 // Each lent box is a parameter of its own, since C lends it as a pointer and a length. Each function stands here and in golavimes_c: a
 // crate is a library or a static library, C needs the second, and demands, which proves its theorems of these functions, can depend on a
-// library alone. LentBoxes is written out in six functions: made by a function of its own (tried), the check does not find what the four
-// boxes hold after the call.
+// library alone. LentBoxes is written out in six functions: its four fields are two of each kind, which the literal names and a function
+// would take by place; made by one (tried), the check does not find what the four boxes hold after the call.
 #![tactic(auto)]
 
 ghost use Rattle.std.specs.Prelude.{◌≡◌, ◌+◌, ◌-◌, ◌≤◌, ◌∷◌, length, get_or, replicate};

@@ -53,7 +53,7 @@ pub fn is_whole(card: &Card) -> bool
     card[9] as usize == PARSED && reader::deal::is_whole(hands_of_words(deal_at(card)))
 }
 
-// A deal of 13 cards in each hand, as one is that is searched for.
+// A deal of 13 cards in each hand: what is searched for.
 #[derive(Clone, Copy)]
 pub(crate) struct WholeDeal {
     pub words: [u32; 8],

@@ -21,7 +21,8 @@ pub struct Searched {
     pub words: u64,
 }
 
-// The words that a search compares, 0 where it is not made; `made` is a bool as in `words_if` of specs.
+// The words that a search compares, 0 where it is not made. `made` is a flag, as in `words_if` of specs: each of the three searches of
+// search_numbers is made or not, and without it the `if` and its 0 would stand three times.
 fn words_if(made: bool, cards: &[Card], d: &WholeDeal, tabled: bool) -> u64
     ensures { result ≡ words_if made (searched tabled d.now.words cards.now) }
 {
@@ -31,7 +32,7 @@ fn words_if(made: bool, cards: &[Card], d: &WholeDeal, tabled: bool) -> u64
     0
 }
 
-// The five numbers of the board at index k.
+// The five numbers of the board at index k. A board whose deal is not whole is blank: no search is made.
 fn search_numbers(olds: &[Card], news: &[Card], k: usize) -> [u64; 5]
     requires { k < length news.now }
     ensures { result ≡ search_numbers olds.now news.now (plan_here olds.now news.now k) }

@@ -20,8 +20,8 @@ pub enum BoardState {
 
 // The state of the board at index k of the new edition. Boards are gone over by their index, and three functions ask that k is one: the search for
 // a twin is among those before k, the position is k + 1, and numbers are stored at k, so that an iterator of states would have to hand out k as well.
-// Nine functions take the cards of the editions as two slices, as the definitions of specs do: a struct of both would be a parameter fewer in the
-// six that pass both on, and be taken apart in the other three and in the contracts of all nine.
+// Nine functions of planning and two of listing_text take the cards of the editions as two slices, as the definitions of specs do: a struct of
+// both would be a parameter fewer in the eight that pass both on, and be taken apart in the other three and in the contracts of all eleven.
 pub fn state_of(olds: &[Card], news: &[Card], k: usize) -> BoardState
     requires { k < length news.now }
     ensures { (result ≡ state_of olds.now news.now (take k news.now) (card_from news.now k)) × (from_of result ≤ length olds.now + length news.now) }

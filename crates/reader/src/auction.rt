@@ -54,7 +54,7 @@ fn call_token(c: Conventions, t: &[u8]) -> CallToken
     }
 }
 
-// By place, as the definition `bidding` takes them: each of its seven uses would be a struct of four lines.
+// By place, as the definition `bidding` takes them: each of its eight uses would be a struct of four lines.
 fn bid(made: bool, end: usize, stopped: bool, count: usize) -> Bidding
     ensures { result ≡ bidding made end stopped count }
 {

@@ -106,8 +106,8 @@ fn head_words(n: usize, count: usize, b: Board) -> [u32; 10]
 fn cell_words(t: TableCard) -> [u32; 20]
     ensures { result ≡ t.cells }
 {
-    // By index: the array's map was tried and takes some 500 instructions a board more, 1 in 100 of reading, which is to be three times
-    // as fast as the Rust (docs/SPEED.md).
+    // By index: the array's map was tried and takes some 500 instructions a board more, where reading is to be three times as fast as the
+    // Rust (docs/SPEED.md, and `Tricks` in play.rt); with zip the loop's invariant has no number of the turn.
     let cells = t.cells;
     let mut words = [0; 20];
     for i in 0..20 {

@@ -27,12 +27,15 @@ pub struct Terms {
     pub trump: usize,
 }
 
-// Play so far: whether a trick is open, its leader, its winner once it is full, 4 until then, its slots, and how many seats of it are
-// taken; the end mark, 0, 1 or 2 as the word of the card, whether the section has stopped, and how many tricks were closed, which hold
-// before the first trick too. The winner as an Option was tried: it is copied at each token, and reading, which is to be three times as
-// fast as the Rust, takes 3 in 100 longer (docs/SPEED.md); an Option of the open trick would be copied in the same way. That seats and
-// slots are in range stands in contracts (Seated, OpenTrick, Low), and not in ghost fields: the definitions make tricks and slots at each
-// token, and each would have to carry its proof. The bounds of `count` stand in contracts for the reason at Entries (store.rt).
+// Play so far: whether a trick is open, its leader, 4 before the first, its winner once it is full, 4 until then, its slots, and how
+// many seats of it are taken; the end mark, 0, 1 or 2 as the word of the card, whether the section has stopped, and how many tricks
+// were closed, which hold before the first trick too. The winner as an Option was tried: with it, and with the array's map at
+// cell_words (edition.rt), reading, which is to be three times as fast as the Rust, takes 1 to 2 in 100 longer (docs/SPEED.md). An
+// Option of the open trick would be no plainer: take_seat and with_card, and `taking`, `with_card` and `played` of specs/Play, would
+// each match it, though all stand behind `opened`, which has just made it; or it would be handed beside the rest, and put back at each
+// end of play_token. That seats and slots are in range stands in contracts (Seated, OpenTrick, Low), and not in ghost fields: the
+// definitions make tricks and slots at each token, and each would have to carry its proof. The bounds of `count` stand in contracts for
+// the reason at Entries (store.rt).
 #[derive(Clone, Copy)]
 pub struct Tricks {
     pub leader: usize,

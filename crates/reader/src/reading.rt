@@ -1,5 +1,5 @@
 // The lines of a record: what each does to the board, and the entries that it adds. A line l stands at the place p of its record; both
-// are handed on side by side, since half of the steps take p alone (with a part of l) and no step takes l without p. The State and the
+// are handed on side by side, since three of the eight steps take p alone (with a part of l) and no step takes l without p. The State and the
 // Entries go side by side too: `read_board` hands the State out while the Entries stay its caller's, and `Emits`, the contract of the
 // steps, compares the two lists of entries, and the State apart with the one that the definitions make, which have no lent words.
 ghost use Rattle.std.specs.Prelude.{◌≡◌, ◌∷◌, [], ◌+◌, ◌*◌, ◌≤◌, ◌<◌, ◌^◌, Some, length};

@@ -1,4 +1,4 @@
-// The meanings of words: calls, cards, contracts, vulnerability, ends of sections. Definitions have numbers for none: 47 of a call, 52 of
+// The meanings of words: calls, cards, contracts, vulnerability. Definitions have numbers for none: 47 of a call, 52 of
 // a card, 0 of a level, 4 of a trump or a vulnerability; specs of the writer, of lin and of the demands compare those numbers, so that
 // they stay, and a contract here says an Option by them.
 ghost use Rattle.std.specs.Prelude.{◌≡◌, ◌≤◌, ◌<◌, length, IfSome, unwrap_or};

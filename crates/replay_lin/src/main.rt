@@ -17,7 +17,7 @@ use recorded::report::report;
 use std::io;
 
 // What is counted, by the places of cases.rt: names and counts are lists beside each other, since the counts go on alone where the names
-// are only printed.
+// are only printed, and pairs would be taken apart in `add`, whose contract tells of numbers alone.
 const NAMES: [&str; 11] = [
     "chosen texts",
     "texts of several boards",

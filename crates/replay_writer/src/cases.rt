@@ -41,7 +41,8 @@ pub struct Case<'a> {
 
 impl<'a> Case<'a> {
     // Whether these words are those that reading leaves, all zero after a refusal. Words are lent anew, since those that writing left are
-    // compared with them; a function that lends them would be given what to do as a closure, and could promise nothing of it.
+    // compared with them. A function that lends them here, in is_same and in the replay of reading would be given a closure over two
+    // slices, for three lines in each.
     fn is_read(self, cards: &[u32], entries: &[u32]) -> bool {
         let mut read_cards = [FULL; 8192];
         let mut read_entries = [FULL; 8192];

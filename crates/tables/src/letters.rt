@@ -42,7 +42,7 @@ pub fn seat_of(c: Conventions, b: u8) -> Option<u8>
 }
 
 // x or y. Which letter comes next cannot be foreseen, so that a branch on one costs more than a comparison with all of them:
-// `position` or a branch for each letter takes five times as long (docs/SPEED.md).
+// `position` or a branch for each letter takes five times as long here; reading fell by a fifth without the branches (docs/SPEED.md).
 fn choose(test: bool, x: u8, y: Option<u8>) -> Option<u8>
     ensures { result ≡ cond test (Some x) y }
 {

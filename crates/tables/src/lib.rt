@@ -8,4 +8,4 @@ pub mod numbers; // decimal numbers, read and written
 pub mod page; // text written to a lent page and counted past its end
 pub mod refusal; // refusals 7 to 15
 pub mod refused; // what a refusal of any layer tells
-pub mod text; // white space, trimming, fields, lines, characters
+pub mod text; // white space, trimming, fields, characters

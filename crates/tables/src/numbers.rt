@@ -1,6 +1,6 @@
 // Decimal numbers in a text. By `parse` of a &str a number is one line, `str::from_utf8(s).ok()?.parse::<u32>().ok().filter(..)`, but it
 // would have to be shown beside it that bytes that are no UTF-8, and numbers above 32 bits, are none of `number_of`, for a loop of eight
-// lines; and `-0`, which parse_signed takes, is none of `parse`'s either.
+// lines. A signed number would be read as an i64 and cut to the half, and its digits shown to be those of `signed_of`.
 ghost use Rattle.std.specs.Prelude.{◌≡◌, ◌<◌, ◌≤◌};
 ghost use Rattle.tables.specs.Numbers.{some_digits, number_of, signed_of};
 ghost use Rattle.tables.specs.NumberSteps.{IsWithin};

@@ -1,4 +1,4 @@
-// White space, trimming, fields, lines and characters.
+// White space, trimming, fields and characters.
 ghost use Rattle.std.specs.Prelude.{◌≡◌, ◌+◌, ◌≤◌, ◌<◌, length, get_or, take, drop};
 ghost use Rattle.tables.specs.Text.{is_white, lead, trim_start, trim_end, trimmed, word, past_word, before, is_inside, characters, starts, first_character};
 

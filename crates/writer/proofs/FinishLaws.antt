@@ -33,7 +33,7 @@ use Rattle.writer.specs.declared.finish.FinishRefusal.TheVariants.{Edition}
 use Rattle.writer.specs.declared.finish.FinishRefusal.{FinishRefusal}
 use Rattle.writer.specs.Held.{card_word}
 use Rattle.writer.specs.Given.{tables_of, finished_boards, finished_text}
-use Rattle.writer.specs.GivenCards.{given_cards, marked, given_cleared, changed_all, given_box, tabled_page, BoardsFinished}
+use Rattle.writer.specs.GivenCards.{given_cards, marked, given_cleared, changed_all, given_box, tabled_page, BoardsEnded}
 use Rattle.writer.specs.Finishings.{finishing_of, IsFinished}
 use Rattle.writer.proofs.WriteLaws.{no_answer}
 use Rattle.writer.proofs.HeldBoards.{Holds, taken_holds}
@@ -277,7 +277,7 @@ module _ {c : Conventions} {old new : List ℕ} {boxes boxes₁ : Boxes} {q : Ed
 
   -- Both editions were read, and the new one finished.
   module _ {answers page page' : List ℕ} {r : Result ℕ FinishRefusal} {boxes' : Boxes}
-      (d : BoardsFinished c new both.old.boards both.new.boards boxes₁ answers page r boxes' page') where
+      (d : BoardsEnded c new both.old.boards both.new.boards boxes₁ answers page r boxes' page') where
     few : length (tabled_page c new both.old.boards both.new.boards boxes₁ answers) ≤ 549755813888
     few = rw (page_is answers) (omega (arith, FinishedFew c old new answers new_holds.short))
 

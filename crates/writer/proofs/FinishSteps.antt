@@ -25,7 +25,7 @@ use Rattle.writer.specs.declared.finish.FinishRefusal.TheVariants.{Answers, Impo
 use Rattle.writer.specs.Writings.{page_after}
 use Rattle.writer.specs.WritingSteps.{PagePut}
 use Rattle.writer.specs.Finishings.{first_above, finished_on, checked_of}
-use Rattle.writer.specs.GivenCards.{marked, given_cleared, changed_all, given_box, tabled_page, BoardsPut, BoardsFinished}
+use Rattle.writer.specs.GivenCards.{marked, given_cleared, changed_all, given_box, tabled_page, BoardsPut, BoardsEnded}
 use Rattle.writer.proofs.WriteLaws.{page_put}
 use Rattle.tables.specs.declared.refusal.Refusal.{Refusal}
 
@@ -77,7 +77,7 @@ module _ {c : Conventions} {new : List ℕ} {m n : ℕ} {oc nc ne answers nc₂ 
   -- The answers are right, and the page was put and ended.
   pub boards_right : {u : Unit {0}} {f : Result ℕ Refusal} → BoardsPut c new m n oc nc ne answers p (Ok u) nc₂ q → PageFinished q.at q.bytes.now page₂ f
       → r ≡ finished_on q.at (length q.bytes.now) → {page' : List ℕ} → page₂ ≡ page'
-      → BoardsFinished c new m n (four oc oe nc ne) answers page r (four oc oe nc₂ ne) page'
+      → BoardsEnded c new m n (four oc oe nc ne) answers page r (four oc oe nc₂ ne) page'
   boards_right {u} b ended told same =
       let boxes = four oc oe nc ne in
       let bs = tabled_page c new m n boxes answers in
@@ -102,7 +102,7 @@ module _ {c : Conventions} {new : List ℕ} {m n : ℕ} {oc nc ne answers nc₂ 
 
   -- They are wrong.
   pub boards_wrong : {f : FinishRefusal} → BoardsPut c new m n oc nc ne answers p (Err f) nc₂ q → r ≡ Err f → {boxes' : Boxes}
-      → BoardsFinished c new m n (four oc oe nc ne) answers page r boxes' page₂
+      → BoardsEnded c new m n (four oc oe nc ne) answers page r boxes' page₂
   boards_wrong {f} b e =
       let w : is_ok r ≡ false = ap is_ok e in
       let done = finished_on (length (tabled_page c new m n (four oc oe nc ne) answers)) (length page) in

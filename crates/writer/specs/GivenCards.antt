@@ -109,7 +109,7 @@ cleared_boxes m n boxes answers =
 
 -- The new edition, of n boards, is finished, the old one having m: the answer, the boxes and the page. A page is counted no further than 2 ^ 39
 -- bytes, so that the answer and the page are promised up to there.
-pub record BoardsFinished (c : Conventions) (new : List ℕ) (m n : ℕ) (boxes : Boxes) (answers page : List ℕ) (r : Result ℕ FinishRefusal)
+pub record BoardsEnded (c : Conventions) (new : List ℕ) (m n : ℕ) (boxes : Boxes) (answers page : List ℕ) (r : Result ℕ FinishRefusal)
     (boxes' : Boxes) (page' : List ℕ) : Type 0 where
   pub answer : length (tabled_page c new m n boxes answers) ≤ 549755813888
       → r ≡ answered_by (totals_of (plans_in m n boxes)).solve answers

@@ -101,7 +101,8 @@ fn put_hands(page: &mut Page, c: Conventions, h: Hands)
     put_hand(page, c, h.west);
 }
 
-// A deal from a seat on.
+// A deal from a seat on. The seat is below 4 as a bound of turns: an enum of seats would be turned back for the letter's index, as at cell_of
+// of tables.
 pub fn put_deal(page: &mut Page, c: Conventions, seat: usize, h: Hands)
     requires { seat < 4 }
     ensures { Puts page.old (deal_text c seat h) page.new }

@@ -93,8 +93,9 @@ fn mark_card(cards: &mut [u32], k: usize)
 }
 
 // Marks the tables that were given: a whole board without a table. The cards are words with an index: of what as_chunks_mut cuts nothing is known
-// once a card is changed, and a part that chunks_exact_mut gives is a slice, which mark_card would have to make a card again. This loop and that of clear_given are two, since one that is given what is
-// done to a card would have to ask of it where the card lies and that the number of words stays.
+// once a card is changed, and a part that chunks_exact_mut gives is a slice, which mark_card would have to make a card again. clear_given, which
+// needs no card, goes the same way, so that the same laws serve both loops. They are two, since one that is given what is done to a card would
+// have to ask of it where the card lies and that the number of words stays.
 fn mark_given(cards: &mut [u32], boards: usize)
     requires { 64 * boards ≤ length cards.old }
     ensures { cards.new ≡ changed_all marked boards cards.old }
@@ -178,7 +179,8 @@ fn put_finished(
     Ok(())
 }
 
-// Where a page was too short: the bytes needed.
+// Where a page was too short: the bytes needed. One for each refusal: of a closure given to map_err the check reads no fact in an answer
+// (tried), and `From<Refusal>` would say of every refusal of tables that a page was full.
 fn page_full(f: Refusal) -> FinishRefusal
     ensures { result ≡ PageFull (refusal_carries f) }
 {

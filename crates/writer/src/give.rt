@@ -26,7 +26,8 @@ fn cells_at(cards: &[u32], k: usize) -> [u32; 20]
     cells
 }
 
-// The 20 answers for a slip, bytes where cells_at has words; zeros where there are none, as refusal 5 is told only once all boards have their cells.
+// The 20 answers for a slip, bytes where cells_at has words; zeros where there are none, as refusal 5 is told only once all boards have their
+// cells. By index: with zip the loop's invariant has no number of the turn (tried).
 fn answer_cells(answers: &[u8], slip: usize) -> [u32; 20]
     ensures { result ≡ answer_at answers.now slip }
 {

@@ -8,7 +8,8 @@ ghost use Rattle.writer.specs.BoardTexts.{word_of, value_of, BoardHeld};
 use crate::items::Items;
 use reader::store::{COMMENTARY, DIRECTIVE};
 
-// An edition that was read: its text, the lent words of its cards and entries, and how many boards it has.
+// An edition that was read: its text, the lent words of its cards and entries, and how many boards it has, as page_held of the definitions
+// takes them (see Board).
 #[derive(Clone, Copy)]
 pub struct ReadEdition<'a> {
     pub text: &'a [u8],
@@ -19,8 +20,8 @@ pub struct ReadEdition<'a> {
 
 // The board whose card stands at an index; its remarks are among its entries, or among none of them where there is no remark. The card is named
 // by its index among lent words: the definitions page_held, next_held, of_board and word_of, and the theorems over them, are of lent words and an
-// index, 0 past the last. So put_parts goes by its index, and put_digits by its words' numbers. The letters of cards and calls are no part of a board, nor of a page: tables and listing_text put pages without any,
-// and of the functions here that take a page more than half take none.
+// index, 0 past the last. So put_parts goes by its index, and put_digits by its words' numbers. The letters of cards and calls are no part of a
+// board, nor of a page: tables and listing_text put pages without any, and of the functions here that take a page more than half take none.
 #[derive(Clone, Copy)]
 pub struct Board<'a> {
     pub cards: &'a [u32],
@@ -28,7 +29,8 @@ pub struct Board<'a> {
     pub remarks: Items<'a>,
 }
 
-// The word i of the card k; 0 past the last card, since the definitions speak of all words and not of those alone that were read.
+// The word i of the card k; 0 past the last card, since the definitions speak of all words and not of those alone that were read. word_at of
+// Items has 4 for 64: one over both would take a const parameter and a definition, for two bodies of four lines.
 fn card_word(cards: &[u32], k: usize, i: usize) -> usize
     requires { i < 64 }
     ensures { (result ≡ card_word cards.now k i) × (result < 4294967296) }

@@ -31,6 +31,7 @@ fn note_number(value: &[u8]) -> Option<u8>
 {
     let k = index_of(value, 58);
     if k < value.len() {
+        // With `?` (tried) the value of the residual is one more thing to show.
         let Some(n) = parse_number(trim(upto(value, k)), 255) else {
             return None;
         };

@@ -26,7 +26,7 @@ fn put_block(page: &mut Page, s: &[u8])
 }
 
 // A directive on its line, a block in braces. The kind is DIRECTIVE or COMMENTARY: an enum of the two would be made a number again where put_remarks
-// compares it with an entry's kind, and in five contracts, whose definitions take the number.
+// compares it with an entry's kind, and in five contracts, whose definitions take the number. So kind ≤ 4 stands in four contracts.
 pub(crate) fn put_remark(page: &mut Page, kind: usize, s: &[u8])
     ensures { Puts page.old (remark_text kind s.now) page.new }
 {

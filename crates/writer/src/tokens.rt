@@ -48,7 +48,8 @@ pub fn put_call(page: &mut Page, c: Conventions, code: usize)
     }
 }
 
-// A suit's letter and a rank's. A number below 52 is no type of Rust's, and a struct round it would be made where it is tested, in put_slot.
+// A suit's letter and a rank's. A number below 52 is no type of Rust's, and a struct round it would be made where it is tested, in put_trick
+// and in put_slot of lin, and be taken apart here.
 pub fn put_card(page: &mut Page, c: Conventions, k: usize)
     requires { k < 52 }
     ensures { Puts page.old (card_token c k) page.new }

@@ -57,7 +57,7 @@ impl Refused for WriteRefusal {
     }
 }
 
-// Where a page was too short: the bytes needed.
+// Where a page was too short: the bytes needed; for the function of this name beside finish see there.
 fn page_full(f: Refusal) -> WriteRefusal
     ensures { result ≡ PageFull (refusal_carries f) }
 {

@@ -5,10 +5,6 @@ use mathlib.Core.Path.{sym, ◌∙◌}
 use native.Mathlib.Omega.{arith}
 use Rattle.writer.proofs.auction.put_calls.Goals as goal
 
-pub loop-entry-init : goal.loop-entry-init
-loop-entry-init c =
-    rw c.into_iter-entry-iterator.ensures.into_iter_gives (puts_first _ _, omega arith)
-
 pub loop-entry-preserved-then-met-eq-CALL : goal.loop-entry-preserved-then-met-eq-CALL
 loop-entry-preserved-then-met-eq-CALL c =
     let s = c.in-Some.ensures.steps in
@@ -26,8 +22,3 @@ loop-entry-preserved c =
     let s = c.in-Some.ensures.steps in
     let l = c.loop-entry in
     (puts_same (calls_pass s c.args.c l.n l.called (rw (← c.kind-met.ensures) c.if-met-eq-CALL.false) (rw (← c.kind-met.ensures) c.if-met-called.false)) l.invariant.0, omega (arith, l.invariant.1, s.more))
-
-pub returns : goal.returns
-returns c =
-    let l = c.loop-entry in
-    puts_last _ (puts_same (rw (items_none l.entry-iterator c.in-None.ensures.steps)) l.invariant.0) c.put_last.ensures

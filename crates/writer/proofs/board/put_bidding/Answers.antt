@@ -12,10 +12,6 @@ unfolding bidding_text
 returns-in_default c =
     rw c.in_default.ensures (puts_nothing _)
 
-pub items_from-requires : goal.items_from-requires
-items_from-requires c =
-    omega (arith, c.in-Some.ensures.2)
-
 pub returns : goal.returns
 unfolding bidding_text section_items tag_line_text
 returns c =

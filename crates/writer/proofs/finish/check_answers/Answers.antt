@@ -7,12 +7,6 @@ use mathlib.Core.Path.{refl}
 use native.Mathlib.Omega.{arith}
 use Rattle.writer.proofs.finish.check_answers.Goals as goal
 
-pub returns-then-answers-ne0 : goal.returns-then-answers-ne0
-returns-then-answers-ne0 c = check_odd c.args.solve c.args.answers.now c.if-answers-ne0.true
-
-pub returns-then-answers-solve : goal.returns-then-answers-solve
-returns-then-answers-solve c = check_count c.args.solve c.args.answers.now c.if-answers-solve.true
-
 pub returns-in-Some : goal.returns-in-Some
 returns-in-Some c =
     let bs = c.args.answers.now in

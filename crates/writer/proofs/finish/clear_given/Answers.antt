@@ -3,14 +3,5 @@ use Rattle.writer.specs.GivenCards.{given_cleared}
 use Rattle.writer.proofs.ChangedCards.{changed_first, changed_next, changed_end, cleared_long}
 use Rattle.writer.proofs.finish.clear_given.Goals as goal
 
-pub loop-k-init : goal.loop-k-init
-loop-k-init c = changed_first given_cleared c.args.boards c.args.cards.now
-
-pub clear_card-requires : goal.clear_card-requires
-clear_card-requires c = omega (arith, c.requires, c.loop-k-test.true, c.loop-k.invariant.same_length)
-
 pub loop-k-preserved : goal.loop-k-preserved
 loop-k-preserved c = changed_next cleared_long c.loop-k.invariant c.loop-k-test.true c.requires c.clear_card.ensures c.clear_card.auto.cards
-
-pub returns : goal.returns
-returns c = changed_end c.loop-k.invariant c.loop-k-test.false

@@ -3,14 +3,5 @@ use Rattle.writer.specs.GivenCards.{marked}
 use Rattle.writer.proofs.ChangedCards.{changed_first, changed_next, changed_end, marked_long}
 use Rattle.writer.proofs.finish.mark_given.Goals as goal
 
-pub loop-k-init : goal.loop-k-init
-loop-k-init c = changed_first marked c.args.boards c.args.cards.now
-
-pub mark_card-requires : goal.mark_card-requires
-mark_card-requires c = omega (arith, c.requires, c.loop-k-test.true, c.loop-k.invariant.same_length)
-
 pub loop-k-preserved : goal.loop-k-preserved
 loop-k-preserved c = changed_next marked_long c.loop-k.invariant c.loop-k-test.true c.requires c.mark_card.ensures c.mark_card.auto.cards
-
-pub returns : goal.returns
-returns c = changed_end c.loop-k.invariant c.loop-k-test.false

@@ -8,17 +8,6 @@ pub returns-then-answers-slip : goal.returns-then-answers-slip
 returns-then-answers-slip c = let a = c.args in
     answers_none a.answers.now a.slip c.if-answers-slip.true
 
-pub loop-i-init : goal.loop-i-init
-loop-i-init c = (refl, refl)
-
-pub loop-i-preserved : goal.loop-i-preserved
-loop-i-preserved c =
-    let l = c.loop-i in
-    let a = c.args in (
-      cells_more a.answers.now l.cell-items a.slip l.i _ c.if-answers-slip.false c.loop-i-test.true l.invariant.1 c.from.ensures l.invariant.0,
-      simp length-set l.invariant.1,
-    )
-
 pub returns : goal.returns
 returns c = let a = c.args in
     let l = c.loop-i in

@@ -3,21 +3,6 @@ use Rattle.planning.specs.PlanSteps.{cards_in}
 use Rattle.writer.proofs.GiveLaws.{giving_first, giving_next, giving_few, giving_end}
 use Rattle.writer.proofs.give.give_tables.Goals as goal
 
-pub loop-k-init : goal.loop-k-init
-loop-k-init c =
-    let a = c.args in
-    giving_first (cards_in a.olds a.old_cards.now) a.news a.new_cards.now a.answers.now
-
-pub state_here-s-requires : goal.state_here-s-requires
-state_here-s-requires c = (
-  c.requires.0,
-  omega (arith, c.requires.1, c.loop-k.invariant.box_length),
-  c.loop-k-test.true,
-)
-
-pub put_cells-requires : goal.put_cells-requires
-put_cells-requires c = omega (arith, c.requires.1, c.loop-k.invariant.box_length, c.loop-k-test.true)
-
 pub slip_after-slip-requires : goal.slip_after-slip-requires
 slip_after-slip-requires c =
     let a = c.args in

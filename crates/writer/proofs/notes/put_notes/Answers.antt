@@ -9,8 +9,3 @@ returns-then-has_notes c =
     puts_as
     (NotesPut is.text.now is.entries.now _ is.first is.count (items_of c.args.remarks.now) c.set_places.ensures)
     c.put_placed.ensures
-
-pub returns-else-has_notes : goal.returns-else-has_notes
-returns-else-has_notes c =
-    let is = c.args.items.now in
-    puts_as (notes_nothing is.text.now is.entries.now c.has_notes.result is.first is.count (items_of c.args.remarks.now) c.has_notes.ensures c.if-has_notes.false) (puts_nothing _)

@@ -16,8 +16,3 @@ loop-n-preserved c =
       | then-place-ne0 w ↦ rw (w.page-is, w.fresh-is) (puts_next _ _ (puts_same (full_note_lem c.args.notes.now.items.text.now c.args.notes.now.items.entries.now c.args.notes.now.places l.n l.fresh (items_of c.args.remarks.now) c.loop-n-test.true w.if-place-ne0.true) l.invariant) w.put_full_note.ensures)
       | else-place-ne0 w ↦ rw (w.page-is, w.fresh-is) (puts_same (full_none c.args.notes.now.items.text.now c.args.notes.now.items.entries.now c.args.notes.now.places l.n l.fresh (items_of c.args.remarks.now) c.loop-n-test.true w.if-place-ne0.false) l.invariant)
     ]
-
-pub returns : goal.returns
-returns c =
-    let l = c.loop-n in
-    puts_all (puts_same (full_over c.args.notes.now.items.text.now c.args.notes.now.items.entries.now c.args.notes.now.places l.n l.fresh (items_of c.args.remarks.now) c.loop-n-test.false) l.invariant)

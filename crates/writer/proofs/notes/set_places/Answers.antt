@@ -5,10 +5,6 @@ use mathlib.Core.Path.{refl, sym, ◌∙◌}
 use native.Mathlib.Omega.{arith}
 use Rattle.writer.proofs.notes.set_places.Goals as goal
 
-pub loop-entry-init : goal.loop-entry-init
-loop-entry-init c =
-    rw c.into_iter-entry-iterator.ensures.into_iter_gives (refl, search rules)
-
 pub loop-entry-preserved-in-Some-note_of : goal.loop-entry-preserved-in-Some-note_of
 loop-entry-preserved-in-Some-note_of c =
     let l = c.loop-entry in
@@ -18,8 +14,3 @@ pub loop-entry-preserved : goal.loop-entry-preserved
 loop-entry-preserved c =
     let l = c.loop-entry in
     (l.invariant.0 ∙ places_next c.in-Some.ensures.steps l.places ∙ rw (set_past l.places (number_of_first c.in-Some.entry) (c.in-Some.entry.first + 1) (omega (arith, c.in_default.ensures, l.invariant.1))), l.invariant.1)
-
-pub returns : goal.returns
-returns c =
-    let l = c.loop-entry in
-    sym (l.invariant.0 ∙ rw c.in-None.ensures.steps)

@@ -3,10 +3,6 @@ use borrow.Author.Tests.{ne_eqb}
 use native.Mathlib.Omega.{arith}
 use Rattle.writer.proofs.page.noted.Goals as goal
 
-pub items_from-requires : goal.items_from-requires
-items_from-requires c =
-    omega (arith, c.in-Some.ensures.2)
-
 pub returns-in-Some : goal.returns-in-Some
 unfolding present_held
 returns-in-Some c =

@@ -1,10 +1,6 @@
 use Rattle.tables.proofs.PutsLaws.{puts_nothing, puts_then}
 use Rattle.writer.proofs.page.put_unwritten.Goals as goal
 
-pub returns-then-board-eq0 : goal.returns-then-board-eq0
-returns-then-board-eq0 c =
-    rw c.if-board-eq0.true (puts_nothing _)
-
 pub returns : goal.returns
 returns c =
     rw (← c.present_at-present.ensures) (puts_then c.put_lost.ensures c.put_lost-2.ensures)

@@ -7,10 +7,6 @@ use native.Mathlib.Omega.{arith}
 use Rattle.writer.proofs.play.put_trick.Goals.{then-k-lt52, else-k-lt52}
 use Rattle.writer.proofs.play.put_trick.Goals as goal
 
-pub loop-k-init : goal.loop-k-init
-loop-k-init c =
-    (puts_first _ _, omega arith)
-
 pub loop-k-preserved : goal.loop-k-preserved
 loop-k-preserved c =
     let ks = four_slots c.args.z in
@@ -20,9 +16,3 @@ loop-k-preserved c =
       | then-k-lt52 w ↦ rw (w.page-is, w.cards-is) (puts_next _ _ (puts_same (slots_put c.args.c l.cards ks i c.loop-k-test.true w.if-k-lt52.true) l.invariant.0) w.put_slot.ensures, omega (arith, l.invariant.1))
       | else-k-lt52 w ↦ rw (w.page-is, w.cards-is) (puts_same (slots_pass c.args.c l.cards ks i c.loop-k-test.true w.if-k-lt52.false) l.invariant.0, omega (arith, l.invariant.1))
     ]
-
-pub returns : goal.returns
-returns c =
-    let ks = four_slots c.args.z in
-    let l = c.loop-k in
-    puts_last _ (puts_same (ap (slots_text c.args.c l.cards) (drop_of_length-le ks c.loop-k-test.false)) l.invariant.0) c.put_last.ensures

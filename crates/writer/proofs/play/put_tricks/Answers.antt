@@ -4,10 +4,6 @@ use Rattle.writer.proofs.TokenLaws.{tricks_pass, tricks_put}
 use mathlib.Core.Path.{sym, ◌∙◌}
 use Rattle.writer.proofs.play.put_tricks.Goals as goal
 
-pub loop-entry-init : goal.loop-entry-init
-loop-entry-init c =
-    rw c.into_iter-entry-iterator.ensures.into_iter_gives (puts_first _ _)
-
 pub loop-entry-preserved-then-kind-eq-TRICK : goal.loop-entry-preserved-then-kind-eq-TRICK
 loop-entry-preserved-then-kind-eq-TRICK c =
     puts_next _ _ (puts_same (tricks_put c.in-Some.ensures.steps c.args.c (sym c.kind.ensures ∙ c.if-kind-eq-TRICK.true)) c.loop-entry.invariant) (rw c.mark.ensures.0 at c.put_trick.ensures)
@@ -15,8 +11,3 @@ loop-entry-preserved-then-kind-eq-TRICK c =
 pub loop-entry-preserved : goal.loop-entry-preserved
 loop-entry-preserved c =
     puts_same (tricks_pass c.in-Some.ensures.steps c.args.c (rw (← c.kind.ensures) c.if-kind-eq-TRICK.false)) c.loop-entry.invariant
-
-pub returns : goal.returns
-returns c =
-    let l = c.loop-entry in
-    puts_all (puts_same (rw (items_none l.entry-iterator c.in-None.ensures.steps)) l.invariant)

@@ -3,10 +3,6 @@ use Rattle.writer.proofs.RemarkLaws.{items_none, remarks_pass, remarks_put, rema
 use mathlib.Core.Path.{sym, ◌∙◌}
 use Rattle.writer.proofs.remarks.put_remarks.Goals as goal
 
-pub loop-entry-init : goal.loop-entry-init
-loop-entry-init g c =
-    λ p f. rw c.into_iter-entry-iterator.ensures.into_iter_gives (puts_first _ _)
-
 pub loop-entry-preserved-then-met-eq-NAME : goal.loop-entry-preserved-then-met-eq-NAME
 loop-entry-preserved-then-met-eq-NAME g c =
     λ p f.

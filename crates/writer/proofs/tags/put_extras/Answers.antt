@@ -5,22 +5,8 @@ use mathlib.Core.Path.{sym, ◌∙◌}
 use native.Mathlib.Omega.{arith}
 use Rattle.writer.proofs.tags.put_extras.Goals as goal
 
-pub loop-entry-init : goal.loop-entry-init
-loop-entry-init c =
-    rw c.into_iter-entry-iterator.ensures.into_iter_gives (puts_first _ _, omega arith)
-
 pub loop-entry-preserved-then-is_extra : goal.loop-entry-preserved-then-is_extra
 loop-entry-preserved-then-is_extra c =
     let s = c.in-Some.ensures.steps in
     let i = c.loop-entry.invariant in
     (puts_next _ _ (puts_same (extras_put s (items_of c.args.remarks.now) c.args.first (sym c.is_extra.ensures ∙ c.if-is_extra.true)) i.0) (rw (c.bytes.ensures, c.bytes_at.ensures) at c.put_tagged.ensures), omega (arith, i.1, s.rest_is.first_is))
-
-pub loop-entry-preserved : goal.loop-entry-preserved
-loop-entry-preserved c =
-    let s = c.in-Some.ensures.steps in
-    let i = c.loop-entry.invariant in
-    (puts_same (extras_pass s (items_of c.args.remarks.now) c.args.first (sym c.is_extra.ensures ∙ c.if-is_extra.false)) i.0, omega (arith, i.1, s.rest_is.first_is))
-
-pub returns : goal.returns
-returns c =
-    puts_all (puts_same (rw c.in-None.ensures.steps) c.loop-entry.invariant.0)

@@ -3,10 +3,6 @@ use Rattle.writer.specs.Tags.{result_text}
 use borrow.Author.Tests.{le-ltb, lt-ltb}
 use Rattle.writer.proofs.tokens.put_result.Goals as goal
 
-pub returns-in_default : goal.returns-in_default
-returns-in_default c =
-    rw c.in_default.is (puts_nothing _)
-
 pub returns-then-n-lt128 : goal.returns-then-n-lt128
 unfolding result_text
 returns-then-n-lt128 c =

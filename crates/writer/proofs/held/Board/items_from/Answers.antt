@@ -1,5 +1,0 @@
-use Rattle.writer.proofs.held.Board.items_from.Goals as goal
-
-pub returns : goal.returns
-returns c =
-    rw (← c.word.ensures.0, ← c.word-2.ensures.0, ← c.saturating_sub.ensures) c.part.ensures
