@@ -29,6 +29,13 @@ capital_same b e =
     let h = capital_range b e in
     rw (lt-ltb b 97 (omega arith))
 
+pub capital_small : (b : ℕ) → is_capital b ≡ true → capital (b + 32) ≡ b
+unfolding capital
+capital_small b e =
+    let h = capital_range b e in
+    let d : b + 32 - 32 ≡ b = omega arith in
+    rw (le-ltb (b + 32) 97 (omega arith), le-ltb 122 (b + 32) (omega arith), d)
+
 pub capital_plain : (b : ℕ) → is_capital b ≡ true → is_plain b ≡ true
 unfolding is_plain
 capital_plain b e =

@@ -16,6 +16,11 @@ pub digits_none : (limit : ℕ) (s : List ℕ) → length s ≡ 0 → None ≡ s
 digits_none limit [] e = refl
 digits_none limit (b ∷ bs) e = absurd (omega arith)
 
+-- Nothing cites it: it says the definition of what begins with a digit in full.
+pub digits_some : (limit : ℕ) (s : List ℕ) → (length s ≡ 0 → ⊥) → digits_from limit s 0 ≡ some_digits limit s
+digits_some limit [] e = absurd (e refl)
+digits_some limit (b ∷ bs) e = refl
+
 pub number_is : (limit : ℕ) (s : List ℕ) → number_of limit s ≡ cond (eqb (get_or s 0 0) 43) (some_digits limit (drop 1 s)) (some_digits limit s)
 number_is limit [] = refl
 number_is limit (b ∷ bs) = refl

@@ -3,18 +3,19 @@ use Prim.Native.Nat.{ℕ, zero, suc, ◌+◌, ◌-◌, ◌*◌, ◌/◌, ◌%◌
 use mathlib.Core.Path.{◌≡◌, refl, sym, ap, ◌∙◌}
 use mathlib.Core.Bool.{cond, ◌&&◌}
 use mathlib.Core.List.{List, [], ◌∷◌, ◌++◌, append_assoc}
-use native.Mathlib.Nat.{add-zero}
+use native.Mathlib.Nat.{add-zero, le_of_eq}
+use native.Mathlib.Numerals.{add-one}
 use native.Mathlib.Omega.{arith}
 use native.Mathlib.Nat.{pow-succ'}
 use lib.Dec.{ltb, leb}
-use lib.ListN.{length, take, set, replicate, length-append, length-replicate}
-use lib.Seq.{sets, sets-eq, length-sets, take-append_seam}
+use lib.ListN.{length, drop, take, set, replicate, length-append, length-replicate, length-set, drop_of_length-le}
+use lib.Seq.{sets, sets-eq, length-sets, drop-cons, take-append_seam, get_or-set_same, drop-set-lt}
 use borrow.Author.Tests.{leb-true, lt-ltb, le-ltb, ltb-true, ltb-false}
 use Rattle.tables.specs.declared.refusal.Refusal.{Refusal}
 use Rattle.std.specs.Prelude.{Bool, Result}
 use Rattle.tables.specs.Numbers.{digits, decimal}
 use Rattle.tables.specs.Page.{Wrote, right, answer_of, page_of}
-use Rattle.tables.specs.PageSteps.{Put, PageEnded}
+use Rattle.tables.specs.PageSteps.{Put, PageEnded, Digits}
 use Rattle.tables.proofs.Laws.{by_cases}
 
 pub sets_append : (xs ys l : List ℕ) (i : ℕ) → sets l i (xs ++ ys) ≡ sets (sets l i xs) (i + length xs) ys
@@ -53,6 +54,41 @@ pub put_all_lem : {p₀ : List ℕ} {at : ℕ} {bs p : List ℕ} {k : ℕ} → T
 put_all_lem {p₀} {at} {bs} {p} {k} t = record { after = t.after; next = omega (arith, t.next) }
 
 -- ---- digits
+
+pub drop_set : (l : List ℕ) (k d : ℕ) → k < length l → drop k (set l k d) ≡ d ∷ drop (k + 1) l
+drop_set l k d h =
+    let h' : k < length (set l k d) = rw length-set h in
+    let h'' : k < suc k = omega arith in
+    rw (drop-cons (set l k d) k 0 h', get_or-set_same l k d 0 h, add-one, drop-set-lt (suc k) l k d h'')
+
+pub digits_last : (k m : ℕ) (acc : List ℕ) → m < 10 → digits k m acc ≡ (48 + m % 10) ∷ acc
+unfolding digits
+digits_last zero m acc h = refl
+digits_last (suc k) m acc h = rw (lt-ltb _ _ h)
+
+pub digits_more : (k m : ℕ) (acc : List ℕ) → 0 < k → 10 ≤ m → digits k m acc ≡ digits (k - 1) (m / 10) ((48 + m % 10) ∷ acc)
+unfolding digits
+digits_more zero m acc z h = absurd (omega arith)
+digits_more (suc k) m acc z h =
+    let e : suc k - 1 ≡ k = omega arith in
+    rw (le-ltb _ _ h, e)
+
+pub digits_start : (n : ℕ) (buf : List ℕ) → length buf ≡ 10 → digits 9 n (drop 10 buf) ≡ decimal n
+unfolding decimal
+digits_start n buf e = rw (drop_of_length-le buf (le_of_eq e))
+
+pub digits_found : (n k m d : ℕ) (buf : List ℕ) → k ≤ 9 → length buf ≡ 10 → digits k m (drop (k + 1) buf) ≡ decimal n → m < 10 → d ≡ 48 + m % 10 → Digits n (set buf k d) k
+digits_found n k m d buf hk el inv h ed = record { stand = rw (drop_set buf k d (omega arith), ed, ← digits_last k m (drop (k + 1) buf) h) inv; inside = hk }
+
+pub digits_end : (n k m d : ℕ) (buf : List ℕ) → k ≡ 0 → length buf ≡ 10 → digits k m (drop (k + 1) buf) ≡ decimal n → d ≡ 48 + m % 10 → Digits n (set buf 0 d) 0
+unfolding digits
+digits_end n k m d buf ek el inv ed = record { stand = rw (drop_set buf 0 d (omega arith), ed) (rw ek at inv); inside = omega arith }
+
+pub digits_on : (n k m d : ℕ) (buf : List ℕ) → 0 < k → k ≤ 9 → length buf ≡ 10 → digits k m (drop (k + 1) buf) ≡ decimal n → 10 ≤ m → d ≡ 48 + m % 10
+    → digits (k - 1) (m / 10) (drop (k - 1 + 1) (set buf k d)) ≡ decimal n
+digits_on n k m d buf z hk el inv h ed =
+    let e : k - 1 + 1 ≡ k = omega arith in
+    rw (e, drop_set buf k d (omega arith), ed, ← digits_more k m (drop (k + 1) buf) z h) inv
 
 digits_append : (k m : ℕ) (acc : List ℕ) → digits k m acc ≡ digits k m [] ++ acc
 unfolding digits

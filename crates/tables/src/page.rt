@@ -1,8 +1,8 @@
 // Text written to a lent page and counted past its end.
-ghost use Rattle.std.specs.Prelude.{◌≡◌, ◌∷◌, []};
+ghost use Rattle.std.specs.Prelude.{◌≡◌, ◌∷◌, [], length};
 ghost use Rattle.tables.specs.Numbers.{decimal};
 ghost use Rattle.tables.specs.Puts.{Puts};
-ghost use Rattle.tables.specs.PageSteps.{PageEnded};
+ghost use Rattle.tables.specs.PageSteps.{PageEnded, Digits};
 
 use crate::refusal::Refusal;
 
@@ -13,6 +13,26 @@ use crate::refusal::Refusal;
 pub struct Page<'a> {
     pub bytes: &'a mut [u8],
     pub at: usize,
+}
+
+// Writes the digits of n into the end of buf, and says where they start. The last is the first to be known, so the place goes down; after
+// ten there is none left.
+fn digits_into(n: u32, buf: &mut [u8]) -> usize
+    requires { length buf.old ≡ 10 }
+    ensures { Digits n buf.new result }
+{
+    let mut m = n;
+    let mut k = 9;
+    while k > 0 {
+        buf[k] = b'0' + (m % 10) as u8;
+        if m < 10 {
+            return k;
+        }
+        m /= 10;
+        k -= 1;
+    }
+    buf[0] = b'0' + (m % 10) as u8;
+    0
 }
 
 impl<'a> Page<'a> {
@@ -44,14 +64,18 @@ impl<'a> Page<'a> {
         }
     }
 
-    // Puts n in decimal. `write!` would want an impl of `fmt::Write`, and its Result dropped at each call: more than these four lines.
+    // Puts n in decimal. `write!` would want an impl of `fmt::Write`, and its Result dropped at each call. By a loop: the C header promises
+    // a stack that does not grow, since no function calls itself.
     pub fn put_decimal(&mut self, n: u32)
         ensures { Puts self.old (decimal n) self.new }
     {
-        if n >= 10 {
-            self.put_decimal(n / 10);
+        if n < 10 {
+            self.put_byte(b'0' + (n % 10) as u8);
+            return;
         }
-        self.put_byte(b'0' + (n % 10) as u8);
+        let mut digits = [0; 10];
+        let k = digits_into(n, &mut digits);
+        self.put_text(&digits[k..]);
     }
 
     // Ends the page: how many bytes were put, with zeros behind them; a refusal where they did not fit, with nothing but zeros.
