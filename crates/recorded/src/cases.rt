@@ -1,5 +1,5 @@
 // Cases replayed one after the other, and counted.
-ghost use Rattle.std.specs.Prelude.{◌≡◌, ◌+◌, ◌<◌, ◌≤◌, min, length, slice_index, slice_set, IfErr, OnOk, OnSome};
+ghost use Rattle.std.specs.Prelude.{◌≡◌, ◌+◌, ◌-◌, ◌<◌, ◌≤◌, min, length, slice_index, slice_set, IfErr, OnOk, OnSome};
 
 use crate::bytes::Bytes;
 use std::fmt;
@@ -98,6 +98,18 @@ pub fn replay_all<'a, C: Recorded<'a>>(file: &'a [u8], counts: &mut [u64]) -> Re
     Replayed {
         compared,
         end: Ok(()),
+    }
+}
+
+// Counts a case of the group, one of five: numbered from 1 in the file, from 0 in the counts. One of another group is not counted.
+pub fn add_group(counts: &mut [u64], group: u8)
+    ensures counted { (0 < group) × (group ≤ 5) × (group ≤ length counts.old) → counts.new ≡ slice_set counts.old (group - 1) (min (slice_index counts.old (group - 1) + 1) 18446744073709551615) }
+    ensures none { group ≡ 0 → counts.new ≡ counts.old }
+    ensures above { 5 < group → counts.new ≡ counts.old }
+    ensures short { length counts.old < group → counts.new ≡ counts.old }
+{
+    if let 1..=5 = group {
+        add(counts, usize::from(group - 1), 1);
     }
 }
 

@@ -1,5 +1,5 @@
 // What was recorded of a refusal.
-ghost use Rattle.std.specs.Prelude.{◌≡◌, Ok, Err, cond, eqb};
+ghost use Rattle.std.specs.Prelude.{◌≡◌, Ok, Err, Some, None, cond, eqb};
 
 use tables::refused::Refused;
 
@@ -30,4 +30,20 @@ pub fn answer<T: Copy>(value: T, refusal: u64, carried: u64) -> Result<T, Told>
         return Ok(value);
     }
     Err(Told { refusal, carried })
+}
+
+// The same where some function may answer so. None where a number is carried beside a value, or a value stands beside a refusal: `blank`
+// says that none does.
+pub fn whole_answer<T: Copy>(
+    value: T,
+    blank: bool,
+    refusal: u64,
+    carried: u64,
+) -> Option<Result<T, Told>>
+    ensures { result ≡ cond (eqb refusal 0) (cond (eqb carried 0) (Some (Ok value)) None) (cond blank (Some (Err (record { refusal = refusal; carried = carried }))) None) }
+{
+    match (refusal == 0, carried == 0, blank) {
+        (true, true, _) | (false, _, true) => Some(answer(value, refusal, carried)),
+        _ => None,
+    }
 }

@@ -13,6 +13,7 @@ use recorded::cases::{Recorded, add};
 use recorded::pages::is_written;
 use recorded::told::{Told, answer};
 use tables::refusal::Refusal;
+use tables::text::upto;
 
 // The places of the counts.
 #[derive(Clone, Copy)]
@@ -29,7 +30,7 @@ pub struct Case<'a> {
     page: usize,
     old: &'a [u8],
     new: &'a [u8],
-    told: Result<u64, Told>,
+    told: Option<Result<u64, Told>>,
     output: &'a [u8],
     ghost page_small: { page ≤ 512 },
 }
@@ -60,15 +61,16 @@ impl<'a> Recorded<'a> for Case<'a> {
         let carried = cases.four_bytes()? as u64;
         let output = cases.part()?;
         let bytes = output.len() as u64;
-        if (page > 512) | ((refusal == 0) & (carried != bytes)) {
+        if page > 512 {
             return None;
         }
+        let whole = (refusal != 0) | (carried == bytes);
         Some(Case {
             limit,
             page,
             old,
             new,
-            told: answer(bytes, refusal, carried),
+            told: whole.then_some(answer(bytes, refusal, carried)),
             output,
         })
     }
@@ -76,18 +78,18 @@ impl<'a> Recorded<'a> for Case<'a> {
     fn is_same(self) -> bool {
         is_written(
             self.page,
-            |page| list_on(page, self.old, self.new, self.limit).map_err(Told::of),
+            |page| Some(list_on(page, self.old, self.new, self.limit).map_err(Told::of)),
             self.told,
-            self.output,
+            upto(self.output, self.page),
         )
     }
 
     // Listed, refused in a line, which begins with r, or a page too short.
     fn count(self, counts: &mut [u64]) {
         let place = match self.told {
-            Ok(_) if self.output.starts_with(b"r") => Place::Refused,
-            Ok(_) => Place::Listed,
-            Err(_) => Place::TooShort,
+            Some(Err(_)) => Place::TooShort,
+            _ if self.output.starts_with(b"r") => Place::Refused,
+            _ => Place::Listed,
         };
         add(counts, place as usize, 1);
     }

@@ -4,9 +4,9 @@ ghost use Rattle.std.specs.Prelude.{◌≤◌};
 use crate::codes::is_coded;
 use reader::edition::{Counts, read_pbn};
 use recorded::bytes::Bytes;
-use recorded::cases::{Recorded, add};
+use recorded::cases::{Recorded, add, add_group};
 use recorded::pages::FULL;
-use recorded::told::{Told, answer};
+use recorded::told::{Told, whole_answer};
 
 // The places of the counts, behind those of the five groups.
 #[derive(Clone, Copy)]
@@ -31,17 +31,17 @@ pub struct Lent {
 // The codes give the lent words as they stand after the call.
 #[derive(Clone, Copy)]
 pub struct Case<'a> {
-    group: usize,
+    group: u8,
     text: &'a [u8],
     lent: Lent,
-    told: Result<Counts, Told>,
+    told: Option<Result<Counts, Told>>,
     card_codes: &'a [u8],
     entry_codes: &'a [u8],
 }
 
 impl<'a> Recorded<'a> for Case<'a> {
     fn take(cases: &mut Bytes<'a>) -> Option<Case<'a>> {
-        let group = cases.group()?;
+        let group = cases.byte()?;
         let text = cases.part()?;
         let cards = cases.two_bytes()?;
         let entries = cases.two_bytes()?;
@@ -51,6 +51,7 @@ impl<'a> Recorded<'a> for Case<'a> {
             boards: cases.two_bytes()?,
             entries: cases.two_bytes()?,
         };
+        let blank = (counts.boards == 0) & (counts.entries == 0);
         let card_codes = cases.part()?;
         let entry_codes = cases.part()?;
         if (cards > 8192) | (entries > 8192) {
@@ -60,7 +61,7 @@ impl<'a> Recorded<'a> for Case<'a> {
             group,
             text,
             lent: Lent { cards, entries },
-            told: answer(counts, refusal, carried),
+            told: whole_answer(counts, blank, refusal, carried),
             card_codes,
             entry_codes,
         })
@@ -72,21 +73,23 @@ impl<'a> Recorded<'a> for Case<'a> {
         let cards = &mut cards[..self.lent.cards];
         let entries = &mut entries[..self.lent.entries];
         let told = read_pbn(self.text, cards, entries).map_err(Told::of);
-        (told == self.told) & is_coded(cards, self.card_codes) & is_coded(entries, self.entry_codes)
+        (Some(told) == self.told)
+            & is_coded(cards, self.card_codes)
+            & is_coded(entries, self.entry_codes)
     }
 
     // The group; the answer, with the boards and entries of those that are taken; all words lent.
     fn count(self, counts: &mut [u64]) {
-        add(counts, self.group, 1);
+        add_group(counts, self.group);
         match self.told {
-            Ok(n) => {
+            Some(Ok(n)) => {
                 add(counts, Place::Taken as usize, 1);
                 add(counts, Place::Boards as usize, n.boards as u64);
                 add(counts, Place::Entries as usize, n.entries as u64);
             }
-            Err(Told { refusal: 2, .. }) => add(counts, Place::BoxFull as usize, 1),
-            Err(Told { refusal: 3, .. }) => add(counts, Place::ListFull as usize, 1),
-            Err(_) => (),
+            Some(Err(Told { refusal: 2, .. })) => add(counts, Place::BoxFull as usize, 1),
+            Some(Err(Told { refusal: 3, .. })) => add(counts, Place::ListFull as usize, 1),
+            _ => (),
         }
         add(
             counts,

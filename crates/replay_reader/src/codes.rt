@@ -17,9 +17,13 @@ impl Code {
     {
         let first = codes.byte()?;
         Some(match first {
+            // 0 zeros are read as one.
             253 => Code {
                 word: 0,
-                times: codes.byte()? as usize,
+                times: match codes.byte()? {
+                    0 => 1,
+                    n => n as usize,
+                },
             },
             254 => Code {
                 word: codes.two_bytes()?,

@@ -8,7 +8,7 @@ ghost use Rattle.std.specs.Prelude.{◌≤◌};
 use recorded::bytes::Bytes;
 use recorded::cases::{Recorded, add};
 use recorded::pages::is_written;
-use recorded::told::{Told, answer};
+use recorded::told::{Told, whole_answer};
 use tables::dd::{
     dd_table_from_pbn, dd_table_to_pbn, optimum_result_table_from_rows,
     optimum_result_table_header, optimum_result_table_rows,
@@ -40,7 +40,7 @@ pub struct Case<'a> {
     kind: Kind,
     input: &'a [u8],
     page: usize,
-    told: Result<u64, Told>,
+    told: Option<Result<u64, Told>>,
     output: &'a [u8],
     ghost page_small: { page ≤ 512 },
 }
@@ -55,7 +55,7 @@ impl<'a> Case<'a> {
         };
         is_written(
             self.page,
-            |page| write(table, page).map_err(Told::of),
+            |page| Some(write(table, page).map_err(Told::of)),
             self.told,
             self.output,
         )
@@ -67,7 +67,7 @@ impl<'a> Case<'a> {
     {
         let r = read(self.input);
         let told = r.map(|_| 20).map_err(Told::of);
-        (told == self.told) & (r.unwrap_or([0; 20]).as_slice() == self.output)
+        (Some(told) == self.told) & (r.unwrap_or([0; 20]).as_slice() == self.output)
     }
 }
 
@@ -79,9 +79,10 @@ impl<'a> Recorded<'a> for Case<'a> {
         let refusal = u64::from(cases.byte()?);
         let carried = cases.four_bytes()? as u64;
         let output = cases.part()?;
-        let table = match kind {
-            Kind::DigitsRead | Kind::RowsRead => output,
-            _ => input,
+        // A reader that refuses fills the table with zeros, a writer puts nothing.
+        let (table, blank) = match kind {
+            Kind::DigitsRead | Kind::RowsRead => (output, true),
+            _ => (input, output.is_empty()),
         };
         if (table.len() != 20) | (page > 512) {
             return None;
@@ -90,7 +91,7 @@ impl<'a> Recorded<'a> for Case<'a> {
             kind,
             input,
             page,
-            told: answer(output.len() as u64, refusal, carried),
+            told: whole_answer(output.len() as u64, blank, refusal, carried),
             output,
         })
     }

@@ -3,9 +3,9 @@ ghost use Rattle.std.specs.Prelude.{◌≤◌};
 
 use reader::edition::read_pbn;
 use recorded::bytes::Bytes;
-use recorded::cases::{Recorded, add};
+use recorded::cases::{Recorded, add, add_group};
 use recorded::pages::{FULL, holds};
-use recorded::told::{Told, answer};
+use recorded::told::{Told, whole_answer};
 use writer::write::write_pbn;
 
 // The places of the counts, behind those of the five groups.
@@ -32,10 +32,10 @@ pub struct Lent {
 
 #[derive(Clone, Copy)]
 pub struct Case<'a> {
-    group: usize,
+    group: u8,
     text: &'a [u8],
     lent: Lent,
-    told: Result<u64, Told>,
+    told: Option<Result<u64, Told>>,
     written: &'a [u8],
 }
 
@@ -48,7 +48,7 @@ impl<'a> Case<'a> {
         let mut read_entries = [FULL; 8192];
         let read_cards = &mut read_cards[..self.lent.cards];
         let read_entries = &mut read_entries[..self.lent.entries];
-        if self.told.is_ok() {
+        if let Some(Ok(_)) = self.told {
             let _ = read_pbn(self.text, read_cards, read_entries);
         } else {
             read_cards.fill(0);
@@ -60,7 +60,7 @@ impl<'a> Case<'a> {
 
 impl<'a> Recorded<'a> for Case<'a> {
     fn take(cases: &mut Bytes<'a>) -> Option<Case<'a>> {
-        let group = cases.group()?;
+        let group = cases.byte()?;
         let text = cases.part()?;
         let cards = cases.two_bytes()?;
         let entries = cases.two_bytes()?;
@@ -79,7 +79,7 @@ impl<'a> Recorded<'a> for Case<'a> {
                 entries,
                 page,
             },
-            told: answer(written.len() as u64, refusal, carried),
+            told: whole_answer(written.len() as u64, written.is_empty(), refusal, carried),
             written,
         })
     }
@@ -92,21 +92,21 @@ impl<'a> Recorded<'a> for Case<'a> {
         let entries = &mut entries[..self.lent.entries];
         let page = &mut page[..self.lent.page];
         let told = write_pbn(self.text, cards, entries, page).map_err(Told::of);
-        (told == self.told) & holds(page, self.written) & self.is_read(cards, entries)
+        (Some(told) == self.told) & holds(page, self.written) & self.is_read(cards, entries)
     }
 
     // The group; the answer, with the bytes written; all bytes lent as pages.
     fn count(self, counts: &mut [u64]) {
-        add(counts, self.group, 1);
+        add_group(counts, self.group);
         match self.told {
-            Ok(bytes) => {
+            Some(Ok(bytes)) => {
                 add(counts, Place::Written as usize, 1);
                 add(counts, Place::Bytes as usize, bytes);
             }
-            Err(Told { refusal: 2, .. }) => add(counts, Place::BoxFull as usize, 1),
-            Err(Told { refusal: 3, .. }) => add(counts, Place::ListFull as usize, 1),
-            Err(Told { refusal: 7, .. }) => add(counts, Place::PageFull as usize, 1),
-            Err(_) => (),
+            Some(Err(Told { refusal: 2, .. })) => add(counts, Place::BoxFull as usize, 1),
+            Some(Err(Told { refusal: 3, .. })) => add(counts, Place::ListFull as usize, 1),
+            Some(Err(Told { refusal: 7, .. })) => add(counts, Place::PageFull as usize, 1),
+            _ => (),
         }
         add(counts, Place::Pages as usize, self.lent.page as u64);
     }
