@@ -21,7 +21,7 @@ pub enum Command {
 
 // A pair of a text: its command, its value as it stands, and the place behind it, where the next one starts.
 #[derive(Clone, Copy)]
-pub(crate) struct PairAt<'a> {
+pub struct PairAt<'a> {
     pub command: Command,
     pub value: &'a [u8],
     pub end: usize,
